@@ -187,13 +187,11 @@ from_source() {
 # Flags of a distribution reach the compiler, before those of the build type, and the linker, and hide no function of
 # the shared library. Without tests none are built, and without Python there are no man pages.
 with_flags() {
-  local object=CMakeFiles/multihash_c_objects.dir/bindings/c/src/multihash.c.o
   CFLAGS="-fvisibility=hidden -fno-pie -g3" LDFLAGS=-Wl,--build-id=0x01234567 cmake -S "$top" -B "$work/flags" \
     -DMULTIHASH_C_ARCHIVE=OFF -DBUILD_TESTING=OFF -DCMAKE_DISABLE_FIND_PACKAGE_Python3=ON
   prints '-fno-pie -g3 -O3 -DNDEBUG -fPIC -fvisibility=default -std=c11 ' cmake --build "$work/flags" --verbose
   exports_exactly "$work/flags/libmultihash_c.so" bindings/c/src/multihash_c.map
   prints 'Build ID: 01234567' readelf -n "$work/flags/libmultihash_c.so"
-  prints debug_macro readelf -S "$work/flags/$object"
   rejects 'No tests were found' build flags
   install_built flags --prefix "$work/no pages"
   [ -d "$work/no pages/share/doc" ]
@@ -217,7 +215,7 @@ test_installation() {
   try "the installed test of nothing" rejects "no multihash_c.pc" bindings/c/examples/test.sh "$work/none"
   try "other machines: 5 comparisons" machines
   needs=/lib64/ld-linux-x86-64.so.2 try "x86-64 with 32 bits: 1 comparison" gets Linux x86_64 -m32 OFF ON
-  try "flags of a distribution: 7 comparisons" with_flags
+  try "flags of a distribution: 6 comparisons" with_flags
 }
 
 # ---- programs
@@ -292,8 +290,9 @@ man_pages() {
   sed -n 's/^\.Nm \(\S*\).*/\1.3/p' man3/multihash.3 | sort | diff <(ls man3) -
   [ "$(command grep -c '^\.It Errors$' man3/multihash.3)" = "$(command grep -c '^ \* Errors:' "$1")" ]
   page=$(mandoc -T utf8 man3/multihash.3 | sed 's/.\x08//g' | tr -cs '[:alnum:]' ' ')
-  { date -d "$(sed -n "s/^$version (\(.*\))/\1/p" "$top/CHANGES")" '+%B %-d %Y'
-    printf '%s\n' "status text decode and encode multihashes LIBRARY multihash c version ${version//./ }" \
+  { date -d "$released" '+%B %-d %Y'
+    printf '%s\n' "3 Library Functions Manual MULTIHASH 3 NAME multihash" \
+      "status text decode and encode multihashes LIBRARY multihash c version ${version//./ }" \
       "pkg config cflags libs multihash c prints" "SYNOPSIS include multihash h multihash decoded"
     sed -n '/.*](\(https:[^)]*\)).*/{s//SEE ALSO The multihash format \1/p;q}' "$top/README.md" | tr -s ':/.' ' '
     perl -0777 -ne 'my @of = m{/\*((?:(?!\*/).)*)\*/\s*(?:static inline )?(?:const char \*|\w+ )?(\w+)(?=\(| =)}gs;
@@ -311,7 +310,7 @@ pages() {
   cd "$prefix/share/man"
   man_pages "$header"
   sed '/^\.Bd/,/^\.Ed/d' man3/multihash.3 "$top/crates/mh_show/mh_show.1" | tr -cd '`' | diff /dev/null -
-  grep '^Build-Depends:.*\<python3\>' "$top/bindings/c/debian/control"
+  grep -x 'Build-Depends: cmake, debhelper-compat (= 13), python3' "$top/bindings/c/debian/control"
   sed 's/-1 if the left one/-2 if the left one/' "$header" > "$work/planted.h"
   rejects "not in the man page" man_pages "$work/planted.h"
 }

@@ -102,7 +102,6 @@ test_packages() {
 # Each of these differences of a release, and of its source, is found.
 planted_release() {
   rejects_edits "$2" checks/lib/packed.py "$1" "$work/planted" << 'END'
-engines|sed -i 's/| Node.js /&1/' README.md
 sideEffects|echo 'connect();' >> bindings/js/module.js
 creators|sed -i 's/ (c) 2026 .*/ (c) 2026 Another/' LICENSE
 repository|sed -i 's/^repository=.*/repository=another/' tools/owner
@@ -110,21 +109,16 @@ END
   rejects_edits "$1" checks/lib/packed.py "$work/planted" "$2" << 'END'
 the files of the release|touch more
 SHA256SUMS|echo >> SHA256SUMS
-1 0 644|tar --owner=1 --group=0 --mode=644 -czf multihash_c-*-source.tar.gz SHA256SUMS
-0 1 644|tar --owner=0 --group=1 --mode=644 -czf multihash_c-*-source.tar.gz SHA256SUMS
-0 0 600|tar --owner=0 --group=0 --mode=600 -czf multihash_c-*-source.tar.gz SHA256SUMS
+1 2 600 later|tar --owner=1 --group=2 --mode=600 -czf multihash_c-*-source.tar.gz SHA256SUMS
 0 0 700|mkdir d; tar --owner=0 --group=0 --mode=700 -czf multihash_c-*-source.tar.gz d; rmdir d
 more is there, or is not|mkdir d; touch d/more; tar -czf multihash_c-*-source.tar.gz d; rm -r d
-LICENSE is there, or is not|tar -czf multihash_c-*-source.tar.gz SHA256SUMS
 {'default'|tar xf *.tgz; sed -Ei 's/("t.*), (.*) }/\2, \1 }/' package/*.json; tar czf *.tgz package; rm -r package
 checksumValue|echo >> libmultihash-c-dev_*_amd64.deb
 what the kit made|sed -i s/GENERATED_FROM/DEPENDS_ON/ multihash-*.spdx.json
 tools ['|sed -i 's/"name": "ld"/"name": "more"/' multihash-*.spdx.json
-tools [|sed -i '/"name": "ld"/{n;s/: ".*"/: ""/}' multihash-*.spdx.json
+ld: ''|sed -i '/"name": "ld"/{n;s/: ".*"/: ""/}' multihash-*.spdx.json
 CONTAINED_BY|sed -i s/CONTAINS/CONTAINED_BY/ multihash-*.spdx.json
 relations|sed -i 's/"SPDXRef-DOCUMENT",/"SPDXRef-more",/' multihash-*.spdx.json
-documentNamespace|sed -i s,/spdxdocs/,/docs/, multihash-*.spdx.json
-copyrightText|sed -i s/copyrightText/copyright/ multihash-*.spdx.json
 1, and not None|sed -i '0,/{/s//{"more": 1,/' multihash-*.spdx.json
 END
 }
@@ -135,6 +129,7 @@ releases() {
   local from=$work/clone to=$work/release architecture needed
   local commit=(git -C "$work/clone" -c user.name=tester -c user.email=tester commit -q -a -m changed)
   git clone -q . "$from"
+  diff <(sed -nE 's/^([mh]\w+)=/\u\1: /p' tools/owner) <(sed '/^[MH]/!d; /^Multi/d' bindings/c/debian/control)
   printf '%s\n' 'maintainer=A Tester <tester@forge.example>' homepage=https://forge.example/ \
     repository=https://forge.example/multihash > "$from/tools/owner"
   "${commit[@]}"
@@ -146,10 +141,13 @@ releases() {
   (umask 077; TZ=Asia/Tokyo "$from/tools/release" "$to")
   git -C "$from" checkout -q CHANGES
   checks/lib/packed.py "$to" "$from"
-  rejects "there is already" "$from/tools/release" "$to"
+  rejects "File exists" "$from/tools/release" "$to"
+  cp "$work"/bin/{dh_auto_test,cmake}
+  rejects "release: cmake -S" env PATH="$work/bin:$PATH" "$from/tools/release" "$work/failed"
   planted_release "$to" "$from"
   tar -xf "$to/multihash-$version.tar.gz" -C "$work"
-  grep '^ -- A Tester <tester@forge.example>  ' "$work/multihash-$version/bindings/c/debian/changelog"
+  grep "^ -- A Tester <tester@forge.example>  $(date -d "$released" '+%a, %d %b %Y') " \
+    "$work/multihash-$version/bindings/c/debian/changelog"
   diff -r -x .git -x control -x changelog -x Cargo.toml -x package.json "$from" "$work/multihash-$version"
   while read -r architecture needed; do
     python3 -m zipfile -e "$to"/*_"$architecture".whl "$work/wheel"
@@ -170,7 +168,7 @@ END
 
 test_release() {
   local emulator="qemu-aarch64 -L /usr/aarch64-linux-gnu"
-  try "a release: $((48 + ${ALL:-0})) comparisons" releases
+  try "a release: $((44 + ${ALL:-0})) comparisons" releases
   CC=aarch64-linux-gnu-gcc RUN=$emulator try "the installed test of that for aarch64" \
     installed_test "$work/multihash_c-$version-aarch64"
   try "packages for arm64: 11 comparisons" has_packages "$work/release" arm64 aarch64-linux-gnu

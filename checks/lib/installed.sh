@@ -5,6 +5,7 @@ top=$PWD
 header=$top/bindings/c/include/multihash.h
 version=$(sed -n 's/^#define MULTIHASH_VERSION "\([0-9.]*\)"$/\1/p' "$header")
 major=${version%%.*}
+released=$(sed -n "s/^$version (\(.*\))/\1/p" CHANGES)
 expected=$top/crates/mh_show/stdout
 machine=$(uname -m)
 crates=$(printf '/usr/share/cargo/registry/%s.* ' cc-1 pkg-config-0.3 serde_json-1)

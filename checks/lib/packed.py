@@ -13,6 +13,7 @@ import re
 import subprocess
 import sys
 import tarfile
+import time
 import tomllib
 import zipfile
 from collections.abc import Iterator
@@ -52,7 +53,7 @@ def below(folder: str, to: str = "", without: str = "$^") -> set[str]:
 
 
 def members(name: str) -> Iterator[tuple[str, str]]:
-    """The files of an archive, by their paths in the package, with what is wrong with the owner or the mode."""
+    """The files of an archive, by their paths in the package, with what is wrong with the owner, mode or time."""
     if name.endswith(".whl"):
         yield from ((path, "") for path in zipfile.ZipFile(RELEASE / name).namelist())
         return
@@ -60,7 +61,9 @@ def members(name: str) -> Iterator[tuple[str, str]]:
         path = each.name.partition("/")[2]
         is_program = path.endswith("examples/test.sh") or name == f"multihash-{VERSION}.tar.gz" and EXECUTABLE.get(path)
         wanted = 0o644 if each.isfile() and not is_program else 0o755
-        wrong = "" if (each.uid, each.gid, each.mode) == (0, 0, wanted) else f"{each.uid} {each.gid} {each.mode:o}"
+        day = time.strftime("%F", time.gmtime(each.mtime))
+        found = f"{each.uid} {each.gid} {each.mode:o}" + " later" * (day > DATE)
+        wrong = "" if found == f"0 0 {wanted:o}" else found
         if wrong or not each.isdir():
             yield path, wrong
 
@@ -165,7 +168,11 @@ def debian(package: str, architecture: str) -> Fields:
     fields |= {"Architecture": architecture, "Maintainer": MAINTAINER, "Homepage": HOMEPAGE, "Installed-Size": ANY}
     fields |= {"Depends": depends[is_dev], "Section": "libdevel" if is_dev else "libs", "Priority": "optional"}
     [text] = {*re.findall(r"\n A (?:.+\n)+ \.\n", (SOURCE / "bindings/c/debian/control").read_text())}
-    return fields | {"Multi-Arch": "same", "Description": re.compile(f"library for .*{re.escape(text)} This .*")}
+    title, parts = ", self-describing digests", "shared library"
+    if is_dev:
+        title, parts = " (development files)", "header, the static library, man pages and examples"
+    text = f"library for multihashes{title}{text} This package has the {parts}."
+    return fields | {"Multi-Arch": "same", "Description": text}
 
 
 def headers(text: str) -> Fields:
@@ -229,7 +236,7 @@ def made_of(name: str) -> set[str]:
 
 
 TOOLS = {"cc", "aarch64-linux-gnu-gcc", "ld", "cmake", "dpkg-buildpackage", "cargo", "npm", "tar", "gzip", "debhelper"}
-TOOLS |= {"python", "build", "setuptools", "wheel", "wasm2c", "wasm-opt"}
+TOOLS |= {"python", "build", "setuptools", "wheel"}
 RELATIONS = {"None DESCRIBES SOURCE", "SOURCE CONTAINS ARCHIVE", "ARCHIVE GENERATED_FROM LIBRARY"}
 RELATIONS |= {"LIBRARY GENERATED_FROM SOURCE", "APPLICATION BUILD_TOOL_OF LIBRARY", "APPLICATION BUILD_TOOL_OF SOURCE"}
 
@@ -247,7 +254,8 @@ def material_errors() -> Iterator[str]:
     names = {each["SPDXID"]: each["name"] for each in rows}
     keys = ("spdxElementId", "relationshipType", "relatedSpdxElement")
     related = [tuple(each[key] for key in keys) for each in relations]
-    if {end for left, _, right in related for end in (left, right)} != {*names, "SPDXRef-DOCUMENT"}:
+    ends = {end for left, _, right in related for end in (left, right)}
+    if ends != {*names, "SPDXRef-DOCUMENT"} or len(names) < len(rows):
         yield f"{path.name}: relations"
     purposes = {each["SPDXID"]: each["primaryPackagePurpose"] for each in rows}
     if wrong := {f"{purposes.get(left)} {kind} {purposes.get(right)}" for left, kind, right in related} ^ RELATIONS:
@@ -262,11 +270,15 @@ def material_errors() -> Iterator[str]:
     if not {*pairs} <= {(names.get(left), names[right]) for left, kind, right in related if kind == "BUILD_TOOL_OF"}:
         yield f"{path.name}: what made the WebAssembly"
     tools = {*names.values()} - release - {*files()} - {f"multihash-{VERSION}"}
-    if tools != {*TOOLS, fact("`(rattle-kit-[^`]*)`", "README.md")} or not all(each["versionInfo"] for each in rows):
+    known: Fields = dict(re.findall(r" has \w+ (\S+) (\S+)\n", (SOURCE / "tools/generate").read_text()))
+    known[fact("`(rattle-kit-[^`]*)`", "README.md")] = fact("logic `([^`]*)`", "README.md")
+    if tools != {*TOOLS, *known}:
         yield f"{path.name}: tools {sorted(tools)}"
     described = {each["name"]: each for each in rows}
-    of_all: Fields = {"SPDXID": ANY, "downloadLocation": "NOASSERTION", "filesAnalyzed": False}
-    of_all |= {"licenseConcluded": LICENCE, "licenseDeclared": LICENCE}
+    for each in rows:
+        yield from field_errors(each["name"], each["versionInfo"], known.get(each["name"], ANY))
+    of_all: Fields = {"SPDXID": re.compile("SPDXRef-[A-Za-z0-9.-]+"), "downloadLocation": "NOASSERTION"}
+    of_all |= {"filesAnalyzed": False, "licenseConcluded": LICENCE, "licenseDeclared": LICENCE}
     of_all |= {"copyrightText": re.compile(f"Copyright .* {HOLDER}")}
     for name in sorted({*files(), *release} - {path.name, "SHA256SUMS"}):
         at, purpose = (SOURCE, "LIBRARY") if name in release else (RELEASE, "ARCHIVE")
