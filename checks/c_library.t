@@ -38,7 +38,8 @@ planted_prebuilt() {
   cp -r bindings/c/prebuilt "$copy"
   printf x | dd bs=1 seek=9999 conv=notrunc of="$copy/aarch64/libmultihash_c.a"
   (cd "$copy"; sha256sum {x86_64,aarch64}/libmultihash_c.a > SHA256SUMS)
-  TREE=$work STEPS=$work/steps tools/generate --check archives
+  cp -r tools "$work"
+  STEPS=$work/steps "$work/tools/generate" --check archives
 }
 
 # The symbols of an archive that an option of nm selects.

@@ -17,7 +17,6 @@ COPY = re.compile(r"( *)memory\.copy(\)*)")
 # What says something of the memory itself, and does no access.
 ABOUT_MEMORY = re.compile(r'  \((?:memory |data |export "memory" |export "__heap_base" ).*')
 DATA = re.compile(r'  \(data (?:\$\S+ )?\(i64\.const (\d+)\) "((?:[^"\\]|\\[0-9a-f]{2})*)"\)(\)?)')
-OTHER_MEMORY = re.compile(r"\b(?:memory|data)\.\w+")
 FUNCTION = re.compile(r"  \(func (\S+) ")
 # What a function does first with the top of the stack: it allocates its frame, or only checks how much is left.
 FRAME = re.compile(r"global\.get \$__stack_pointer\s+i64\.const (\d+)\s+i64\.sub\s+local\.tee ")
@@ -77,7 +76,7 @@ def access_call(line: str) -> tuple[str, str, str] | None:
 
 
 def calls(linked: str) -> str:
-    """Returns the module with calls for accesses, and without its memory."""
+    """Returns the module with calls for accesses, and without its memory: another access is an error of wat2wasm."""
     lines: list[str] = []
     imports: dict[str, str] = {}
     for line in linked.splitlines():
@@ -86,8 +85,6 @@ def calls(linked: str) -> str:
             imports[name] = f'  (import "memory" "{name}" (func ${name} {signature}))'
         elif ABOUT_MEMORY.fullmatch(line):
             line = ")" * (line.count(")") - line.count("(")) if line.startswith("  (data ") else ""
-        else:
-            need(not OTHER_MEMORY.search(line), f"an access is known: {line.strip()}")
         lines.append(line)
     first = next(i for i, line in enumerate(lines) if FUNCTION.match(line))
     lines[first:first] = [imports[name] for name in sorted(imports)]
