@@ -3,7 +3,7 @@
 # a planted script.
 # shellcheck source=checks/lib/tap.sh
 . "$(dirname "$0")/lib/tap.sh"
-plan 26
+plan 28
 
 listed() { git ls-files -co --exclude-standard "$@"; }
 # Prints the paths of the scripts in a language, by their first lines.
@@ -93,11 +93,15 @@ are_run() {
     END { for (own in file) if (!(own in named)) { print file[own] ": " own " is not run"; all = 1 } exit all }' "$@"
 }
 
-# Each script that needs a word ends with an error without one.
+# Scripts find their folder through links too.
+located() { ! command grep -nE 'dirname "\$[0{]' "$@"; }
+
+# Each script that needs another word, or one, ends with an error, which is no result.
 without_words() {
   for script in bindings/{c/man.py,python/pack.sh,rust/{beside_upstream.py,offline.sh,pack.sh}} checks/lib/packed.py \
-    tools/{link_wasm,portable_c,release,sbom.py}; do
-    rejects "${script##*/}" "$script" < /dev/null
+    tools/{link_wasm,{portable_c,release}{,\ -h},sbom.py,generate\ none}; do
+    local name=${script%% *}
+    rejects "${name##*/}" eval "$script < /dev/null > /dev/null"
   done
 }
 
@@ -125,6 +129,7 @@ try_linter() {
   try_linter planted compares.sh "no planted case of same other" \
     'same() {\n  cmp a b\n}\ntry "one of two" same a\nother() {\n  diff a b\n}\npart "two" cc other' $tested
   try_linter short long.js long.js:1 "$(printf '%121s' .)" $shell $python $javascript
+  try_linter located folder.sh folder.sh:1 "dirname \"\$0\"" bindings/*/*.sh tools/*
   try_linter are_run unused.sh "unused is not run" "unused() { true; } # unused" $shell
   try_linter chains chain.sh chain.sh:2 'set -e\nfalse && true\ntrue' $ending
   needs=shellcheck try_linter "shellcheck -x -o check-set-e-suppressed" cd.sh SC2310 \
@@ -134,6 +139,6 @@ try_linter() {
   needs=mypy try_linter "mypy --strict --scripts-are-modules --cache-dir $work/mypy" untyped.py \
     "missing a type annotation" "def same(number): return number" $typed
   needs=tsc try_linter names unused.js TS6133 "export {};\nconst number = 1;" $javascript
-  try "scripts without their words: 10 comparisons" without_words
+  try "scripts without their words: 13 comparisons" without_words
   needs=tsc try "each error of names: 14 comparisons" planted_names
 }

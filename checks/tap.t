@@ -18,7 +18,7 @@ expect() {
   echo "$result $number - ${text//'#'/}"
 }
 
-echo 1..66
+echo 1..65
 expect "not ok 1 - a\nok 2 - b" ". checks/lib/tap.sh; try a false; try b true"
 expect "not ok 1 - a" ". checks/lib/tap.sh; try a no_such_command"
 expect "not ok 1 - a\n# why" ". checks/lib/tap.sh; try a sh -c 'echo why >&2; exit 1' 2>&1"
@@ -100,13 +100,12 @@ ran() {
   printf -- '---\nseq:\n  - checks/rt.t\n  - checks/*.t\n' > checks/rules.yml
   stub checks/rt.t "$1"
   eval "${2-}"
-  .ci/run "${@:3}" > /dev/null
+  .ci/run "${@:3}" > out
   echo $?
 }
 export top=$PWD
 export -f stub has in_order ran
 expect 0 "in_order ''"
-expect 1 "in_order 'sed -i /memory/d checks/rules.yml'"
 expect 1 "in_order 'sed -i /js.t/d checks/rules.yml'"
 expect 0 "ran 'echo ok 1'"
 expect 1 "ran 'echo not ok 1'"
@@ -116,8 +115,7 @@ expect 0 "ran '[ \"\$ALL\" ] && echo ok 1' '' --all"
 expect 1 "ran '' 'sed -i s/1$/0/ checks/rt.t'"
 expect 1 "ran '' 'sed -i \"s/1..1$/\\x271..0 # SKIP why\\x27/\" checks/rt.t'"
 expect 2 "ran 'echo ok 1' 'rm checks/rules.yml'"
-expect 2 "ran 'echo ok 1' 'echo \"  - checks/lint.t\" >> checks/rules.yml'"
-expect 2 "ran '' 'rm checks/rt.t'"
+expect 2 "ran 'echo ok 1' 'echo \"  - checks/no_check.t\" >> checks/rules.yml'"
 expect 2 "ran '' '' --wrong"
 expect 0 "ran 'echo ok 1' 'echo --wrong > .proverc'; rm .proverc"
 expect 0 "ran '[ \"\${BUILT-}\" ] || echo ok 1' 'export BUILT=\"rt ci\"'"
@@ -125,7 +123,11 @@ expect 0 "ran '[ \"\${BUILT-}\" ] || echo ok 1' 'export BUILT=\"rt ci\"'"
 text='[ $0 = checks/rt.t ] || [ "$BUILT" ] && echo ok 1'
 expect 0 "ran '$text' 'cp checks/rt.t checks/lint.t'"
 # only one of two checks is run
-expect 1 "ran 'echo ok 1' 'cp checks/rt.t checks/lint.t; sed -i \"s|timer checks|&/rt.t|\" .ci/run'"
+expect "1\ndid not pass: checks/lint.t" \
+  "ran 'echo ok 1' 'cp checks/rt.t checks/lint.t; sed -i \"s|timer checks|&/rt.t|\" .ci/run'; grep ^did out"
+# ended, it ends checks
+expect "0\n130\na" "ran 'echo ok 1'; stub checks/rt.t 'touch a; sleep 1; touch b'; .ci/run > out &
+  until [ -e a ]; do sleep .1; done; kill \$!; wait \$!; echo \$?; sleep 1.2; ls a b"
 # parts of what it edits for prove: a run fails, and passes without the part
 while IFS='|' read -r edit text option; do
   expect "1\n0" "ran '$text' '' $option; ran '$text' 'sed -i $edit .ci/run' $option"
