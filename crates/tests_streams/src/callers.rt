@@ -1,5 +1,5 @@
-//! What no contract of `examples` and `storage` states: how often a reader or a writer is called and for how
-//! many bytes, that its error is passed on, what is reserved, and that memory suffices.
+//! What no contract of `examples` and `storage` states: the calls of a reader or a writer, that its error is
+//! passed on, what is reserved, and that memory suffices.
 use examples::any_reader::read_up_to;
 use examples::code_table;
 use examples::content_id::{Codec, ContentId, ContentIdError};
@@ -27,7 +27,6 @@ const IDENTIFIER: [u8; 36] = [
     0x7b, 0x9a, 0xf0, 0xb4,
 ];
 
-// A call that reads.
 #[derive(Clone, Copy, Debug)]
 enum Reads {
     Hashed,
@@ -84,14 +83,13 @@ impl Reads {
     }
 }
 
-// The calls for one byte, the other ones, those of `read_exact`, and the bytes that all ask for.
 fn expect_asked(rt: &impl Abort, alloc: Global, call: Reads, input: &[u8], asked: [usize; 4]) {
     let mut reader = Counts::new(input);
     expect_ok!(rt; call.make(alloc, &mut reader));
     check_eq!(rt; [reader.single, reader.others, reader.whole, reader.bytes], asked, call);
 }
 
-// A call that fails is the last, and its error is passed on; and so is one that meets the end.
+// A call that fails or meets the end is the last.
 fn expect_last(rt: &impl Abort, alloc: Global, call: Reads, input: &[u8], calls: usize) {
     for at in 0..calls {
         for why in [ErrorKind::LINK_DOWN, ErrorKind::OutOfMemory] {
@@ -145,7 +143,6 @@ fn calls_of_readers_are_counted(rt: HostRuntime) {
     }
 }
 
-// A call that writes.
 #[derive(Clone, Copy, Debug)]
 enum Writes {
     Hashed,
@@ -175,7 +172,7 @@ impl Writes {
     }
 }
 
-// The calls of `write`, and those of `write_all`. A multihash is three, and a varint is one.
+// The calls of `write` and of `write_all`: a multihash is three, and a varint is one.
 #[test]
 fn calls_of_writers_are_counted(rt: HostRuntime) {
     let alloc = rt.alloc();
@@ -205,7 +202,6 @@ fn calls_of_writers_are_counted(rt: HostRuntime) {
     }
 }
 
-// After a write that fails, nothing is read.
 #[test]
 fn nothing_is_read_after_a_failed_write(rt: HostRuntime) {
     let (alloc, why) = (rt.alloc(), ErrorKind::DISK_GONE);
@@ -231,7 +227,6 @@ fn nothing_is_read_after_a_failed_write(rt: HostRuntime) {
     }
 }
 
-// One call gives, or takes, as much as the buffer has room for.
 #[test]
 fn a_long_slice_is_read_at_once(rt: HostRuntime) {
     let alloc = rt.alloc();
@@ -248,7 +243,6 @@ fn a_long_slice_is_read_at_once(rt: HostRuntime) {
     }
 }
 
-// A reader of `std::io`.
 #[derive(Drop)]
 struct Std<'a>(FailAt<'a>);
 
@@ -261,8 +255,8 @@ impl std::io::Read for Std<'_> {
     }
 }
 
-// Its input is not known, so no contract states what is read. It fails once, and nothing is lost. A call of
-// the inner reader returns at most `most` bytes, and the buffer of each call has `room`.
+// No contract states what is read. It fails once, and nothing is lost. A call of the inner reader returns at
+// most `most` bytes, and the buffer of each call has `room`.
 fn expect_std(rt: &impl Abort, bytes: &[u8], (most, room): (usize, usize), at: usize) {
     let most = most.max(1);
     let inner = FailAt::new(Cuts::new(bytes, most), at, ErrorKind::LINK_DOWN);
@@ -348,7 +342,7 @@ fn streams_of_each_length_are_read(rt: HostRuntime) {
     }
 }
 
-// The head of a block that claims 2^62 bytes, and has none of them.
+// The head of a block that claims 2^62 bytes.
 const CLAIM: [u8; 9] = [128, 128, 128, 128, 128, 128, 128, 128, 64];
 
 #[test]

@@ -1,5 +1,4 @@
-//! Known calls of readers and writers, and of lists. And what the tests stand on: `is_rejected` and
-//! `is_failed` return false for each other error and for none.
+//! Known calls of readers, writers and lists; and what the tests stand on: `is_rejected` and `is_failed`.
 use fakes::expect::{ErrorKind, is_failed, is_rejected};
 use fakes::streams::{Cuts, Drip};
 use fakes::{check, check_eq, expect_bytes, expect_ok, expect_rejected};
@@ -136,7 +135,7 @@ const ERRORS: [ErrorKind; 8] = [
     ErrorKind::DISK_GONE,
 ];
 
-// A result for each of these errors, in this order, and a success.
+// These errors in this order, and a success.
 fn outcomes() -> [Result<Multihash<4>, Error>; 9] {
     [
         Multihash::from_bytes(&[]),

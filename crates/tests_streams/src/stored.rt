@@ -20,8 +20,7 @@ const ABC: [u8; 32] = [
     23, 122, 156, 180, 16, 255, 97, 242, 0, 21, 173,
 ];
 
-// The digests of the node above the leaves of the blocks `a` and `b`, and of the root over `a`, `b` and `c`,
-// from another implementation of SHA-256.
+// The node above the leaves `a` and `b`, and the root over `a`, `b` and `c`, from another implementation.
 const PARENT: [u8; 32] = [
     16, 121, 68, 82, 19, 182, 229, 173, 233, 224, 246, 161, 130, 99, 153, 130, 200, 16, 252, 31,
     23, 86, 35, 162, 150, 246, 138, 171, 49, 230, 220, 65,

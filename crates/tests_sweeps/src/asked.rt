@@ -1,5 +1,4 @@
-//! The number of calls of readers and writers, at each length and for inputs that end after each byte; a
-//! borrowed one is called like the original.
+//! The number of calls of readers and writers, borrowed or not, at each length and each end of an input.
 ghost use Rattle.std.specs.Prelude.{◌<◌, ◌^◌};
 
 use fakes::expect::ErrorKind;
@@ -12,7 +11,7 @@ use multihash::{Error, Multihash};
 use std::alloc::Global;
 use std::process::Abort;
 
-// A reader with its own `read_exact`, and one that fills each buffer and is never called with an empty one.
+// A reader with its own `read_exact`, and one without, which is never called with an empty buffer.
 fn expect_asked<const S: usize>(
     rt: &impl Abort,
     alloc: Global,
@@ -80,7 +79,6 @@ fn expect_calls<const S: usize>(rt: &impl Abort, alloc: Global, code: Code, dige
     }
 }
 
-// The cases from that one on.
 fn expect_each_called<const S: usize>(rt: &impl Abort, alloc: Global, from: usize)
     requires { S < 2 ^ 16 }
 {
@@ -117,7 +115,6 @@ fn no_items_make_no_call(rt: HostRuntime) {
     check_eq!(rt; reader.asked(), (2002, 0, 1001));
 }
 
-// The call fails with this error after that many calls of the reader, the last of which met the end.
 fn expect_end<T>(
     rt: &impl Abort,
     outcome: &Result<T, Error>,
@@ -129,7 +126,7 @@ fn expect_end<T>(
     check_eq!(rt; reader.asked(), asked);
 }
 
-// An input that ends after each of its bytes, or after some of them, alone and in a list after a whole pair.
+// An input that ends after each of its first bytes, and after some of the others.
 fn expect_ends(rt: &impl Abort, alloc: Global, code: Code, digest: &[u8]) {
     for form in [Form::Binary, Form::Scale] {
         let bytes = expect_ok!(rt; form.bytes(alloc, code, digest));
@@ -155,7 +152,6 @@ fn an_ended_reader_is_not_asked_again(rt: HostRuntime) {
     }
 }
 
-// Bytes that are rejected after that many calls, after which this is left.
 fn expect_last(rt: &impl Abort, form: Form, input: &'static [u8], asked: Calls, left: &[u8]) {
     let mut reader = Counts::new(input);
     let outcome = match form {
@@ -194,7 +190,7 @@ fn borrowed_write<W: Write>(w: &mut W, buf: &[u8]) -> Result<usize, no_std_io::E
     Write::write(&mut reference, buf)
 }
 
-// What is borrowed is called once, for all of the bytes.
+// One call, for all of the bytes.
 fn expect_borrowed(rt: &impl Abort, alloc: Global, bytes: &[u8]) {
     let len = bytes.len();
     let mut buf = expect_ok!(rt; vec![in alloc; 0u8; len]);

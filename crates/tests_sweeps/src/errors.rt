@@ -1,5 +1,5 @@
-//! Readers and writers that fail or are full: that an error is passed on unchanged, after each byte and at
-//! each call, that what was not consumed is left, and that no call is made after it.
+//! Readers and writers that fail or are full after each byte: the error is passed on unchanged, the rest is
+//! left, and no call is made after it.
 ghost use Rattle.std.specs.Prelude.{◌<◌, ◌^◌};
 
 use fakes::expect::{ErrorKind, is_failed};
@@ -11,10 +11,9 @@ use multihash::{Multihash, varint};
 use std::alloc::Global;
 use std::process::Abort;
 
-// More than the bytes of any form here, and of a long buffer.
+// More than any form or buffer here has.
 const MOST: usize = 700;
 
-// A reader without its own `read_exact`, which fails after that many bytes.
 fn expect_reader_error<const S: usize>(
     rt: &impl Abort,
     alloc: Global,
@@ -35,7 +34,7 @@ fn expect_reader_error<const S: usize>(
     }
 }
 
-// A writer without its own `write_all`, which fails or is full after that many bytes.
+// It fails, or is full, after that many bytes.
 fn failing_writer<const A: bool>(
     rt: &impl Abort,
     alloc: Global,
@@ -97,7 +96,6 @@ fn expect_errors_at<const S: usize>(
     }
 }
 
-// The calls of varints, at each byte of the code's.
 fn expect_varint_errors(rt: &impl Abort, alloc: Global, code: Code) {
     for at in 0..code.1.len() {
         for why in [ErrorKind::LINK_DOWN, ErrorKind::OutOfMemory] {
@@ -111,7 +109,7 @@ fn expect_varint_errors(rt: &impl Abort, alloc: Global, code: Code) {
     }
 }
 
-// At each byte of a form, or at some of them and the last.
+// At each byte, or at some and the last.
 fn expect_errors<const S: usize>(
     rt: &impl Abort,
     alloc: Global,
@@ -132,7 +130,6 @@ fn expect_errors<const S: usize>(
     }
 }
 
-// The cases from that one on.
 fn expect_each_length_fails<const S: usize>(rt: &impl Abort, alloc: Global, from: usize)
     requires { S < 2 ^ 16 }
 {
@@ -165,7 +162,6 @@ fn each_byte_fails(rt: HostRuntime) {
             }
         }
     }
-    // Forty pairs of no bytes.
     expect_errors::<0>(&rt, rt.alloc(), Form::List(40), (0, &[0]), &[], true);
 }
 

@@ -1,7 +1,5 @@
-//! What is written for each length of a digest, in each form: into slices of the exact length, into shorter
-//! ones, which are filled, and by few bytes per call. Contracts state the bytes in a vector or a
-//! `SliceWriter`. And that memory is available for each length, each usual code and each count, and exactly
-//! the promised capacity.
+//! What is written for each length of a digest, into slices and by few bytes per call; and that memory is
+//! available for each length, usual code and count, of exactly the promised capacity.
 ghost use Rattle.std.specs.Prelude.{◌<◌, ◌^◌};
 
 use fakes::expect::{ErrorKind, is_rejected};
@@ -18,7 +16,6 @@ use std::process::Abort;
 // Those of a list of two, and one more.
 const PLACES: usize = 533;
 
-// Whether that many bytes were written, or the writer was full if they do not fit.
 fn is_written(outcome: &Result<usize, Error>, len: usize, room: usize) -> bool {
     match outcome {
         Ok(n) => *n == len && len <= room,
@@ -26,7 +23,7 @@ fn is_written(outcome: &Result<usize, Error>, len: usize, room: usize) -> bool {
     }
 }
 
-// The slice has as many of the bytes as fit, and the byte after them, if it has one, is unchanged.
+// As many bytes as fit; a byte after them is unchanged.
 fn expect_front(rt: &impl Abort, buffer: &[u8], wanted: &[u8]) {
     let len = buffer.len().min(wanted.len());
     expect_bytes!(rt; &buffer[..len], &wanted[..len]);
@@ -53,7 +50,6 @@ fn expect_in_slice<const S: usize>(
     }
 }
 
-// Into a writer, and from a reader, of few bytes per call.
 fn expect_in_parts<const S: usize>(
     rt: &impl Abort,
     alloc: Global,
@@ -90,7 +86,6 @@ fn expect_written<const S: usize>(rt: &impl Abort, alloc: Global, code: Code, di
     }
 }
 
-// Each length that fits this capacity, with the codes in turn, and usual digests.
 fn expect_each_written<const S: usize>(rt: &impl Abort, alloc: Global)
     requires { S < 2 ^ 16 }
 {
@@ -126,7 +121,7 @@ fn each_code_is_written(rt: HostRuntime) {
     }
 }
 
-// A slice as a writer copies bytes of which none is 0, by both of its calls.
+// None of the bytes is 0.
 fn expect_copied(rt: &impl Abort, bytes: &[u8], buffer: &mut [u8]) {
     let room = buffer.len();
     let mut left = &mut buffer[..];
@@ -141,13 +136,11 @@ fn expect_all_copied(rt: &impl Abort, bytes: &[u8], buffer: &mut [u8]) {
     expect_front(rt, buffer, bytes);
 }
 
-// Counts about powers of two.
 const LENGTHS: [usize; 17] = [
     511, 512, 513, 1023, 1024, 1025, 4095, 4096, 4097, 16383, 16384, 16385, 65535, 65536, 65537,
     5000, 70000,
 ];
 
-// Into a slice that is as long, into shorter ones and into one a byte longer.
 fn expect_each_copied(rt: &impl Abort, alloc: Global, bytes: &[u8]) {
     let len = bytes.len();
     for room in [
@@ -174,7 +167,6 @@ fn each_length_is_copied(rt: HostRuntime) {
     }
 }
 
-// The length of an array.
 fn places_of(value: &Value) -> usize {
     match value {
         Value::Array(members) => members.capacity(),
@@ -182,8 +174,7 @@ fn places_of(value: &Value) -> usize {
     }
 }
 
-// A capacity of exactly the bytes, and of the members, which are read back; and a clone, which allocates
-// nothing. The encoding begins with the code's varint and the size.
+// The capacities are exact. The encoding begins with `front`: the code's varint, and for some the size.
 fn expect_kept<const S: usize>(
     rt: &impl Abort,
     alloc: Global,
@@ -204,7 +195,6 @@ fn expect_kept<const S: usize>(
     check!(rt; expect_ok!(rt; m.clone()) == m, len);
 }
 
-// Each length that fits this capacity, with the codes in turn, and usual digests.
 fn expect_each_kept<const S: usize>(rt: &impl Abort, alloc: Global)
     requires { S < 2 ^ 16 }
 {
@@ -241,7 +231,7 @@ fn each_long_length_is_kept(rt: HostRuntime) {
     expect_each_kept::<1000>(&rt, rt.alloc());
 }
 
-// The codes with a varint of one or two bytes, as nearly all hash functions have, of which this is the last.
+// Codes with a varint of one or two bytes, as nearly all hash functions have.
 fn expect_codes(rt: &impl Abort, alloc: Global, high: u8) {
     for low in 0..128u8 {
         let code = u64::from(high) << 7 | u64::from(low);
@@ -260,12 +250,11 @@ fn each_code_of_two_bytes_is_kept(rt: HostRuntime) {
     }
 }
 
-// Counts about powers of two and of ten.
 const COUNTS: [usize; 14] = [
     511, 512, 513, 1000, 1023, 1024, 1025, 4095, 4096, 4097, 10000, 65535, 65536, 70000,
 ];
 
-// Reads that many empty pairs, and appends them to a vector.
+// Empty pairs.
 fn expect_list<const S: usize>(rt: &impl Abort, alloc: Global, input: &[u8], count: usize)
     requires { S < 2 ^ 16 }
 {
@@ -290,13 +279,13 @@ fn each_count_is_read_and_written(rt: HostRuntime) {
     }
 }
 
-// A vector that doubles its capacity has less than twice what is needed, and 8 at first.
+// A vector that doubles has less than twice what is needed, and 8 at first.
 fn expect_few_places(rt: &impl Abort, held: &Vec<u8>) {
     let most = held.len().saturating_mul(2).max(8);
     check!(rt; held.capacity() <= most, (held.len(), held.capacity()));
 }
 
-// Appends the bytes 300 times by each call, and returns how often the vectors' capacities changed.
+// How often the capacities change while the bytes are appended 300 times.
 fn count_own_growths(rt: &impl Abort, alloc: Global, bytes: &[u8]) -> usize {
     let mut held = Vec::new(alloc);
     let mut parts = Vec::new(alloc);

@@ -1,5 +1,5 @@
 //! Sweeps of what no clause states: each length of a digest, each number near a power of two, an error at
-//! each byte. Each is a loop over one helper.
+//! each byte.
 #![tactic(auto)]
 
 #[cfg(test)]

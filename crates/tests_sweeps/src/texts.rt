@@ -1,5 +1,4 @@
-//! That errors are printed, at any width and precision: contracts state their texts, but not that printing
-//! succeeds. And `Debug`.
+//! That printing an error succeeds, at any width and precision, which no contract states. And `Debug`.
 ghost use Rattle.std.specs.Prelude.{◌<◌, ◌^◌};
 
 use fakes::forms::{CASES, case, different};
@@ -43,7 +42,7 @@ fn expect_text(rt: &impl Abort, alloc: Global, code: u64, digest: &[u8], wanted:
     }
 }
 
-// A code that many above 2^63, and a head with such a size. A size of 0 is never rejected.
+// A size of 0 is never rejected.
 fn expect_numbers(rt: &impl Abort, alloc: Global, number: u64) {
     expect_printed(rt, alloc, &Multihash::<0>::wrap(number | 1 << 63, &[]));
     let mut input = expect_ok!(rt; vec![in alloc; 0u8]);
@@ -76,12 +75,11 @@ fn numbers_about_powers_are_printed(rt: HostRuntime) {
     }
 }
 
-// A text, and a different prefix of each length.
 const TEXT: &str =
     "a text of a reader's own, which is longer than any that this library prints, for each of its \
      beginnings is passed on, and printed in full, whatever its length is";
 
-// One with letters of more than one byte, of which a prefix ends after each letter.
+// With letters of more than one byte: a prefix ends after each letter.
 const LETTERS: &str = "größer als „eins“";
 
 fn expect_text_printed(rt: &impl Abort, alloc: Global, text: &'static str) {
@@ -116,7 +114,6 @@ fn expect_value_shown<const S: usize>(rt: &impl Abort, alloc: Global, code: u64,
     expect_shown(rt, alloc, &m, expect_ok!(rt; wanted).as_str());
 }
 
-// Each length that fits this capacity, with a byte 0, the codes in turn, and usual digests.
 fn expect_values_shown<const S: usize>(rt: &impl Abort, alloc: Global)
     requires { S < 2 ^ 16 }
 {
@@ -138,7 +135,7 @@ fn values_of_each_length_are_shown(rt: HostRuntime) {
     expect_values_shown::<300>(&rt, rt.alloc());
 }
 
-// The bytes that `truncate` left in the buffer are not shown. Errors and heads are shown as derived.
+// The bytes that `truncate` left in the buffer are not shown.
 #[test]
 fn known_values_are_shown(rt: HostRuntime) {
     let alloc = rt.alloc();

@@ -1,5 +1,5 @@
-//! Failing allocations. A test whose name begins with `allocating` passes if none fails. If one does, it
-//! checks what is left, and fails with `FAILED`: `checks/memory.t` makes each fail in turn, and counts them.
+//! Failing allocations. `checks/memory.t` counts those of each test `allocating_…`, and makes each fail in
+//! turn: the test then checks what is left, and fails with `FAILED`.
 ghost use Rattle.std.specs.Prelude.{◌<◌, ◌^◌, length};
 
 use crate::values::hash_of;
@@ -25,7 +25,6 @@ use storage::prefixed::read_prefixed;
 
 const FAILED: &str = "an allocation failed";
 
-// The value of a result that is not out of memory.
 fn unless_rejected<T>(rt: &impl Abort, outcome: Result<T, Error>) -> Result<T, Fail> {
     match outcome {
         Ok(outcome) => Ok(outcome),
@@ -36,7 +35,7 @@ fn unless_rejected<T>(rt: &impl Abort, outcome: Result<T, Error>) -> Result<T, F
     }
 }
 
-// Whether a call succeeded; otherwise it is out of memory.
+// Otherwise it is out of memory.
 fn succeeded<T>(rt: &impl Abort, outcome: &Result<T, Error>) -> bool {
     if let Err(e) = outcome {
         expect_memory_error(rt, e);
@@ -44,7 +43,6 @@ fn succeeded<T>(rt: &impl Abort, outcome: &Result<T, Error>) -> bool {
     outcome.is_ok()
 }
 
-// The result of a test whose calls all succeeded, or not.
 fn unless_failed(succeeded: bool) -> Result<(), Fail> {
     if succeeded { Ok(()) } else { Err(FAILED)? }
 }
@@ -63,12 +61,11 @@ fn two(rt: &impl Abort) -> [Multihash<4>; 2] {
     [first, second]
 }
 
-// The code 300, and 200 bytes `A`.
 fn long(rt: &impl Abort) -> Multihash<200> {
     expect_ok!(rt; Multihash::wrap(300, &[65; 200]))
 }
 
-// Whether both forms are made, each by one allocation.
+// Each form is one allocation.
 fn makes_forms<const S: usize>(rt: &impl Abort, alloc: Global, code: u64, digest: &[u8]) -> bool
     requires { S < 2 ^ 16 }
 {
@@ -76,7 +73,6 @@ fn makes_forms<const S: usize>(rt: &impl Abort, alloc: Global, code: u64, digest
     succeeded(rt, &m.to_bytes(alloc)) && succeeded(rt, &m.to_value(alloc))
 }
 
-// The code 300, and as many bytes `A` as fit.
 fn makes_full_forms<const S: usize>(rt: &impl Abort, alloc: Global) -> bool
     requires { S < 2 ^ 16 }
 {
@@ -132,7 +128,7 @@ fn allocating_read_list(rt: HostRuntime) -> Result<(), Fail> {
     Ok(())
 }
 
-// Whether the capacity, the one allocation, is reserved: the input ends after one pair.
+// The capacity is the one allocation: the input ends after one pair.
 fn reserves_list<const S: usize>(rt: &impl Abort, alloc: Global, count: usize) -> bool
     requires { S < 2 ^ 16 }
 {
@@ -219,14 +215,13 @@ fn append_forms(held: &mut Vec<u8>, m: &Multihash<255>) -> Result<(), Error> {
     write_list(&[*m, *m], held)
 }
 
-// The forms of a digest of that many bytes.
 fn append_forms_at(rt: &impl Abort, held: &mut Vec<u8>, len: usize) -> Result<(), Fail> {
     let digest = [65; 255];
     let m = expect_ok!(rt; Multihash::wrap(300, digest.get(..len).unwrap_or(&[])));
     unless_failed(succeeded(rt, &append_forms(held, &m)))
 }
 
-// With enough capacity nothing is allocated: the one allocation is that of the capacity.
+// The one allocation is that of the capacity.
 #[test]
 fn allocating_room_alone(rt: HostRuntime) -> Result<(), Fail> {
     let room = Vec::with_capacity(rt.alloc(), 8192).map_err(Error::from);
@@ -238,7 +233,7 @@ fn allocating_room_alone(rt: HostRuntime) -> Result<(), Fail> {
     Ok(())
 }
 
-// A vector whose allocation fails is unchanged, by both calls of a writer.
+// A vector whose allocation fails is unchanged.
 #[test]
 fn allocating_write_of_a_vector(rt: HostRuntime) -> Result<(), Fail> {
     let mut held = Vec::new(rt.alloc());
@@ -249,7 +244,7 @@ fn allocating_write_of_a_vector(rt: HostRuntime) -> Result<(), Fail> {
     expect_encoded(&rt, held, outcome.map_err(Error::from), &[1, 2, 3])
 }
 
-// So is one under `?` after a push: the error is the library's, and what was not pushed is freed.
+// So is one after a push, and what was not pushed is freed.
 #[test]
 fn allocating_push(rt: HostRuntime) -> Result<(), Fail> {
     let mut held = Vec::new(rt.alloc());
@@ -282,7 +277,7 @@ fn of_entry<T: Drop>(outcome: Result<T, EntryError>) -> Result<T, Error> {
     }
 }
 
-// More than a new vector has capacity for: trees, and a block of 10000 bytes without and with a multihash.
+// More than a new vector has capacity for.
 #[test]
 fn allocating_storage(rt: HostRuntime) -> Result<(), Fail> {
     let alloc = rt.alloc();
@@ -303,7 +298,6 @@ fn allocating_storage(rt: HostRuntime) -> Result<(), Fail> {
     )
 }
 
-// Lists of nine.
 #[test]
 fn allocating_examples(rt: HostRuntime) -> Result<(), Fail> {
     let alloc = rt.alloc();
@@ -346,7 +340,6 @@ fn expect_parts(rt: &impl Abort, m: &Multihash<200>) {
     check!(rt; expect_ok!(rt; m.resize::<300>()).same_as(m) && *m != Multihash::default());
 }
 
-// Written into a slice, and read from it and by few bytes per call.
 fn expect_forms(rt: &impl Abort, alloc: Global, m: &Multihash<200>) {
     let mut buffer = [0u8; 617];
     let mut left = buffer.as_mut_slice();

@@ -1,5 +1,4 @@
-//! Known values: their forms, comparing, hashing, truncating and resizing. Tables are lines of one text,
-//! since one in Rattle needs a proof for each row.
+//! Known values. Tables are lines of one text, since one in Rattle needs a proof for each row.
 ghost use Rattle.std.specs.Prelude.{◌<◌, ◌^◌};
 
 use fakes::expect::{ErrorKind, is_rejected};
@@ -41,7 +40,6 @@ fn bytes_of(rt: &impl Abort, alloc: Global, text: &str) -> Vec<u8> {
     expect_ok!(rt; hex::decode(alloc, digits))
 }
 
-// Written, and read again: by a reader that does not say what it has, too.
 fn expect_binary<const S: usize>(rt: &impl Abort, alloc: Global, m: &Multihash<S>, wanted: &[u8])
     requires { S < 2 ^ 16 }
 {
@@ -63,7 +61,7 @@ fn expect_scale<const S: usize>(rt: &impl Abort, alloc: Global, m: &Multihash<S>
     check_eq!(rt; &expect_ok!(rt; Multihash::scale_decode(&mut Silent(wanted))), m);
 }
 
-// Made in each form, and read from it with another capacity.
+// Read with another capacity.
 fn expect_forms<const S: usize, const T: usize>(
     rt: &impl Abort,
     alloc: Global,
@@ -82,7 +80,6 @@ fn expect_forms<const S: usize, const T: usize>(
     [binary, scale, json]
 }
 
-// A line whose digest fits the capacity.
 fn expect_line<const S: usize>(rt: &impl Abort, alloc: Global, columns: &[&str])
     requires { S < 2 ^ 16 }
 {
@@ -255,7 +252,7 @@ fn a_digest_is_cut(rt: HostRuntime) {
     check!(rt; is_rejected(&m.resize::<2>(), ErrorKind::InvalidSize(6)));
 }
 
-/// Two pairs, and how the left one compares with the right one.
+/// Two pairs, and how the left one compares.
 type Row = (u64, &'static [u8], u64, &'static [u8], Ordering);
 
 const ROWS: [Row; 6] = [
@@ -300,7 +297,6 @@ fn a_multihash_hashes_as_its_pair(rt: HostRuntime) {
     }
 }
 
-// The pair 0, `foo` in each form.
 fn expect_foo(rt: &impl Abort, alloc: Global, m: &Multihash<6>) {
     let bytes = expect_ok!(rt; m.to_bytes(alloc));
     expect_bytes!(rt; &bytes, &[0, 3, 102, 111, 111]);
