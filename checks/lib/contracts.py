@@ -53,8 +53,8 @@ def attribute_lines(item: Item, indent: str) -> Iterator[str]:
     """Returns an item's documentation, and the attributes that a caller can see."""
     above = item.text[: item.start].splitlines()
     above = above[: len(above) - bool(indent) - item.attributes.count("\n")]
-    documentation = takewhile(lambda line: line.startswith(f"{indent}///"), reversed(above))
-    yield from reversed([*documentation])
+    comments = takewhile(lambda line: line.startswith(f"{indent}//"), reversed(above))
+    yield from reversed([line for line in comments if line.startswith(f"{indent}///")])
     for line in map(str.strip, kept_lines(item.attributes)):
         if not OF_BODIES.match(line):
             yield indent + line
@@ -127,9 +127,9 @@ def section_of(path: str, text: str) -> str:
     # an empty line precedes and follows what has several lines
     block = "\n".join("\n".join(lines if len(lines) < 2 else ["", *lines, ""]) for lines in blocks if lines)
     block = re.sub(r"\n{3,}", "\n\n", block).strip("\n")
-    # the first paragraph of what a file says of itself
-    lines = takewhile(lambda line: line.startswith("//! "), text.splitlines())
-    description = " ".join(line[3:].strip() for line in lines)
+    # what a file says of itself, a paragraph or an item of a list in a line
+    lines = takewhile(lambda line: line.startswith("//!"), text.splitlines())
+    description = re.sub(r"(?<!\n)\n(?![\n-])", " ", "\n".join(line[4:] for line in lines))
     return f"\n### [{path}](../{path})\n\n{description}\n\n```text\n{block}\n```\n" if block else ""
 
 
@@ -163,13 +163,12 @@ def with_parameters(name: str, kind: str, rest: str, next_line: str) -> str:
     return equation if is_plain else name
 
 
-def word_rows(definitions: str, used: set[str]) -> Iterator[str]:
-    """Returns a row for each of the words that are used and defined in a file."""
+def word_rows(definitions: str) -> Iterator[str]:
+    """Returns a row for each of the words that are defined in a file."""
     form = r"^((?:-- [^\n]*\n)+)(?:abbrev )?pub (?!mod )(record |data |)([\w-]+)([^\n]*)\n([^\n]*)"
     for comment, kind, name, *rest in re.findall(form, definitions, re.M):
-        if name in used:
-            text = " ".join(line[3:] for line in comment.splitlines())
-            yield f"| `{with_parameters(name, kind, *rest)}` | {text} |"
+        text = " ".join(line[3:] for line in comment.splitlines())
+        yield f"| `{with_parameters(name, kind, *rest)}` | {text} |"
 
 
 def written_page(texts: dict[str, str]) -> str:
@@ -181,13 +180,13 @@ def written_page(texts: dict[str, str]) -> str:
             page += f"\n## {crate}\n" if crate != last else ""
             page += section_of(path, text)
             last = crate
-    used = {*re.findall(r"[\w-]+", re.sub(r"(?m)^ *///.*$", "", page))}
     page += "\n## bindings\n"
     for files, form in BINDINGS.items():
         page += "".join(binding_section(path, text, form) for path, text in texts.items() if Path(path).match(files))
-    page += "\n## Words\n\nThose that the clauses above use, by the files that define them.\n"
+    page += "\n## Words\n\nThose of clauses and of other definitions, by the files that define them.\n"
     for path, text in texts.items():
-        rows = [*word_rows(text, used)] if path.endswith(".antt") else []
+        is_public = path.endswith(".antt") and not path.endswith("/Private.antt")
+        rows = [*word_rows(text)] if is_public else []
         if rows:
             page += f"\n### [{path}](../{path})\n\n| Word | Meaning |\n|---|---|\n"
             page += "\n".join(rows) + "\n"
