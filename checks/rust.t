@@ -112,7 +112,7 @@ rust_switch() {
   in_crate cargo run --manifest-path program/Cargo.toml | diff <(echo input bytes exceed maximum) -
   in_crate cargo build --manifest-path program/library/Cargo.toml --no-default-features
   for feature in scale-codec arb; do
-    rejects "see its README" in_crate cargo build -p multihash --features "$feature"
+    rejects "features scale-codec and arb are absent" in_crate cargo build -p multihash --features "$feature"
   done
 }
 
@@ -159,7 +159,8 @@ rust_build() {
   cp "$archive" "$plain"
   tests 11 MULTIHASH_C_LIB_DIR="$directory" cargo test -p multihash_c
   in_crate MULTIHASH_C_LIB_DIR="$plain" cargo build
-  rejects "libmultihash_c.a: No such file" in_crate MULTIHASH_C_LIB_DIR="$work/none" cargo build
+  rm "$directory"/*
+  rejects "libmultihash_c.a: No such file" in_crate MULTIHASH_C_LIB_DIR="$directory" cargo build
   in_crate MULTIHASH_C_LIB_DIR="$plain" cargo build
   rm "$plain"/*
   rejects "libmultihash_c.a: No such file" in_crate MULTIHASH_C_LIB_DIR="$plain" cargo build

@@ -138,7 +138,7 @@ demo() {
   local example bytes
   example=$(cat "$top/crates/mh_show/stdin")
   bytes=$(printf '07%.0s' {1..301})
-  sed 's/^/demo.html#/; s/|/\t/g' << END | prints '23 pages, 0 wrong' shows "$1"
+  sed 's/^/demo.html#/; s/|/\t/g' << END | prints '24 pages, 0 wrong' shows "$1"
 $example|Valid: code 22, digest of 32 bytes.|22 (0x16)|3 to 34|32|~ #summary.good[role=status]|~ .digest > .eighth
 ${example}00|1 byte follows the multihash.|Byte 35 of 35: 00|The first 34 bytes are a multihash.|Keep the first 34 bytes
 ${example}00|~ [aria-invalid=true]|~ .decided[title="Byte 35"]|~ tbody th[scope=row] > .following
@@ -148,6 +148,7 @@ ${example}0000|2 bytes follow|invalid_size: Invalid multihash size 2.|not a part
 7f80|a varint that is not complete|insufficient: not enough input bytes|the varint of the code
 1620ab|The input ends inside the digest.|Still needed: 31 bytes.|unexpected_eof: failed to fill whole buffer|~ td.digits
 168002|A digest of 256 bytes is too long: it may have 255.|2 bytes (1680) can begin a multihash.|Byte 3 of 3: 02|! empty
+16ffffffffffffffff7f|A digest of 9223372036854775807 bytes is too long
 12808000|A varint is longer than needed: it ends in a zero byte.|The first 2 bytes (1280) can begin a multihash.
 ffffffffffffffffff01|A varint has more than nine bytes|Byte 9 of 10: ff|a varint of more than nine bytes
 %|, after 0 digits, is not

@@ -138,7 +138,7 @@ async function cancellations(module, stream) {
     [iterable, 32]]) {
     const reader = new module.MultihashReader(source, { limit });
     await told(reader.read()); // with the limit of 31 the reader has ended
-    same(await told(reader.cancel()), 'Error: stuck', 'an error of a cancellation');
+    same(`${await told(reader.cancel())}, ${!source.locked}`, 'Error: stuck, true', 'an error of a cancellation');
   }
 }
 

@@ -36,6 +36,8 @@ function checkHead(module, data, read, taken) {
     return consumed;
   }
   const { code, digestLength, taken: length } = module.head(data);
+  const again = module.head(Uint8Array.of(...data, ...MORE));
+  same(`${again.code} ${again.digestLength} ${again.taken}`, `${code} ${digestLength} ${length}`, 'head of more');
   const size = digest.replace('-', '').length / 2;
   if (status === 'pair') same(`${code} ${digestLength} ${length}`, `${number} ${size} ${taken - size}`, 'head');
   if (status === 'invalid_size') same(`${digestLength} ${length}`, `${number} ${taken}`, 'head');

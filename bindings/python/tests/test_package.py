@@ -359,8 +359,8 @@ class Names(unittest.TestCase):
             by_name, by_position = call(**dict(zip(names, arguments))), call(*arguments)
             self.assertEqual((str(by_name), len(names)), (str(by_position), len(arguments)))
             self.assertRaises(TypeError, call, *arguments, 1)
-        for call in (vm.encode, vm.scale_encode, vm.encoded_len, vm.compare, Multihash):
-            self.assertRaises(TypeError, call, 1)
+            if call is not MultihashError:
+                self.assertRaisesRegex(TypeError, r"^%s\(\)" % call.__name__, call)
 
     def test_stub(self):
         """Results and attributes have the types of the stub."""
