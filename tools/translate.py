@@ -118,9 +118,9 @@ def stack_size(linked: str) -> int:
 
 def texts(linked: str) -> tuple[int, bytes]:
     """Returns the address and the bytes of the module's data."""
-    found = [DATA.fullmatch(line) for line in linked.splitlines() if line.startswith("  (data ")]
-    need(len(found) == 1, "the module has one block of data")
-    start, text, _ = need(found[0], "the data is text").groups()
+    found = re.findall(r"(?m)^  \(data .*", linked)
+    block = DATA.fullmatch(found[0]) if len(found) == 1 else None
+    start, text, _ = need(block, "the module has one block of data").groups()
     return int(start), re.sub(rb"\\([0-9a-f]{2})", lambda it: bytes([int(it[1], 16)]), text.encode())
 
 
