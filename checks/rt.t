@@ -3,7 +3,7 @@
 # of each crate's tests are stated here.
 # shellcheck source=checks/lib/tap.sh
 . "$(dirname "$0")/lib/tap.sh"
-plan 3
+plan 2
 
 # Compares the status of 'rt ci' and the totals that it printed: its own, and the number of the tests of each crate that
 # has some.
@@ -35,5 +35,3 @@ rt ci > "$work/out" 2>&1 < /dev/null || status=$?
 try "rt ci: 1 comparison" has_totals $status "$work/out"
 [ $failed = 0 ] || sed 's/^/# /' "$work/out" >&2
 try "another status or total: 14 comparisons" planted "$work/out"
-# 'rt ci' keeps no proofs that other commands begin with
-try "rt lib, with whose proofs other checks begin" env -C crates/multihash_c rt lib

@@ -18,7 +18,7 @@ expect() {
   echo "$result $number - ${text//'#'/}"
 }
 
-echo 1..65
+echo 1..66
 expect "not ok 1 - a\nok 2 - b" ". checks/lib/tap.sh; try a false; try b true"
 expect "not ok 1 - a" ". checks/lib/tap.sh; try a no_such_command"
 expect "not ok 1 - a\n# why" ". checks/lib/tap.sh; try a sh -c 'echo why >&2; exit 1' 2>&1"
@@ -74,15 +74,17 @@ stub() { printf '#!/bin/bash\necho 1..1\n%s\n' "$2" > "$1" && chmod +x "$1"; }
 has() { grep -q "$2" "$top/$1" $(grep -oE '(lib|bindings)/[a-z_/]+\.(py|sh)' "$top/$1" |
   sed "s|^lib|checks/lib|; s|^|$top/|"); }
 
-# Runs .ci/run over stubs by the rules of checks/, after a text: what reads programs or proofs of 'rt ci' fails before
-# it ended.
+# Runs .ci/run over stubs by the rules of checks/, after a text: what reads programs of rt.t, or proofs of c_library.t,
+# fails before it ended.
 # shellcheck disable=SC2016 # the checks expand it
 in_order() {
   local check text
   for check in checks/*.t; do
     text='echo ok 1'
-    if has "$check" "BUILT\|lib/proved\|'rt ci'"; then text='[ "$BUILT" ] && echo ok 1'; fi
+    if has "$check" "KEPT\|lib/proved"; then text='[ -e "$KEPT/copy" ] && echo ok 1'; fi
+    if has "$check" "BUILT\|'rt ci'"; then text='[ "$BUILT" ] && echo ok 1'; fi
     case $check in
+      */c_library.t) text='sleep 3; touch "$KEPT/copy"; echo ok 1' ;;
       */rt.t) text='sleep 3; echo ok 1' ;;
       */tap.t) text='echo ok 1' ;;
     esac
@@ -106,6 +108,7 @@ ran() {
 export top=$PWD
 export -f stub has in_order ran
 expect 0 "in_order ''"
+expect 1 "in_order 'sed -i /memory/d checks/rules.yml'"
 expect 1 "in_order 'sed -i /js.t/d checks/rules.yml'"
 expect 0 "ran 'echo ok 1'"
 expect 1 "ran 'echo not ok 1'"

@@ -84,7 +84,7 @@ def result_of(log: str, test: str) -> str:
 
 def try_tests(group: Group, bugs: list[Bug]) -> Iterator[tap.Result]:
     """Runs a crate's tests with bugs planted, unproved."""
-    words = ["rt", "try", "--test"]
+    words = ["rt", "try", "--test", "--seconds", "300"]
     words += ["--fail-alloc", group.allocation] if group.allocation else []
     words += ["--", bugs[0].seen_by] if len(bugs) == 1 else []
     with tempfile.TemporaryDirectory(prefix="bugs-") as folder:

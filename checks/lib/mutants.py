@@ -3,6 +3,7 @@
 
 A function is proved against contracts, never against another's body, so one copy has a mutant of each function.
 """
+import os
 import re
 import shutil
 import subprocess
@@ -14,7 +15,7 @@ from itertools import zip_longest
 from pathlib import Path
 
 import tap
-from bugs import ROOT, Bug, Group, copy_crates, groups, plant
+from bugs import Bug, Group, copy_crates, groups, plant
 
 # a name that a proof cites is gone; a function that was not tried, as one that it calls is not proved
 NAMES = re.compile(r"can be named from here|has no field|is not in scope|is no name|has no `")
@@ -47,17 +48,18 @@ def open_clauses(log: str, function: str) -> tuple[str, set[str]]:
 
 
 def try_proof(group: Group, bugs: list[Bug]) -> Iterator[tap.Result]:
-    """Plants mutants in a copy of the crates, with what rt.t proved of one."""
+    """Plants mutants in a copy of the crates, with what c_library.t proved of one."""
     bodies: dict[str, list[Bug]] = defaultdict(list)
     for bug in bugs:
         bodies[bug.seen_by].append(bug)
     with tempfile.TemporaryDirectory(prefix="mutants-") as folder:
         copy = Path(folder) / "copy"
         copy_crates(copy)
-        kept = Path("crates") / group.crate / "out"
-        if (ROOT / kept).exists():
-            shutil.copytree(ROOT / kept, copy / kept, symlinks=True)
-        status, log = check(copy / "crates" / group.crate)
+        home = copy / "crates" / group.crate
+        kept = Path(os.environ.get("KEPT", ""), "copy", "crates", group.crate, "out")
+        if kept.exists():
+            shutil.copytree(kept, home / "out", symlinks=True)
+        status, log = check(home)
         yield f"{group.crate} without a bug", log[-300:] if status else ""
         shutil.copytree(copy, f"{folder}/proved", symlinks=True)
         for planted in zip_longest(*bodies.values()):
