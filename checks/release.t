@@ -141,7 +141,7 @@ releases() {
   (umask 077; TZ=Asia/Tokyo "$from/tools/release" "$to")
   git -C "$from" checkout -q CHANGES
   checks/lib/packed.py "$to" "$from"
-  rejects "File exists" "$from/tools/release" "$to"
+  rejects "there is already" "$from/tools/release" "$to"
   cp "$work"/bin/{dh_auto_test,cmake}
   rejects "release: cmake -S" env PATH="$work/bin:$PATH" "$from/tools/release" "$work/failed"
   planted_release "$to" "$from"

@@ -49,7 +49,8 @@ static size_t put_varint(uint8_t *to, uint64_t value)
     return at;
 }
 
-/* An input: bytes of any values, or the head of a multihash or of a SCALE form with some bytes after it. */
+/* An input: bytes of any values, or the head of a multihash or of a SCALE form with some bytes after it. One
+ * in four is changed in one bit. */
 static size_t draw_input(uint8_t *to)
 {
     size_t at = 0, kind = below(4), digest = below(8) == 0 ? below(LONGEST) : below(70);
@@ -65,6 +66,7 @@ static size_t draw_input(uint8_t *to)
     if (below(8) == 0) length = below(length + 1);
     uint8_t high = (uint8_t)(below(2) * 128);
     for (; at < length; at++) to[at] = (uint8_t)draw() | high;
+    if (length > 0 && below(4) == 0) to[below(length < 24 ? length : 24)] ^= (uint8_t)(1u << below(8));
     return length;
 }
 

@@ -34,7 +34,7 @@ fn expect_reader_error<const S: usize>(
     }
 }
 
-// It fails, or is full, after that many bytes.
+// A writer that fails, or is full, after that many bytes.
 fn failing_writer<const A: bool>(
     rt: &impl Abort,
     alloc: Global,

@@ -121,7 +121,7 @@ fn each_code_is_written(rt: HostRuntime) {
     }
 }
 
-// None of the bytes is 0.
+// The bytes are not 0, so a byte that is not written differs.
 fn expect_copied(rt: &impl Abort, bytes: &[u8], buffer: &mut [u8]) {
     let room = buffer.len();
     let mut left = &mut buffer[..];
@@ -254,7 +254,7 @@ const COUNTS: [usize; 14] = [
     511, 512, 513, 1000, 1023, 1024, 1025, 4095, 4096, 4097, 10000, 65535, 65536, 70000,
 ];
 
-// Empty pairs.
+// An input of empty pairs, two bytes each.
 fn expect_list<const S: usize>(rt: &impl Abort, alloc: Global, input: &[u8], count: usize)
     requires { S < 2 ^ 16 }
 {
