@@ -3,7 +3,7 @@
 # a planted script.
 # shellcheck source=checks/lib/tap.sh
 . "$(dirname "$0")/lib/tap.sh"
-plan 28
+plan 29
 
 listed() { git ls-files -co --exclude-standard "$@"; }
 # Prints the paths of the scripts in a language, by their first lines.
@@ -105,6 +105,16 @@ without_words() {
   done
 }
 
+# The tests in a folder, and what they compare, are as many as stated.
+compares() {
+  local number folder
+  while read -r number folder; do
+    listed "$folder" | xargs cat |
+      command grep -oE 'def test_|test\]|(assert\w*!?|CHECK|check(_eq)?!|expect_\w+!|same|fails|told)\(' | wc -l |
+      diff <(echo "$number") -
+  done
+}
+
 # Tries a linter, a command with options, over scripts, and over a planted script between two of them, which it has to
 # reject with a text.
 try_linter() {
@@ -140,5 +150,12 @@ try_linter() {
     "missing a type annotation" "def same(number): return number" $typed
   needs=tsc try_linter names unused.js TS6133 "export {};\nconst number = 1;" $javascript
   try "scripts without their words: 13 comparisons" without_words
+  try "what tests compare: 5 comparisons" compares << 'END'
+65 bindings/c/tests
+124 bindings/js/test
+176 bindings/python/tests
+170 bindings/rust/*.rs
+442 crates/*.rt
+END
   needs=tsc try "each error of names: 14 comparisons" planted_names
 }

@@ -112,6 +112,7 @@ SHA256SUMS|echo >> SHA256SUMS
 1 2 600 later|tar --owner=1 --group=2 --mode=600 -czf multihash_c-*-source.tar.gz SHA256SUMS
 0 0 700|mkdir d; tar --owner=0 --group=0 --mode=700 -czf multihash_c-*-source.tar.gz d; rmdir d
 more is there, or is not|mkdir d; touch d/more; tar -czf multihash_c-*-source.tar.gz d; rm -r d
+whl: more is|python3 -c 'import sys, zipfile; zipfile.ZipFile(sys.argv[1], "a").writestr("more", "")' *x86_64.whl
 {'default'|tar xf *.tgz; sed -Ei 's/("t.*), (.*) }/\2, \1 }/' package/*.json; tar czf *.tgz package; rm -r package
 checksumValue|echo >> libmultihash-c-dev_*_amd64.deb
 what the kit made|sed -i s/GENERATED_FROM/DEPENDS_ON/ multihash-*.spdx.json
@@ -168,7 +169,7 @@ END
 
 test_release() {
   local emulator="qemu-aarch64 -L /usr/aarch64-linux-gnu"
-  try "a release: $((44 + ${ALL:-0})) comparisons" releases
+  try "a release: $((45 + ${ALL:-0})) comparisons" releases
   CC=aarch64-linux-gnu-gcc RUN=$emulator try "the installed test of that for aarch64" \
     installed_test "$work/multihash_c-$version-aarch64"
   try "packages for arm64: 11 comparisons" has_packages "$work/release" arm64 aarch64-linux-gnu

@@ -187,9 +187,9 @@ test_browser() {
 
 part "the WebAssembly built anew: 2 comparisons" "rt wasm-opt=108 wasm2wat=1.0.32" built_anew
 part "the WebAssembly for old engines: 1 comparison" wasm-validate old_module
-while read -r entry; do
-  part "in Node.js, $entry" node in_node "$vectors/verdicts.tsv" "$entry"
-done < <(sed -n 's|.*"default": "./\(.*\)[.]js".*|\1|p' "$here/package.json")
+while read -r entry made; do
+  part "in Node.js, $entry" node prints "$made checks right, 0 wrong" in_node "$vectors/verdicts.tsv" "$entry"
+done < <(sed -n 's|.*"default": "./\(.*\)[.]js".*|\1|p' "$here/package.json" | paste - <(printf '708%s\n' 56 56 64))
 part "vectors that differ: 2 comparisons" node planted
 part "plain JavaScript: 3 comparisons" node plain
 part "old engines: 4 comparisons" node old_engine index

@@ -12,7 +12,7 @@ from typing import Any, BinaryIO, Callable, Dict, Iterator, NamedTuple, Optional
 
 import verified_multihash as vm
 
-ROUNDS, CALLS = 15, 5000
+ROUNDS, CALLS = 40, 2000
 LIMIT = 0.6  # of a share: times vary, so it is more than the page says
 DATA = bytes([18, 32]) + bytes(range(32))
 VARINTS = [bytes.fromhex(it) for it in ("", "00", "80", "80" * 9, "8000", "ff7f", "ff" * 8 + "7f", "ff01", "8002")]

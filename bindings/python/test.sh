@@ -78,7 +78,7 @@ installs() {
 beside_plain() {
   local other=$to/beside_plain.py
   "$python" -I "$here/beside_plain.py"
-  sed 's/= 0.6 /= 0 /; s/15, 5000/1, 99/' "$here/beside_plain.py" > "$other"
+  sed 's/= 0.6 /= 0 /; s/40, 2000/1, 99/' "$here/beside_plain.py" > "$other"
   rejects "| 0." "$python" -I "$other"
   sed -i 's/size > 255/size > 254/' "$other"
   rejects "in plain Python" "$python" -I "$other"

@@ -4,7 +4,6 @@
 They are in bugs.edits, each with what has to see it; mutants.py tries those of the proof:
 
     seen: CRATE MODULE::TEST [N]            the test fails; with N, the allocation N fails in it
-    seen: passes CRATE MODULE::TEST         the test passes: this change is no bug
     seen: proof CRATE::FUNCTION CLAUSE..    goals of exactly these clauses of the function stay open
 
 The bugs of one crate are planted in one copy, so each has a test of its own, which no other bug changes.
@@ -27,7 +26,7 @@ BUGS = Path(__file__).with_name("bugs.edits")
 
 
 class Bug(NamedTuple):
-    """A bug, what sees it, and how that has to end: a test, or a function and the clauses with open goals."""
+    """A bug, and what sees it: a test, or a function and the clauses with open goals."""
 
     name: str
     seen_by: str
@@ -51,10 +50,8 @@ def groups() -> dict[Group, list[Bug]]:
         if kind == "proof":
             function, *clauses = words
             group, bug = Group(function.partition("::")[0], "", True), Bug(name, function, " ".join(clauses), its_edits)
-        elif kind == "passes":
-            group, bug = Group(words[0], ""), Bug(name, words[1], "passes", its_edits)
         else:
-            group, bug = Group(kind, "".join(words[1:])), Bug(name, words[0], "fails", its_edits)
+            group, bug = Group(kind, "".join(words[1:])), Bug(name, words[0], "", its_edits)
         found[group].append(bug)
     return found
 
@@ -96,11 +93,11 @@ def try_tests(group: Group, bugs: list[Bug]) -> Iterator[tap.Result]:
 
 
 def judged(bugs: list[Bug], log: str) -> Iterator[tap.Result]:
-    """Compares how tests ended with how they have to."""
+    """Returns which tests did not fail."""
     for bug in bugs:
         found = result_of(log, bug.seen_by)
         error = f"{bug.seen_by} {found or 'does not end'}\n{'' if found else log[-300:]}"
-        yield bug.name, "" if found == bug.wanted else error
+        yield bug.name, "" if found == "fails" else error
 
 
 def results() -> Iterator[tap.Result]:
@@ -110,10 +107,10 @@ def results() -> Iterator[tap.Result]:
         yield from try_tests(group, bugs)
     names = [(group.crate, bug.seen_by) for group, bugs in found.items() for bug in bugs]
     yield "each bug of tests has a test of its own", "" if len({*names}) == len(names) else "two have one"
-    bugs = [Bug("", "a", "fails", []), Bug("", "ab", "passes", [])]
+    bugs = [Bug("a test that fails, among others", "a", "", [])]
     for log in ("test a ... ok\ntest ab ... FAILED", "test b ... FAILED", "test a ... FAILED\nno-answer"):
         yield tap.planted(log, all(error for _, error in judged(bugs, log)))
-    yield from judged([bugs[0]._replace(name="a test that fails, among others")], "test b ... ok\ntest a ... FAILED")
+    yield from judged(bugs, "test b ... ok\ntest a ... FAILED")
 
 
 if __name__ == "__main__":

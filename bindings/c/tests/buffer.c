@@ -5,6 +5,8 @@
 #endif
 #include "check.h"
 
+unsigned long checks;
+
 #if defined(__linux__) && !defined(HEAP)
 #include <sys/mman.h>
 #include <unistd.h>

@@ -8,9 +8,12 @@
 #include <stdlib.h>
 #include <string.h>
 
-/* Ends the program if the condition is false. */
+extern unsigned long checks;
+
+/* Counts it, and ends the program if the condition is false. */
 #define CHECK(fact)                                                          \
     do {                                                                     \
+        checks++;                                                            \
         if (!(fact)) {                                                       \
             fprintf(stderr, "%s:%d: not so: %s\n", __FILE__, __LINE__, #fact); \
             exit(1);                                                         \
