@@ -1,7 +1,6 @@
 //! Callers that hash and keep content.
 #![tactic(auto)]
 
-pub mod chained_slices;
 pub mod content;
 pub mod hashing;
 pub mod log;

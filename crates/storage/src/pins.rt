@@ -1,15 +1,9 @@
 //! What the readers and writers expose to contracts. These functions do nothing.
-ghost use Rattle.std.specs.Prelude.{◌≡◌, ◌↔◌, ℕ, List, Some, false};
+ghost use Rattle.std.specs.Prelude.{◌≡◌, ◌↔◌, ℕ, List, false};
 ghost use Rattle.storage.specs.Hashing.{AddsBytes};
 
-use crate::chained_slices::ChainedSlices;
 use crate::hashing::{ContentHasher, HashingReader, HashingWriter};
 use multihash::no_std_io::{Read, Write};
-
-fn chained_slices(s: &ChainedSlices)
-    ensures rest { ⟦<ChainedSlices<'static> as Read>⟧.rest s.now ≡ Some s.now }
-    ensures failures { ⟦<ChainedSlices<'static> as Read>⟧.failures s.now ≡ 0 }
-{}
 
 fn content_hasher(v: &ContentHasher, w: &ContentHasher)
     ensures allocates { ⟦<ContentHasher as Write>⟧.allocates ≡ false }

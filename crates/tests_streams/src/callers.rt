@@ -13,7 +13,6 @@ use multihash::no_std_io::{self, Read, Write};
 use multihash::{Error, Multihash};
 use std::alloc::Global;
 use std::process::Abort;
-use storage::chained_slices::ChainedSlices;
 use storage::content::hash_of;
 use storage::hashing::{ContentHasher, HashingReader, HashingWriter};
 use storage::log::{EntryError, read_entry, write_entry};
@@ -236,7 +235,6 @@ fn a_long_slice_is_read_at_once(rt: HostRuntime) {
         let bytes = long.get(..n).unwrap_or(&long);
         let mut buffer = long;
         let buffer = buffer.get_mut(..n).unwrap_or(&mut []);
-        check_eq!(rt; expect_ok!(rt; ChainedSlices::new(&[bytes]).read(buffer)), n);
         check_eq!(rt; expect_ok!(rt; HashingReader::new(bytes).read(buffer)), n);
         check_eq!(rt; expect_ok!(rt; HashingWriter::new(Vec::new(alloc)).write(bytes)), n);
         check_eq!(rt; expect_ok!(rt; ContentHasher::new().write(bytes)), n);
