@@ -155,7 +155,7 @@ try_linter() {
 124 bindings/js/test
 176 bindings/python/tests
 170 bindings/rust/*.rs
-442 crates/*.rt
+440 crates/*.rt
 END
   needs=tsc try "each error of names: 14 comparisons" planted_names
 }
