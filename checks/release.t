@@ -144,7 +144,7 @@ releases() {
   checks/lib/packed.py "$to" "$from"
   rejects "there is already" "$from/tools/release" "$to"
   cp "$work"/bin/{dh_auto_test,cmake}
-  rejects "release: cmake -S" env PATH="$work/bin:$PATH" "$from/tools/release" "$work/failed"
+  rejects "release: cmake -S" env PATH="$work/bin:$PATH" "$from/tools/release" "$work/new/failed"
   planted_release "$to" "$from"
   tar -xf "$to/multihash-$version.tar.gz" -C "$work"
   grep "^ -- A Tester <tester@forge.example>  $(date -d "$released" '+%a, %d %b %Y') " \
