@@ -226,7 +226,7 @@ test_installation() {
 by_subdirectory() {
   local to=$work/folder kind
   mkdir "$to"
-  printf '%s\n' 'cmake_minimum_required(VERSION 3.20)' 'project(example LANGUAGES C)' 'enable_testing()' \
+  printf '%s\n' 'cmake_minimum_required(VERSION 3.20)' 'project(example VERSION 7 LANGUAGES C)' 'enable_testing()' \
     "add_subdirectory(\"$top\" multihash_c)" 'add_executable(show ${source})' \
     'target_link_libraries(show multihash_c::${kind})' > "$to/CMakeLists.txt"
   for kind in shared static; do
@@ -238,6 +238,9 @@ by_subdirectory() {
   done
   readelf -Ws "$to/build/multihash_c/libmultihash_c.a" | grep ' HIDDEN .* multihash_encode$'
   cmake --install "$to/build"
+  for kind in pkgconfig/multihash_c.pc cmake/multihash_c/multihash_c-config-version.cmake; do
+    diff <(sed "s,^prefix=.*,prefix=$to/prefix," "$prefix/lib/$kind") "$to/prefix/lib/$kind"
+  done
   prints 'No tests were found' ctest --test-dir "$to/build"
   (cd "$to/prefix"; find . ! -type d | sort) | diff <(files_in lib | sed -E '/\/share\/|\.so/d' | sort) -
 }
@@ -330,7 +333,7 @@ rust_crate() {
 
 test_programs() {
   try "a project of CMake: 15 comparisons" by_find_package
-  try "a folder of a project of CMake: 5 comparisons" by_subdirectory
+  try "a folder of a project of CMake: 7 comparisons" by_subdirectory
   needs=go try "Go: 1 comparison" in_go
   needs=mandoc try "man pages: 9 comparisons" pages
   needs="cargo $crates" try "the packages for Rust, as installed" rust_crate
