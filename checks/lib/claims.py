@@ -275,7 +275,9 @@ def order_errors(page: str, text: str) -> Iterator[str]:
 
 
 def alike(words: list[str], others: list[str]) -> float:
-    """Returns how much of the words others have, or both have if that is more, in the same order."""
+    """Returns how much of the words others have, or both have if that is more, in the same order; 1 if all, in any."""
+    if sorted(word.strip(",") for word in words) == sorted(word.strip(",") for word in others):
+        return 1
     blocks = SequenceMatcher(None, words, others, False).get_matching_blocks()
     several = sum(block.size for block in blocks if block.size > 2) / len(words)
     return max(several if len(words) > 7 else 0, 2 * sum(block.size for block in blocks) / (len(words) + len(others)))
