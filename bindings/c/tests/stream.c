@@ -15,6 +15,8 @@ int example_main(void);
 
 #define LIMIT MULTIHASH_DIGEST_MAX
 
+unsigned long checks;
+
 /* The items of the stream. */
 static const struct item {
     uint64_t code;
