@@ -61,10 +61,13 @@ def missing(language: str) -> str:
 
 
 def copy_repository(to: Path) -> None:
-    """Copies the files of the repository that git knows or would."""
+    """Copies the files of the repository that git knows or would, with what c_library.t proved in the same run."""
     command = "git ls-files -co --exclude-standard -z | tar -c --null -T - | tar -x -C " + f"'{to}'"
     to.mkdir()
     subprocess.run(["bash", "-c", command], cwd=TOP, check=True, stderr=subprocess.DEVNULL)
+    proved = Path("crates/multihash/out")
+    if (kept := Path(os.environ.get("KEPT", ""), "copy", proved)).exists():
+        shutil.copytree(kept, to / proved, symlinks=True)
 
 
 def prepare(program: Program, folder: Path) -> dict[str, str]:
