@@ -3,7 +3,7 @@
 # a planted script.
 # shellcheck source=checks/lib/tap.sh
 . "$(dirname "$0")/lib/tap.sh"
-plan 29
+plan 30
 
 listed() { git ls-files -co --exclude-standard "$@"; }
 # Prints the paths of the scripts in a language, by their first lines.
@@ -28,6 +28,7 @@ are_known() {
 
 # bash reads one script alone.
 syntax() { for script in "$@"; do bash -n "$script"; done; }
+last_alone() { bash -n "${!#}"; }
 
 # No line is longer than 120 columns, but of bytes.js, which build.sh makes.
 short() {
@@ -96,21 +97,24 @@ are_run() {
 # Scripts find their folder through links too.
 located() { ! command grep -nE 'dirname "\$[0{]' "$@"; }
 
-# Each script that needs another word, or one, ends with an error, which is no result.
+# Each script that needs another word, or one, ends with an error; those from link_wasm on print their usage.
 without_words() {
+  local script name status=1
   for script in bindings/{c/man.py,python/pack.sh,rust/{beside_upstream.py,offline.sh,pack.sh}} checks/lib/packed.py \
-    tools/{link_wasm,{portable_c,release}{,\ -h},sbom.py,generate\ none}; do
-    local name=${script%% *}
-    rejects "${name##*/}" eval "$script < /dev/null > /dev/null"
+    tools/{sbom.py,link_wasm,{portable_c,release}{,\ -h},generate\ none}; do
+    name=${script%% *}
+    [ "$script" != tools/link_wasm ] || status=2
+    ends $status "${name##*/}" eval "$script < /dev/null > /dev/null"
   done
 }
 
-# The tests in a folder, and what they compare, are as many as stated.
+# The tests in some files, what they compare, and where a status is no error or has to be one, are as many as stated.
 compares() {
   local number folder
   while read -r number folder; do
     listed "$folder" | xargs cat |
-      command grep -oE 'def test_|test\]|(assert\w*!?|CHECK|check(_eq)?!|expect_\w+!|same|fails|told)\(' | wc -l |
+      command grep -oE -e 'def test_|test\]|(assert\w*!?|CHECK|check(_eq)?!|expect_\w+!|same|fails|told|planted)\(' \
+        -e '\<(cmp|diff|grep|prints|rejects) [^a-z ]|check=|\|\| true|pipefail' | wc -l |
       diff <(echo "$number") -
   done
 }
@@ -136,6 +140,7 @@ try_linter() {
   try "Python with types" diff - <({ echo "$typed"; listed 'bindings/python/tests/*.py'; } | sort) \
     <<< "$python"
   try_linter syntax syntax.sh "unexpected end of file" "if true; then" $shell
+  try "a linter of the last script alone" prints "not ok" try_linter last_alone last.sh end "if true; then" $shell
   try_linter planted compares.sh "no planted case of same other" \
     'same() {\n  cmp a b\n}\ntry "one of two" same a\nother() {\n  diff a b\n}\npart "two" cc other' $tested
   try_linter short long.js long.js:1 "$(printf '%121s' .)" $shell $python $javascript
@@ -150,12 +155,15 @@ try_linter() {
     "missing a type annotation" "def same(number): return number" $typed
   needs=tsc try_linter names unused.js TS6133 "export {};\nconst number = 1;" $javascript
   try "scripts without their words: 13 comparisons" without_words
-  try "what tests compare: 5 comparisons" compares << 'END'
+  try "what tests compare: 8 comparisons" compares << 'END'
 65 bindings/c/tests
 124 bindings/js/test
-176 bindings/python/tests
+178 bindings/python/tests
 170 bindings/rust/*.rs
-440 crates/*.rt
+444 crates/*.rt
+206 checks
+66 bindings/*.sh
+7 tools
 END
   needs=tsc try "each error of names: 14 comparisons" planted_names
 }

@@ -159,6 +159,8 @@ function nanoseconds(call) {
 
 const [mine, theirs] = [callsOf(ours), callsOf(plain)];
 for (const name of Object.keys(mine)) {
+  const called = name.split('`')[1] ?? 'errorOf';
+  if (!RegExp(`[. ]${called}\\b`).test(String(mine[name]))) throw new Error(`${name}: ${mine[name]}`);
   const [here, there] = [mine, theirs].map((calls) => JSON.stringify(calls[name]()));
   if (here !== there) throw new Error(`${name}: ${here}, and in plain JavaScript ${there}`);
 }

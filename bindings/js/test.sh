@@ -143,26 +143,26 @@ $example|Valid: code 22, digest of 32 bytes.|22 (0x16)|3 to 34|32|~ #summary.goo
 ${example}00|1 byte follows the multihash.|Byte 35 of 35: 00|The first 34 bytes are a multihash.|Keep the first 34 bytes
 ${example}00|~ [aria-invalid=true]|~ .decided[title="Byte 35"]|~ tbody th[scope=row] > .following
 ${example}0000|2 bytes follow|invalid_size: Invalid multihash size 2.|not a part of the multihash|35 to 36
-16|The input ends inside or before a varint.|No byte: the input ends after 1 byte, |at least 1 byte.
-80|~ .code > .byte
+16|The input ends inside or before a varint.|at least 1 byte.
+80|~ .code > .byte|No byte: the input ends after 1 byte, and more input can change the result.
 7f80|a varint that is not complete|insufficient: not enough input bytes|the varint of the code
 1620ab|The input ends inside the digest.|Still needed: 31 bytes.|unexpected_eof: failed to fill whole buffer|~ td.digits
 168002|A digest of 256 bytes is too long: it may have 255.|2 bytes (1680) can begin a multihash.|Byte 3 of 3: 02|! empty
 16ffffffffffffffff7f|A digest of 9223372036854775807 bytes is too long
 12808000|A varint is longer than needed: it ends in a zero byte.|The first 2 bytes (1280) can begin a multihash.
-ffffffffffffffffff01|A varint has more than nine bytes|Byte 9 of 10: ff|a varint of more than nine bytes
+ffffffffffffffffff01|A varint has more than nine bytes, as every number of 2^63 or more needs.|Byte 9 of 10: ff
 %|, after 0 digits, is not
 12%F0%9D%9F%8E0|𝟎|, after 2 digits, is not a hexadecimal digit.
 120|The number of digits, 3, is odd: each byte has two.
 1200|Valid: code 18, digest of 0 bytes.|empty|none|~ label[for=input] + #input[aria-describedby=help] + #help|! more
-0X1E01|30 (0x1e)|Still needed: 1 byte.
-%200x12%2001|Still needed: 1 byte.
+0X1E01|30 (0x1e)|The whole input can begin a multihash. Still needed: 1 byte.
+%200x12%2001|Still needed: 1 byte.|= |Paste a multihash, or choose an example.
 1200${bytes}|301 bytes follow|… and 1 byte more|3 to 303
 ffffffffffffffff7fff01${bytes::508}|9223372036854775807|12 to 265|! following|Still needed: 1 byte.
 168002|> Keep the first 2 bytes|~ #input:focus|The whole input can begin|! Keep|= 0x1300|Valid: code 19|# 12 01|1 byte.
-|Valid: code 22|= |Paste a multihash|! The parts|> Trailing bytes|3 bytes follow|> A multihash|Valid: code 22
-|> Truncated digest|inside the digest|> Unfinished varint|before a varint|> Not minimal|a varint that is longer
-|> Code too large|more than nine bytes|~ .byte + .hidden|> Digest too long|is too long|= |! What is wrong
+|Valid: code 22|= |Paste|! The parts|> Trailing bytes|3 bytes follow|> A multihash|Valid: code 22
+|> Truncated digest|inside the|> Unfinished varint|before a varint|> Not minimal|a varint that is longer than needed
+|> Code too large|a varint of more than nine bytes|~ .byte + .hidden|> Digest too long|is too long|= |! What is wrong
 END
 }
 

@@ -77,6 +77,8 @@ COMPARED = re.compile(
     r"(?:\b(?:above|at least|at most|below|fewer than|less than|more than|over|up to) )?(?P<number>%s)"
     r"(?: or (?:fewer|less|more)\b)?" % NUMBER.pattern
 )
+# what compares a name
+NAMED = r"(?P<number>(?:above|at least|at most|below|fewer than|less than|more than|up to) `[^`]*`)"
 # a word and the number after it; words that say nothing of it
 PAIR = re.compile(r"([\w+.-]*\w)[\s`(,:=|/\"'>\[*-]{1,3}(?=(%s))" % NUMBER.pattern)
 WEAK = {*"a about above an and as at below by bytes first for from has have in is least most of on or".split()}
@@ -149,13 +151,23 @@ def is_exact(phrase: str, text: str) -> bool:
     return not any(re.fullmatch(phrase, f"{text[: it.start()]}77{text[it.end() :]}") for it in NUMBER.finditer(text))
 
 
+def flat_prose(page: str, text: str) -> str:
+    return flat(prose(text) if page != HEADER else " ".join(re.findall(r"/\*.*?\*/", text, re.S)))
+
+
+def phrase_errors(pages: dict[str, str]) -> Iterator[str]:
+    """Returns the phrases that no page has."""
+    told = "\n".join(flat_prose(page, text) for page, text in pages.items())
+    yield from (phrase for phrase in phrases() if not re.search(phrase, told))
+
+
 def number_errors(page: str, text: str) -> Iterator[str]:
     """Returns the numbers that no phrase has, with what compares them, and that no source has after the same word."""
-    text = flat(prose(text) if page != HEADER else " ".join(re.findall(r"/\*.*?\*/", text, re.S)))
+    text = flat_prose(page, text)
     found = [(phrase, match) for phrase in phrases() for match in re.finditer(phrase, text)]
     spans = [match.span() for phrase, match in found if is_exact(phrase, match[0])]
     before = {match.start(2): match[1] for match in PAIR.finditer(text)}
-    names = re.finditer(r"(?P<number>MULTIHASH_\w+_MAX)", text) if page == HEADER else ()  # of numbers
+    names = re.finditer(r"(?P<number>MULTIHASH_\w+_MAX)" if page == HEADER else NAMED, text)  # of numbers
     for match in (*COMPARED.finditer(text), *names) if page != CONTRACTS else ():
         if not any(start <= match.start() and match.end() <= end for start, end in spans):
             pair = before.get(match.start("number"), ""), match[0]

@@ -168,6 +168,7 @@ CHECKS: dict[str, Callable[[Texts], Iterator[str]]] = {
     "link_errors": link_errors,
     "file_errors": file_errors,
     "output_errors": output_errors,
+    "phrase_errors": lambda texts: claims.phrase_errors(pages_of(texts)),
     "command_errors": command_errors,
     **{check.__name__: of_all_pages(check) for check in OF_A_PAGE},
 }
