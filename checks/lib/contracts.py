@@ -1,5 +1,6 @@
 #!/usr/bin/env python3
-"""Writes docs/CONTRACTS.md: the public items of crates, with the contracts of their functions, and those of bindings.
+"""Writes docs/CONTRACTS.md: the public items of crates, with the contracts of their functions, and those of bindings,
+and what scripts say of themselves.
 
 A line is left out or kept, never changed, so no clause and no documentation can change, and no
 public name can go, without a difference in that page. Left out are other comments, bodies and what
@@ -18,26 +19,32 @@ PAGE = TOP / "docs" / "CONTRACTS.md"
 CRATES = ("headline", "multihash", "multihash_c", "mh_show", "storage", "examples")
 # attributes that no caller can see
 OF_BODIES = re.compile(r"#\[(cold|inline|tactic)\b")
-# the files of the bindings that declare what is public, and what is kept of them
+# the files of the bindings that declare what is public, and scripts, with what is kept of them
 TO_BODY = r"\A(?s:.+?)(?=\n\{|\s*\Z)"
+# the usage and the errors of a script
+SCRIPT = r'\A(?:(?:#|//).*\n)*(?:"""(?s:.+?)""")?|^.*(?:\b(?:exit|fail|need|raise|throw)\b|>&2).*'
 BINDINGS = {
-    "c/include/*.h": TO_BODY,
-    "js/*.d.ts": TO_BODY,
-    "js/demo.html": r"^<(?:title|h\d|p|label|dt|thead|noscript)\b.*(?:\n[^<\n].*)*",
-    "python/src/*.c": r'^ *(?:\{(?:"(?!_[a-z])\w+"|Py_tp_doc)|static const char ).*(?:\n +".*)*',
-    "python/verified_multihash/*.py": r'^(?: *(?:class|(?:async )?def) (?!_).*\n +)?"""(?s:.*?)"""$'
+    "bindings/c/include/*.h": TO_BODY,
+    "bindings/js/*.d.ts": TO_BODY,
+    "bindings/js/demo.html": r"^<(?:title|h\d|p|label|dt|thead|noscript)\b.*(?:\n[^<\n].*)*",
+    "bindings/python/src/*.c": r'^ *(?:\{(?:"(?!_[a-z])\w+"|Py_tp_doc)|static const char ).*(?:\n +".*)*',
+    "bindings/python/verified_multihash/*.py": r'^(?: *(?:class|(?:async )?def) (?!_).*\n +)?"""(?s:.*?)"""$'
     r"|^ *(?:[A-Z_]+|__version__) = .*",
-    "python/verified_multihash/*.pyi": TO_BODY,
-    "rust/*/src/*.rs": r"^//!.*|(?:^ *///.*\n)*(?:^ *#\[.*\n)*^ *pub .*"
+    "bindings/python/verified_multihash/*.pyi": TO_BODY,
+    "bindings/rust/*/src/*.rs": r"^//!.*|(?:^ *///.*\n)*(?:^ *#\[.*\n)*^ *pub .*"
     r"|(?:^ *///.*\n)+(?:^ *#\[.*\n)*^ *(?:impl|fn .*self|[A-Z]\w+[(,]).*",
+    **dict.fromkeys(
+        (".ci/run", "tools/*", *(f"bindings/*/{it}" for it in ("*.py", "*.sh", "b*.js", "*/*.sh"))), SCRIPT
+    ),
 }
 INTRODUCTION = """\
 # Contracts
 
 Written by `checks/lib/contracts.py`, and compared with the sources in CI: the main theorems, then
-the public items of these crates and of the bindings, as they stand in their files, without bodies. A
-difference here is a changed promise. [CALLING.md](../crates/multihash/CALLING.md#what-contracts-see)
-says how to read a clause; its words are [at the end](#words).
+the public items of these crates and of the bindings, as they stand in their files, without bodies, and
+the usage and errors of scripts. A difference here is a changed promise.
+[CALLING.md](../crates/multihash/CALLING.md#what-contracts-see) says how to read a clause; its words are
+[at the end](#words).
 
 The functions of `laws.rt` and `pins.rt` do nothing: their clauses are laws of the definitions, and
 fix what implementations expose.
@@ -148,7 +155,7 @@ def sources() -> dict[str, str]:
     for crate in sorted(CRATES):
         paths += sorted((TOP / "crates" / crate / "specs").glob("*.antt"))
     for files in BINDINGS:
-        paths += sorted((TOP / "bindings").glob(files))
+        paths += sorted(TOP.glob(files))
     return {str(path.relative_to(TOP)): path.read_text("utf-8") for path in paths}
 
 
@@ -180,7 +187,7 @@ def written_page(texts: dict[str, str]) -> str:
             page += f"\n## {crate}\n" if crate != last else ""
             page += section_of(path, text)
             last = crate
-    page += "\n## bindings\n"
+    page += "\n## bindings and scripts\n"
     for files, form in BINDINGS.items():
         page += "".join(binding_section(path, text, form) for path, text in texts.items() if Path(path).match(files))
     page += "\n## Words\n\nThose of clauses and of other definitions, by the files that define them.\n"
