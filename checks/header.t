@@ -5,10 +5,9 @@
     checks/header.t --exports    prints the names of the functions that the header declares
 
 The header's declarations are made from the crate. The preprocessed header has to be these
-declarations and nothing else, in C and in C++, and its macros have to be the crate's constants.
-Comments have to list errors in the order in which they are judged, and those of the test vectors. A
-text in no known form is an exception. Then the differences of checks/lib/header.edits are planted,
-which all have to be found.
+declarations and nothing else, in C and in C++, and its macros have to be the crate's constants. The
+comments of decoders have to list the errors of the test vectors. A text in no known form is an
+exception. Then the differences of checks/lib/header.edits are planted, which all have to be found.
 """
 import re
 import shutil
@@ -51,8 +50,6 @@ PATTERNS = (
     VERDICTS,
     f"{CRATE}/src/**/*.rt",
     "crates/multihash/specs/Varint.antt",
-    "crates/multihash/src/multihash.rt",
-    "bindings/c/tests/models.c",
     f"{RUST}/Cargo.toml",
     f"{RUST}/src/**/*.rs",
     f"{PYTHON}/**/*.py",
@@ -223,21 +220,6 @@ def binding_errors(files: Files, crate: Declared) -> Iterator[str]:
             yield f"{MAP} has a function of version {version}, and the crate is {crate.version}"
 
 
-def order_errors(files: Files, statuses: dict[str, str]) -> Iterator[str]:
-    """Returns the comments, and the model of the tests of C, that have errors not in the order of their numbers, and
-    errors of no function."""
-    form = r"Errors: .*?\*/|# Errors\n(?: *///[^\n]*\n)+|model_encoding\([^;]*\n\{.*?\n\}"
-    for path, text in files.items():
-        for section in re.findall(form, text, re.S):
-            names = re.findall(r"(?:MULTIHASH_|Error::)(\w+)", section)
-            listed = [statuses.get(re.sub(r"(?<=[a-z])(?=[A-Z])", "_", name).upper(), "") for name in names]
-            ordered = [number for number in listed if number > statuses["NOT_MINIMAL"]]
-            if ordered != sorted(ordered):
-                yield f"{path} has errors in another order: {flat(section)}"
-    listed = re.findall(r"MULTIHASH_(\w+)", " ".join(re.findall(r"Errors: .*?\*/", files[HEADER], re.S)))
-    yield from (f"{HEADER} has no function with the error {name}" for name in {*statuses} - {"OK", *listed})
-
-
 def verdict_errors(files: Files) -> Iterator[str]:
     """Compares the errors in the comments of decoders with those of the test vectors for the capacity 255."""
     heads, *lines = (line.split("\t") for line in files[VERDICTS].splitlines())
@@ -251,7 +233,7 @@ def verdict_errors(files: Files) -> Iterator[str]:
 def error_of(files: Files) -> str:
     """Returns what differs."""
     crate = of_crate(files)
-    errors = [*binding_errors(files, crate), *order_errors(files, crate.statuses), *verdict_errors(files)]
+    errors = [*binding_errors(files, crate), *verdict_errors(files)]
     for language in LANGUAGES:
         errors += header_errors(files[HEADER], crate, language)
     return "\n".join(errors)
@@ -297,7 +279,7 @@ def main() -> int:
         return 0
     if not shutil.which("c++"):
         return tap.report([tap.left_out("all", "c++ is not installed")], 1)
-    return tap.report(results(), 43)
+    return tap.report(results(), 38)
 
 
 if __name__ == "__main__":

@@ -235,8 +235,8 @@ def made_of(name: str) -> set[str]:
     return {"bindings/js/multihash.wasm"} if name.endswith(".tgz") else set()
 
 
-TOOLS = {"cc", "aarch64-linux-gnu-gcc", "ld", "cmake", "dpkg-buildpackage", "cargo", "npm", "tar", "gzip", "debhelper"}
-TOOLS |= {"python", "build", "setuptools", "wheel"}
+COMMANDS = {"cc", "aarch64-linux-gnu-gcc", "ld", "cmake", "dpkg-buildpackage", "cargo", "npm", "tar", "gzip"}
+TOOLS = COMMANDS | {"debhelper", "python", "build", "setuptools", "wheel"}
 RELATIONS = {"None DESCRIBES SOURCE", "SOURCE CONTAINS ARCHIVE", "ARCHIVE GENERATED_FROM LIBRARY"}
 RELATIONS |= {"LIBRARY GENERATED_FROM SOURCE", "APPLICATION BUILD_TOOL_OF LIBRARY", "APPLICATION BUILD_TOOL_OF SOURCE"}
 
@@ -272,6 +272,8 @@ def material_errors() -> Iterator[str]:
     tools = {*names.values()} - release - {*files()} - {f"multihash-{VERSION}"}
     known: Fields = dict(re.findall(r" has \w+ (\S+) (\S+)\n", (SOURCE / "tools/generate").read_text()))
     known[fact("`(rattle-kit-[^`]*)`", "README.md")] = fact("logic `([^`]*)`", "README.md")
+    for name in COMMANDS:
+        known[name] = re.findall(r"\d+(?:\.\d+)+", subprocess.getoutput(f"{name} --version"))[0]
     if tools != {*TOOLS, *known}:
         yield f"{path.name}: tools {sorted(tools)}"
     described = {each["name"]: each for each in rows}

@@ -63,14 +63,22 @@ def anchors(text: str) -> set[str]:
     return {*found}
 
 
+def is_named(words: str, link: str, text: str) -> bool:
+    """Returns whether the beginning of a word of a link begins one of its address or of the page's first lines."""
+    found = re.findall(r"[a-z0-9]+", words.lower())
+    return any(
+        re.search(rf"(?:\b|_){it[:5]}", f"{link} {text[:200]}".lower()) for it in found if it not in ("of", "the")
+    )
+
+
 def link_errors(texts: Texts) -> Iterator[str]:
-    """Returns the links that lead to no file, folder or heading of the repository."""
-    form = re.compile(r"\]\(<?([^\s)>]+)>?(?: \"[^\"]*\")?\)|^\[[^\]]+\]: (\S+)", re.M)
+    """Returns the links that lead to no file, folder or heading of the repository, or to one of another name."""
+    form = re.compile(r"\[([^\]]*)\]\(([^\s)]+)\)")
     for page, text in pages_of(texts).items():
         text = FENCE.sub("", text)
         if "```" in text:
             yield f"{page}: a block has no end"
-        for link in map("".join, form.findall(re.sub(r"`[^`\n]*`", "", text))):
+        for words, link in form.findall(text):
             target, _, anchor = link.partition("#")
             if re.match(r"[a-z]+:", target):  # other addresses are not followed
                 continue
@@ -79,6 +87,8 @@ def link_errors(texts: Texts) -> Iterator[str]:
                 yield f"{page}: it is installed without {target}"
             if not (TOP / to).exists() or anchor and anchor not in anchors(texts.get(to, "")):
                 yield f"{page}: a link leads nowhere: {link}"
+            if not is_named(words, f"{to} {anchor}", texts.get(to, "")):
+                yield f"{page}: {link} is not about {words}"
 
 
 def file_errors(texts: Texts, top: Path = TOP) -> Iterator[str]:
