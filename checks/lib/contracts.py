@@ -17,8 +17,8 @@ from rt_source import Item, items
 TOP = Path(__file__).resolve().parents[2]
 PAGE = TOP / "docs" / "CONTRACTS.md"
 CRATES = ("headline", "multihash", "multihash_c", "mh_show", "storage", "examples")
-# attributes that no caller can see
-OF_BODIES = re.compile(r"#\[(cold|inline|tactic)\b")
+# attributes that no caller can see, and first lines of scripts
+OF_BODIES = re.compile(r"#(?:\[(cold|inline|tactic)\b|!/)")
 # the files of the bindings that declare what is public, and scripts, with what is kept of them
 TO_BODY = r"\A(?s:.+?)(?=\n\{|\s*\Z)"
 # the usage and the errors of a script
