@@ -19,10 +19,8 @@ PAGE = TOP / "docs" / "CONTRACTS.md"
 CRATES = ("headline", "multihash", "multihash_c", "mh_show", "storage", "examples")
 # attributes that no caller can see, and first lines of scripts
 OF_BODIES = re.compile(r"#(?:\[(cold|inline|tactic)\b|!/)")
-# the files of the bindings that declare what is public, and scripts, with what is kept of them
+# the files of the bindings that declare what is public, and what is kept of them
 TO_BODY = r"\A(?s:.+?)(?=\n\{|\s*\Z)"
-# the usage and the errors of a script
-SCRIPT = r'\A(?:(?:#|//).*\n)*(?:"""(?s:.+?)""")?|^.*(?:\b(?:exit|fail|need|raise|throw)\b|>&2).*'
 BINDINGS = {
     "bindings/c/include/*.h": TO_BODY,
     "bindings/js/*.d.ts": TO_BODY,
@@ -33,10 +31,12 @@ BINDINGS = {
     "bindings/python/verified_multihash/*.pyi": TO_BODY,
     "bindings/rust/*/src/*.rs": r"^//!.*|(?:^ *///.*\n)*(?:^ *#\[.*\n)*^ *pub .*"
     r"|(?:^ *///.*\n)+(?:^ *#\[.*\n)*^ *(?:impl|fn .*self|[A-Z]\w+[(,]).*",
-    **dict.fromkeys(
-        (".ci/run", "tools/*", *(f"bindings/*/{it}" for it in ("*.py", "*.sh", "b*.js", "*/*.sh"))), SCRIPT
-    ),
 }
+# of scripts the usage and the errors
+ERRORS = r"\b(?:CACHE|assert|exit|fail|message|panic|raise|throw)\b|\b(?:need|option)\(|>&2"
+SCRIPT = rf'\A(?:(?:#|//).*\n)*(?:"""(?s:.+?)""")?|^.*(?:{ERRORS}).*'
+SCRIPTS = ".ci/run CMakeLists.txt tools/* bindings/*/*.py bindings/*/*.sh bindings/*/b*.js bindings/*/*/*.sh"
+BINDINGS |= dict.fromkeys([*SCRIPTS.split(), "bindings/*/*/build.rs"], SCRIPT)
 INTRODUCTION = """\
 # Contracts
 
@@ -182,8 +182,8 @@ def written_page(texts: dict[str, str]) -> str:
     """Returns the page of these sources."""
     page, last = INTRODUCTION, ""
     for path, text in texts.items():
-        crate = path.split("/")[1]
         if path.endswith(".rt"):
+            crate = path.split("/")[1]
             page += f"\n## {crate}\n" if crate != last else ""
             page += section_of(path, text)
             last = crate
