@@ -135,6 +135,8 @@ planted_prefix() {
 /lib/libmultihash_c.so|ln -sf none lib/libmultihash_c.so
 /multihash.h|chmod 755 include/multihash.h
 /test.sh|chmod 644 share/doc/multihash_c/examples/test.sh
+/planted/include|chmod 777 include
+/copyright|chmod 666 share/doc/multihash_c/copyright
 /lib/libmultihash_c.so.|chmod 600 lib/libmultihash_c.so.?.*
 diff -r|echo >> share/doc/multihash_c/changelog
 EOF on|echo >> include/multihash.h

@@ -135,8 +135,9 @@ planted_warnings() {
     file=$work/repository/bindings/rust/$file
     cp "$file" "$work/file"
     echo "$line" >> "$file"
+    [[ $command = tests* ]] || command="in_crate cargo $command"
     # shellcheck disable=SC2086 # words
-    rejects "$text" in_crate cargo $command
+    rejects "$text" $command
     cp "$work/file" "$file"
   done << 'END'
 multihash/src/lib.rs,build,never used,fn planted() {}
@@ -147,6 +148,7 @@ multihash/tests/values.rs,clippy --all-targets,needless-return,pub fn planted() 
 multihash_c/src/lib.rs,build,missing documentation,pub mod planted {}
 multihash_c/src/lib.rs,build,usage of an `unsafe` block,const _: () = unsafe {};
 multihash_c/src/ffi.rs,clippy,missing a safety comment,const _: () = unsafe {};
+multihash/Cargo.toml,tests 13 cargo test --features serde --test values,unused manifest key: planted,[planted]
 END
 }
 
@@ -177,4 +179,4 @@ needs=$archive try "the build script: 13 comparisons" rust_build
 try "the switch from upstream's package: 7 comparisons" rust_switch
 try "serde: 4 comparisons" rust_serde
 needs=cargo-clippy try "lints: 3 comparisons" rust_lints
-needs=cargo-clippy try "a warning of each command: 16 comparisons" planted_warnings
+needs=cargo-clippy try "a warning of each command: 19 comparisons" planted_warnings

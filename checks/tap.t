@@ -18,7 +18,7 @@ expect() {
   echo "$result $number - ${text//'#'/}"
 }
 
-echo 1..66
+echo 1..69
 expect "not ok 1 - a\nok 2 - b" ". checks/lib/tap.sh; try a false; try b true"
 expect "not ok 1 - a" ". checks/lib/tap.sh; try a no_such_command"
 expect "not ok 1 - a\n# why" ". checks/lib/tap.sh; try a sh -c 'echo why >&2; exit 1' 2>&1"
@@ -64,7 +64,9 @@ expect "ok 1 - a\nnot ok 2 - a\n1" "$(report '("a", ""), ("a", "")')"
 expect 1 "$(report "")"
 expect "ok 1 - a b\n0" "$(report '("a#\nb", "")')"
 expect "not ok 1 - planted: a\nok 2 - planted: b\n1" "$(report 'tap.planted("a", ""), tap.planted("b", "why")')"
-expect "ok 1 - a # SKIP why\n0" "$(report 'tap.left_out("a", "why")')"
+expect "ok 1 - a # SKIP no why\n0" "$(report 'tap.left_out("a", ["why"])')"
+expect "not ok 1 - a # SKIP no why, sh\n1" "$(report 'tap.left_out("a", ["why", "sh"])')"
+expect "not ok 1 - a # SKIP no \n1" "$(report 'tap.left_out("a", [])')"
 
 # Writes a check.
 stub() { printf '#!/bin/bash\necho 1..1\n%s\n' "$2" > "$1" && chmod +x "$1"; }
@@ -128,9 +130,14 @@ expect 0 "ran '$text' 'cp checks/rt.t checks/lint.t'"
 # only one of two checks is run
 expect "1\ndid not pass: checks/lint.t" \
   "ran 'echo ok 1' 'cp checks/rt.t checks/lint.t; sed -i \"s|timer checks|&/rt.t|\" .ci/run'; grep ^did out"
-# ended, it ends checks
-expect "0\n130\na" "ran 'echo ok 1'; stub checks/rt.t 'touch a; sleep 1; touch b'; .ci/run > out &
-  until [ -e a ]; do sleep .1; done; kill \$!; wait \$!; echo \$?; sleep 1.2; ls a b"
+# ended, it ends checks, and without a part of it does not
+while IFS='|' read -r edit files; do
+  expect "0\n130\n$files" "ran 'echo ok 1' 'sed -i \"$edit\" .ci/run'; stub checks/rt.t 'touch a; sleep 1; touch b'; rm -f [ab]
+    .ci/run > out & until [ -e a ]; do sleep .1; done; kill \$!; wait \$!; echo \$?; sleep 1.2; ls [ab]"
+done << 'END'
+|a
+s/kill -- -/: /|a\nb
+END
 # parts of what it edits for prove: a run fails, and passes without the part
 while IFS='|' read -r edit text option; do
   expect "1\n0" "ran '$text' '' $option; ran '$text' 'sed -i $edit .ci/run' $option"

@@ -133,7 +133,7 @@ def program_results(texts: Texts) -> Iterator[tap.Result]:
         for program in start.programs(texts[README]):
             name = f"{README}, {program.language}"
             if gone := start.missing(program.language):
-                yield tap.left_out(name, f"{gone} is not installed")
+                yield tap.left_out(name, gone)
                 continue
             error, shown[program.language] = start.run(program, copy, Path(work) / program.language)
             yield name, error
@@ -170,7 +170,6 @@ OF_A_PAGE = (
     rows.status_errors,
     rows.time_errors,
     rows.difference_errors,
-    rows.comment_errors,
     examples.byte_errors,
 )
 CHECKS: dict[str, Callable[[Texts], Iterator[str]]] = {

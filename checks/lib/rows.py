@@ -161,12 +161,3 @@ def status_errors(page: str, text: str) -> Iterator[str]:
     if page == MAN:
         of_program = {*said.values()} - {"ok", "Invalid multihash code", "failed to write whole buffer"}
         yield from (f"it does not have {line}" for line in of_program if f"\n.It {line}" not in text)
-
-
-def comment_errors(page: str, text: str) -> Iterator[str]:
-    """Returns the names in a comment of the header that are no parameter or field of its function."""
-    form = r"/\*((?:(?!\*/).)*)\*/\n(\w+ (\w+)\([^;]*\);)"
-    for comment, declaration, name in re.findall(form, text, re.S) if page == HEADER else ():
-        fields = re.search(rf"typedef struct {declaration.split()[0]} {{(.*?)^}}", text, re.S | re.M)
-        known = {*re.findall(r"\w+", declaration + re.sub(r"/\*.*?\*/", "", fields[1] if fields else "", flags=re.S))}
-        yield from (f"{name} has no {other}" for other in sorted({*re.findall(r"`(\w+)", comment)} - known))

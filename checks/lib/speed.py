@@ -14,7 +14,6 @@ builds it.
 import argparse
 import os
 import re
-import shutil
 import subprocess
 import sys
 import tempfile
@@ -138,10 +137,9 @@ def results(program: str, names: list[str]) -> Iterator[tap.Result]:
         yield tap.planted(what, differences(small | other, small))
     yield tap.planted("a row less", differences({}, small))
     # without AVX2 libc's copies have other counts
-    if not shutil.which("valgrind") or "avx2" not in Path("/proc/cpuinfo").read_text("utf-8"):
-        why = "no valgrind, or a processor without AVX2"
-        yield tap.left_out("the calls from C", why)
-        yield tap.left_out("the calls of crates/speed", why)
+    if gone := [it for it in ("valgrind", "avx2") if not tap.is_there(it)]:
+        yield tap.left_out("the calls from C", gone)
+        yield tap.left_out("the calls of crates/speed", gone)
         return
     yield "the calls from C", differences(count_c(), rows_of(page, FROM_C))
     stored = {name: counts[:1] for head in (RUST, OTHERS) for name, counts in rows_of(page, head).items()}

@@ -48,8 +48,8 @@ def programs(readme: str) -> list[Program]:
     return [Program(row[0], row[1], *rest, crates) for row, rest in rows]
 
 
-def missing(language: str) -> str:
-    """Returns what is not installed that a program needs, or an empty text."""
+def missing(language: str) -> list[str]:
+    """Returns what is not installed that a program needs."""
     gone = [tool for tool in TOOLS[language] if not shutil.which(tool)]
     if language == "Rust" and not any(REGISTRY.glob("cc-1.*")):
         gone.append("librust-cc-dev")
@@ -57,7 +57,7 @@ def missing(language: str) -> str:
         command = ["/usr/bin/python3", "-c", "import setuptools, venv, wheel"]
         if subprocess.run(command, capture_output=True).returncode:
             gone.append("python3-setuptools, python3-venv or python3-wheel")
-    return ", ".join(gone)
+    return gone
 
 
 def copy_repository(to: Path) -> None:
@@ -94,6 +94,7 @@ def prepare(program: Program, folder: Path) -> dict[str, str]:
         root = f"{folder}/root"
         found = {"PKG_CONFIG_PATH": f"{root}/usr/local/lib/pkgconfig", "PKG_CONFIG_SYSROOT_DIR": root}
         return {"DESTDIR": root, **found}
+    assert language == "Rattle", language
     (folder / "crates").mkdir()
     (folder / "crates.txt").write_text(program.crates, "utf-8")
     return {}

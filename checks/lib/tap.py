@@ -1,5 +1,6 @@
 """Prints results as TAP, for prove. Builds what checks run."""
 import os
+import shutil
 import subprocess
 import sys
 from collections.abc import Iterable
@@ -37,12 +38,15 @@ def planted(what: str, found: object) -> Result:
     return f"planted: {what}", "" if found else "it is not found"
 
 
-def left_out(what: str, why: str) -> Result:
-    """Returns the result of a check that is not wanted in this run, or whose tool is missing.
+def is_there(tool: str) -> bool:
+    """Returns whether a tool is installed, or the processor has these instructions."""
+    return bool(shutil.which(tool)) or f" {tool} " in Path("/proc/cpuinfo").read_text("utf-8")
 
-    .ci/run --all makes it a failure.
-    """
-    return f"{what} {SKIP}{why}", ""
+
+def left_out(what: str, gone: list[str]) -> Result:
+    """Returns the result of a check that needs tools which are not there. .ci/run --all makes it a failure."""
+    is_right = gone and not any(map(is_there, gone))
+    return f"{what} {SKIP}no {', '.join(gone)}", "" if is_right else "what it needs is there"
 
 
 def program(crate: str, word: str = "run") -> str:
