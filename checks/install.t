@@ -214,7 +214,7 @@ test_installation() {
   try "installing below a folder" installs_below
   try "the portable source" from_source
   try "packing: 23 comparisons" packs
-  try "planted differences: 86 comparisons" planted_prefix
+  try "planted differences: 94 comparisons" planted_prefix
   try "the installed test of planted files: 8 comparisons" planted_test
   try "the installed test of nothing" rejects "no multihash_c.pc" bindings/c/examples/test.sh "$work/none"
   try "other machines: 5 comparisons" machines

@@ -132,7 +132,8 @@ expect "1\ndid not pass: checks/lint.t" \
   "ran 'echo ok 1' 'cp checks/rt.t checks/lint.t; sed -i \"s|timer checks|&/rt.t|\" .ci/run'; grep ^did out"
 # ended, it ends checks, and without a part of it does not
 while IFS='|' read -r edit files; do
-  expect "0\n130\n$files" "ran 'echo ok 1' 'sed -i \"$edit\" .ci/run'; stub checks/rt.t 'touch a; sleep 1; touch b'; rm -f [ab]
+  expect "0\n130\n$files" "ran 'echo ok 1' 'sed -i \"$edit\" .ci/run'; rm -f [ab]
+    stub checks/rt.t 'touch a; sleep 1; touch b'
     .ci/run > out & until [ -e a ]; do sleep .1; done; kill \$!; wait \$!; echo \$?; sleep 1.2; ls [ab]"
 done << 'END'
 |a
