@@ -42,8 +42,10 @@ def counts(package: Path, profile: str) -> Counts:
     found: Counts = {}
     with tempfile.TemporaryDirectory() as work:
         (Path(work) / "Cargo.toml").write_text(MANIFEST.format(source=HERE / "speed" / "main.rs", package=package))
-        build = ["cargo", "build", "--quiet", "--offline", "--profile", profile]
-        subprocess.run(build, cwd=work, check=True)
+        cargo = ["cargo", "--quiet", "--offline"]
+        # a build for debugging compares the results
+        subprocess.run([*cargo, "run", "--target-dir=checked"], cwd=work, check=True)
+        subprocess.run([*cargo, "build", "--target-dir=target", "--profile", profile], cwd=work, check=True)
         program = next(Path(work).glob("target/*/speed"))
         tool = ["valgrind", "--quiet", "--tool=callgrind", f"--callgrind-out-file={work}/out", str(program)]
         subprocess.run(tool, check=True)
@@ -88,7 +90,7 @@ def main() -> None:
     print(table(found))
     if sys.argv[2:] == ["--write"]:
         text = PAGE.read_text("utf-8")
-        PAGE.write_text(re.sub(r"\| Call \| a code(?s:.*?)\n\n", lambda _: table(found) + "\n", text), "utf-8")
+        PAGE.write_text(re.sub(r"\| Call \| a code.*\n(?:\|.*\n)+", lambda _: table(found), text), "utf-8")
 
 
 if __name__ == "__main__":

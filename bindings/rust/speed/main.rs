@@ -1,6 +1,7 @@
 //! Calls of a crate `multihash`, whose instructions valgrind's tool callgrind counts: each is made `TURNS` times, and a
-//! request to callgrind then writes the count with the call's name. See `beside_upstream.py`.
-use multihash::Multihash;
+//! request to callgrind then writes the count with the call's name. See `beside_upstream.py`. A build for debugging also
+//! compares what the first call returns.
+use multihash::{Error, Multihash};
 use std::arch::asm;
 use std::ffi::CString;
 use std::hash::{BuildHasher, BuildHasherDefault, DefaultHasher};
@@ -21,8 +22,11 @@ fn request(kind: usize, text: usize) {
     }
 }
 
-fn count<T>(name: &str, mut call: impl FnMut() -> T) {
-    black_box(call());
+fn count<T>(name: &str, mut call: impl FnMut() -> T, is_right: impl Fn(T) -> bool) {
+    {
+        let first = black_box(call());
+        debug_assert!(is_right(first), "{name}");
+    }
     let name = CString::new(name).expect("a name");
     request(ZERO_STATS, 0);
     for _ in 0..TURNS {
@@ -42,24 +46,26 @@ fn calls<const S: usize>(code: u64, size: usize) {
     let mut buffered = BufReader::new(&stream[..]);
     let (mut out, mut vector) = ([0; 300], Vec::with_capacity(stream.len()));
     let hasher = BuildHasherDefault::<DefaultHasher>::default();
+    let is_value = |it: Result<Multihash<S>, Error>| it.is_ok_and(|it| it == value);
+    let is_length = |it: Result<usize, Error>| it.is_ok_and(|it| it == bytes.len());
     let of = |call: &str| format!("{call} {} {size}", (64 - (code | 1).leading_zeros()).div_ceil(7));
-    count(&of("nothing"), || ());
-    count(&of("wrap"), || Multihash::<S>::wrap(black_box(code), black_box(&digest)));
-    count(&of("from_bytes"), || Multihash::<S>::from_bytes(black_box(&bytes)));
-    count(&of("read, slice"), || Multihash::<S>::read(&mut slice));
-    count(&of("read, Cursor"), || Multihash::<S>::read(&mut cursor));
-    count(&of("read, BufReader"), || Multihash::<S>::read(&mut buffered));
-    count(&of("read, dyn Read"), || Multihash::<S>::read(&mut of_dyn));
-    count(&of("write, slice"), || black_box(&value).write(black_box(&mut out[..])));
-    count(&of("write, Vec"), || black_box(&value).write(&mut vector));
-    count(&of("to_bytes"), || black_box(&value).to_bytes());
-    count(&of("encoded_len"), || black_box(&value).encoded_len());
-    count(&of("=="), || black_box(&value) == black_box(&same));
-    count(&of("cmp"), || black_box(&value).cmp(black_box(&same)));
-    count(&of("Hash"), || hasher.hash_one(black_box(&value)));
-    count(&of("truncate"), || black_box(&value).truncate(20));
-    count(&of("resize"), || black_box(&value).resize::<255>());
-    count(&of("into_inner"), || black_box(value).into_inner());
+    count(&of("nothing"), || (), |()| true);
+    count(&of("wrap"), || Multihash::<S>::wrap(black_box(code), black_box(&digest)), is_value);
+    count(&of("from_bytes"), || Multihash::<S>::from_bytes(black_box(&bytes)), is_value);
+    count(&of("read, slice"), || Multihash::<S>::read(&mut slice), is_value);
+    count(&of("read, Cursor"), || Multihash::<S>::read(&mut cursor), is_value);
+    count(&of("read, BufReader"), || Multihash::<S>::read(&mut buffered), is_value);
+    count(&of("read, dyn Read"), || Multihash::<S>::read(&mut of_dyn), is_value);
+    count(&of("write, slice"), || black_box(&value).write(black_box(&mut out[..])), is_length);
+    count(&of("write, Vec"), || black_box(&value).write(&mut vector), is_length);
+    count(&of("to_bytes"), || black_box(&value).to_bytes(), |it| it == bytes);
+    count(&of("encoded_len"), || black_box(&value).encoded_len(), |it| it == bytes.len());
+    count(&of("=="), || black_box(&value) == black_box(&same), |it| it);
+    count(&of("cmp"), || black_box(&value).cmp(black_box(&same)), |it| it.is_eq());
+    count(&of("Hash"), || hasher.hash_one(black_box(&value)), |it| it == hasher.hash_one(same));
+    count(&of("truncate"), || black_box(&value).truncate(20), |it| it.digest() == &digest[..size.min(20)]);
+    count(&of("resize"), || black_box(&value).resize::<255>(), |it| it.is_ok_and(|it| it == value));
+    count(&of("into_inner"), || black_box(value).into_inner(), |it| it.0 == code);
 }
 
 fn main() {
