@@ -159,10 +159,10 @@ try_linter() {
 65 bindings/c/tests
 124 bindings/js/test
 178 bindings/python/tests
-170 bindings/rust/*.rs
+171 bindings/rust/*.rs
 444 crates/*.rt
-206 checks
-66 bindings/*.sh
+208 checks
+67 bindings/*.sh
 7 tools
 END
   needs=tsc try "each error of names: 14 comparisons" planted_names

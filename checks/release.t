@@ -107,7 +107,7 @@ creators|sed -i 's/ (c) 2026 .*/ (c) 2026 Another/' LICENSE
 repository|sed -i 's/^repository=.*/repository=another/' tools/owner
 END
   rejects_edits "$1" checks/lib/packed.py "$work/planted" "$2" << 'END'
-the files of the release|touch more
+the files of the release|mv *x86_64.whl more
 SHA256SUMS|echo >> SHA256SUMS
 1 2 600 later|tar --owner=1 --group=2 --mode=600 -czf multihash_c-*-source.tar.gz SHA256SUMS
 0 0 700|mkdir d; tar --owner=0 --group=0 --mode=700 -czf multihash_c-*-source.tar.gz d; rmdir d

@@ -170,11 +170,11 @@ def calls_of(it: Any, kind: Any, reader: Any) -> Dict[str, Callable[[], Any]]:
     file, long = io.BytesIO(DATA), bytes(256)
     of_file = reader(file)
     return {
-        "`decode`, `bytes` of 34 bytes": lambda: it.decode(DATA),
+        "`decode`, `bytes` of %d bytes" % len(DATA): lambda: it.decode(DATA),
         "`decode`, `bytearray`": lambda: it.decode(array),
         "`read`": lambda: it.read(DATA),
         "`head`": lambda: it.head(DATA),
-        "`encode` of 32 bytes": lambda: it.encode(18, digest),
+        "`encode` of %d bytes" % len(digest): lambda: it.encode(18, digest),
         "`encoded_len`": lambda: it.encoded_len(18, 32),
         "`Multihash(code, digest)`": lambda: kind(18, digest),
         "`==`": lambda: left == right,
@@ -239,7 +239,7 @@ def main() -> int:
         share = (here - call) / (there - call)
         slow |= share > LIMIT
         table += "| %s | %.2f µs | %.2f µs | %.2f |\n" % (name, (here - call) / 1e3, (there - call) / 1e3, share)
-    print(table)
+    print(table, end="")
     return slow
 
 

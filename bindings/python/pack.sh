@@ -20,8 +20,10 @@ fail() {
   exit 1
 }
 
+# Warnings are errors, but not that `[tool.setuptools]` is still beta.
 build() {
-  "$python" -m build --no-isolation "$@" > "$work/log" 2>&1 || { cat "$work/log" >&2; fail "not built"; }
+  PYTHONWARNINGS="error::UserWarning,ignore:Support for" "$python" -m build --no-isolation "$@" > "$work/log" 2>&1 ||
+    { cat "$work/log" >&2; fail "not built"; }
 }
 
 # Debian's Python.h includes a file for each machine; those with 64 bits have the same configuration.

@@ -111,7 +111,7 @@ def files() -> dict[str, set[str] | None]:
 def file_errors() -> Iterator[str]:
     wanted, found = files(), {path.name: path for path in sorted(RELEASE.iterdir())}
     if {*found} != {*wanted}:
-        yield f"the files of the release: {sorted({*found} ^ {*wanted})}"
+        sys.exit(f"the files of the release: {sorted({*found} ^ {*wanted})}")
     sums = (f"{hashlib.sha256(path.read_bytes()).hexdigest()}  {name}\n" for name, path in found.items())
     if (RELEASE / "SHA256SUMS").read_text() != "".join(each for each in sums if not each.endswith(" SHA256SUMS\n")):
         yield "SHA256SUMS"
@@ -293,8 +293,8 @@ def material_errors() -> Iterator[str]:
 
 
 def main() -> int:
-    compared = [*fields()]
-    errors = [*file_errors(), *material_errors(), *(error for each in compared for error in field_errors(*each))]
+    errors, compared = [*file_errors()], [*fields()]
+    errors += [*material_errors(), *(error for each in compared for error in field_errors(*each))]
     numbers = len(compared), sum(value is ANY for *_, wanted in compared for value in wanted.values())
     if numbers != (15, 12):
         errors.append(f"the numbers of descriptions, and of fields with any value: {numbers}")

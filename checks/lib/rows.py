@@ -55,15 +55,15 @@ MODULES = {
 # a page, and the first cells of a table of what was measured: the program that measures, and the form of its calls
 MEASURED = {
     (JS, "Call | Time"): ("bindings/js/beside_plain.js", r"^    '([^']+)': \("),
-    (PYTHON, "Call | this package"): ("bindings/python/beside_plain.py", r'^        "([^"]+)": (?:lambda|partial\()'),
     (RUST, "Call | a code of one byte"): (
         "bindings/rust/beside_upstream.py",
         r'"([^"{}]+)"(?=(?:,\s*"[^"]+")*\]  # fmt: skip)',
     ),
 }
-# the numbers of rows of other tables, whose cells program_results, byte_errors and speed_errors compare, or nothing
-ROWS = {README: (5, 11), FORMAT: (8, 4, 6, 6), JS: (3,), RUST: (15,), DIFFERENCES: (16, 21), DECISIONS: (10,)}
-ROWS |= {ARCHITECTURE: (12,), SPEED: (22, 13, 6, 14), "CONTRIBUTING.md": (8,), "bindings/rust/README.md": (2,)}
+# the numbers of rows of other tables, whose cells program_results, byte_errors, speed_errors, python.t or none compare
+ROWS = {README: (5, 11), FORMAT: (8, 4, 6, 6), JS: (3,), PYTHON: (16,), RUST: (15,), DIFFERENCES: (16, 21)}
+ROWS |= {DECISIONS: (10,), ARCHITECTURE: (12,), SPEED: (22, 13, 6, 14)}
+ROWS |= {"CONTRIBUTING.md": (8,), "bindings/rust/README.md": (2,)}
 Rows = list[list[str]]
 
 
