@@ -157,7 +157,7 @@ try_linter() {
   try "scripts without their words: 13 comparisons" without_words
   try "what tests compare: 8 comparisons" compares << 'END'
 65 bindings/c/tests
-124 bindings/js/test
+121 bindings/js/test
 178 bindings/python/tests
 171 bindings/rust/*.rs
 444 crates/*.rt

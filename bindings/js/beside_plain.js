@@ -157,16 +157,36 @@ function nanoseconds(call) {
   return Number(process.hrtime.bigint() - start) / CALLS;
 }
 
+/** Throws if two calls differ in what they return, or in how they fail. */
+function agree(what, ...calls) {
+  const [here, there] = calls.map((call) => {
+    try {
+      return JSON.stringify(call());
+    } catch (error) {
+      return JSON.stringify([error.name, error]);
+    }
+  });
+  if (here !== there) throw new Error(`${what} differ: ${here}, ${there}`);
+}
+const both = (what, call) => agree(what, () => call(ours), () => call(plain));
+
 const [mine, theirs] = [callsOf(ours), callsOf(plain)];
 for (const name of Object.keys(mine)) {
   const called = name.split('`')[1] ?? 'errorOf';
   if (!RegExp(`[. ]${called}\\b`).test(String(mine[name]))) throw new Error(`${name}: ${mine[name]}`);
-  const [here, there] = [mine, theirs].map((calls) => JSON.stringify(calls[name]()));
-  if (here !== there) throw new Error(`${name}: ${here}, and in plain JavaScript ${there}`);
+  const [, size] = name.match(/of (\d+) bytes/) ?? [];
+  const [, input] = String(mine[name]).match(/(\w+)\)$/) ?? [];
+  if (size) agree(`${name}: sizes`, () => Number(size), () => ({ bytes, long, digest })[input].length);
+  agree(name, mine[name], theirs[name]);
 }
-for (const text of ['', '80', '8000', '12', '1280', '12ff02', `${'ff'.repeat(9)}01`, `12${'80'.repeat(9)}`]) {
-  const [here, there] = [ours, plain].map((it) => JSON.stringify(errorOf(it, Buffer.from(text, 'hex'))));
-  if (here !== there) throw new Error(`${text}: ${here}, and in plain JavaScript ${there}`);
+for (const text of ['', '80', '8000', '12', '1280', '12ff02', `${'ff'.repeat(9)}01`, `12${'80'.repeat(9)}`])
+  both(text, (it) => it.read(Buffer.from(text, 'hex')));
+for (const code of [0, 127, 128, 2 ** 53 - 1, -1, 2 ** 53]) {
+  for (const size of [0, 127, 128, 255, 256]) {
+    both(`encode ${code}, ${size}`, (it) => it.encode(code, new Uint8Array(size).fill(7)));
+    both(`encodedLength ${code}, ${size}`, (it) => it.encodedLength(code, size));
+    both(`of ${code}, ${size}`, (it) => it.Multihash.of(code, new Uint8Array(size).fill(7)));
+  }
 }
 if (process.argv[2] === '--check') process.exit();
 const least = Object.fromEntries(Object.keys(mine).map((name) => [name, [Infinity, Infinity]]));
