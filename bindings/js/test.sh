@@ -27,22 +27,7 @@ planted() {
   rejects " 1 wrong" in_node "$work/none"
   cp -r "$here" "$work/planted"
   local here=$work/planted
-  sed -i -f - "$here"/{core,api,index}.js << 'END'
-s/new TypeError(/new Error(1 + /; s/: status/: code/; s/{ cause },//; s|() !== number|() / 100 ^ number / 100|
-s/tagOf.call(data)/data?.[Symbol.toStringTag]/; s/offsetOf.call(d/bufferOf.call(data).resize ? 0 : &/
-s/n length;/n lengthOf.call(data);/; s/ || number < 0//; s/asUintN(64/asUintN(65/; s/0x200000/1/; s/(code) + 0/(code)/
-s/new Uint8Array((row/length === 3 ? memory.subarray(at, at + 3) : &/; s/forJSON = .*/forJSON = Number;/
-s/number < 1/number < 0/; s/named === undefined/!named/; s/if (value inst.*//
-s/> 0 ? \(.*\), cause).*/>= 0 ? \1) : null;/; s/TE.includes(this/TE[0].includes(this/; s/writable: true, //
-s/? wide(2)/? words[2] % 31/; s/(given.*undefined/words[4] : {}.code/; s/copy = /&!digest.byteOffset ? digest : /
-s/size = digest.length/& % 32/; s/encode(this/this.kept ??= &/; /if (tagOf/s/ !== 'U\w*'/ == null/g
-s/code !== 'bigint/code !== 'string/; s/0) .left, right/0) [left/; s/index = 0/index = 1/; s/n this;/n { ...this };/
-0,/taken: words.10./s//& % 34/; s/taken: words.6./& % bytes.length/; s/failure(words.6./& \& 7/
-s/scale_encode(resultAt, number/& \& 255n/; s/put(rightDigest/put(right.digest/
-s/rightCode, \(s.*\)right/leftCode, \1left/; s/slice(this.#at/&, -1/; s/n found?.*/n found \&\& { bytes: [] };/
-s/'the code/'code/; s/throw e.*/throw Error(1);/; s/this.#isReleased = true//
-s/^        this.release();//
-END
+  sed -i -f "$here/test/faults.sed" "$here"/{core,api,index}.js
   rejects "47403 checks right, 23437 wrong" in_node "$vectors/verdicts.tsv"
 }
 
