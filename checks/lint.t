@@ -158,7 +158,7 @@ try_linter() {
   try "what tests compare: 8 comparisons" compares << 'END'
 65 bindings/c/tests
 121 bindings/js/test
-178 bindings/python/tests
+179 bindings/python/tests
 171 bindings/rust/*.rs
 444 crates/*.rt
 208 checks

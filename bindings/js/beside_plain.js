@@ -181,6 +181,7 @@ for (const name of Object.keys(mine)) {
 }
 for (const text of ['', '80', '8000', '12', '1280', '12ff02', `${'ff'.repeat(9)}01`, `12${'80'.repeat(9)}`])
   both(text, (it) => it.read(Buffer.from(text, 'hex')));
+for (let code = 1; code < 2 ** 53; code *= 128) both(`read ${code}`, (it) => it.read(ours.encode(code, digest)));
 for (const code of [0, 127, 128, 2 ** 53 - 1, -1, 2 ** 53]) {
   for (const size of [0, 127, 128, 255, 256]) {
     both(`encode ${code}, ${size}`, (it) => it.encode(code, new Uint8Array(size).fill(7)));

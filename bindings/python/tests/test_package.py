@@ -131,7 +131,8 @@ class Arguments(unittest.TestCase):
         for long, size in ((matrix, 400), (array.array("Q", bytes(800)), 800), ((ctypes.c_ubyte * 999)(), 999)):
             self.assertEqual(self.error_of(vm.decode, long)[:2], (Status.INVALID_SIZE, size - 2))
         self.assertEqual([vm.encode(0, empty) for empty in (b"", bytearray(), array.array("I"))], [b"\0\0"] * 3)
-        self.assertEqual(vm.decode(ctypes.c_uint16(0)), Multihash(0, b""))  # a buffer of no dimension
+        for kind in (ctypes.c_uint8, ctypes.c_uint16, ctypes.c_uint64):  # buffers of no dimension
+            self.assertEqual(vm.encode(0, kind(7)), vm.encode(0, bytes(kind(7))))
         for call in BYTES_CALLS[:3]:
             self.assertEqual(self.error_of(call, memoryview(b""))[0], Status.INSUFFICIENT)
 

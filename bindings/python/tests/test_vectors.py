@@ -16,7 +16,7 @@ KINDS = (bytes, bytearray, memoryview)
 class Counts:
     """A file that counts its reads, which return at most that many bytes."""
 
-    def __init__(self, data, most=500):
+    def __init__(self, data, most):
         self.file, self.reads, self.most = io.BytesIO(data), 0, most
 
     def read(self, size):
@@ -59,9 +59,11 @@ class Vectors(unittest.TestCase):
             self.assertEqual(shown(vm.head, data)[:2], (word, taken))
 
     def check_file(self, data, size, result, consumed):
-        for file in (Counts(data, 1), Counts(data)):
+        for most in (1, 500):
+            file = Counts(data, most)
             found = shown(lambda _: (vm.read_from(file, size), 0), data)[0] if data else vm.read_from(file, size)
             self.assertEqual((found, file.file.tell()), (result if data else None, consumed))
+            self.assertGreaterEqual(file.reads * most, consumed)
         self.assertLessEqual(file.reads, vm.HEAD_MAX + 1)  # not one for each byte of the digest
 
     def check_long(self, data, size, result, taken):
