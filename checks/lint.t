@@ -162,7 +162,7 @@ try_linter() {
 171 bindings/rust/*.rs
 444 crates/*.rt
 208 checks
-67 bindings/*.sh
+68 bindings/*.sh
 7 tools
 END
   needs=tsc try "each error of names: 14 comparisons" planted_names

@@ -138,9 +138,9 @@ releases() {
   "${commit[@]}"
   rejects "not that of prebuilt/SHA256SUMS" "$from/tools/release" "$work/wrong"
   git -C "$from" reset -q --hard HEAD~
-  echo changed >> "$from/CHANGES"
+  sed -i 's/[1e]/3/g' "$from"/{CHANGES,LICENSE,README.md,tools/owner,bindings/c/include/multihash.h}
   (umask 077; TZ=Asia/Tokyo "$from/tools/release" "$to")
-  git -C "$from" checkout -q CHANGES
+  git -C "$from" checkout -q .
   checks/lib/packed.py "$to" "$from"
   rejects "there is already" "$from/tools/release" "$to"
   cp "$work"/bin/{dh_auto_test,cmake}

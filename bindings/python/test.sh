@@ -16,7 +16,7 @@ to=
 if [ $# = 2 ]; then mkdir -p "$2" && to=$(readlink -f "$2") || exit 2; fi
 # shellcheck source=checks/lib/tap.sh
 . "$here/../../checks/lib/tap.sh"
-plan 19 cc "${PYTHON:=/usr/bin/python3}"
+plan 20 cc "${PYTHON:=/usr/bin/python3}"
 to=${to:-$work}
 clone=$to/clone
 header=$PWD/bindings/c/include/multihash.h
@@ -185,7 +185,7 @@ planted_write() {
 }
 
 planted_warning() {
-  sed -i '1s/^/signed char planted(long more) { return more; }\n/' "$clone/bindings/python/src/core.c"
+  sed -i "$1" "$clone/bindings/python/$2"
   CFLAGS=$warnings "$clone/bindings/python/pack.sh" "$to/warned" "$archive"
 }
 
@@ -234,7 +234,9 @@ try "an altered archive: 4 comparisons" altered_archive
 try "the sdist, installed, the portable source: 4 comparisons" sdist
 try "sanitizers" under_sanitizers "$to/sdist"
 try "a write after a block" rejects "bad trailing pad byte" planted_write
-try "a warning" rejects "conversion]" planted_warning
+try "a warning" rejects "conversion]" planted_warning '1s/^/signed char planted(long more) { return more; }\n/' \
+  src/core.c
+try "a warning of setuptools" rejects "option: 'more'" planted_warning 's/license=/more=0, &/' setup.py
 try "a read after the end of the input" rejects AddressSanitizer planted_read
 try "a shift that is too large" rejects "runtime error: shift exponent" planted_shift
 try "an argument that is kept" rejects "it is kept" planted_leak
