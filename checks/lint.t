@@ -113,7 +113,7 @@ compares() {
   local number folder
   while read -r number folder; do
     listed "$folder" | xargs cat |
-      command grep -oE -e 'def test_|test\]|(assert\w*!?|CHECK|check(_eq)?!|expect_\w+!|same|fails|told|planted)\(' \
+      command grep -oE -e 'def test_|test\]|(assert\w*|CHECK|check\w*|expect_\w+|same|fails|told|planted)!?\(' \
         -e '\<(cmp|diff|grep|prints|rejects) [^a-z ]|check=|\|\| true|pipefail' | wc -l |
       diff <(echo "$number") -
   done
@@ -156,12 +156,12 @@ try_linter() {
   needs=tsc try_linter names unused.js TS6133 "export {};\nconst number = 1;" $javascript
   try "scripts without their words: 13 comparisons" without_words
   try "what tests compare: 8 comparisons" compares << 'END'
-65 bindings/c/tests
-121 bindings/js/test
-179 bindings/python/tests
-171 bindings/rust/*.rs
-444 crates/*.rt
-208 checks
+135 bindings/c/tests
+127 bindings/js/test
+193 bindings/python/tests
+198 bindings/rust/*.rs
+590 crates/*.rt
+215 checks
 68 bindings/*.sh
 7 tools
 END
