@@ -197,7 +197,7 @@ try "warnings: 9 comparisons" warns "strict-prototypes missing-prototypes" cc "$
 needs=c++ try "warnings of C++: 7 comparisons" warns "" c++ "${cpp_flags[@]}" -x c++
 try "a read after an input" rejects heap-buffer-overflow faulty "" "$overread" "${sanitize[@]}"
 try "a sum that is too large" rejects "signed integer overflow" faulty "" most++ "${sanitize[@]}"
-try "each check of the tests" prints "drawn: 0, checks: 4994081" "$work/cc" "$list" 1 0
+try "each check of the tests" prints "drawn: 2000, checks: 5898144, results: 07c76edb" "$work/cc" "$list" 1 2000
 try "a wrong vector" rejects "verdicts.c:29: not so: strcmp(" wrong_vector
 # each access of the library, which the compilers' sanitizers do not see
 needs=valgrind try valgrind build_and_run valgrind "${valgrind[*]}" cc "${c_flags[@]}" -g -O1 -DHEAP "${tests[@]}" \

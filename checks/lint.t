@@ -160,7 +160,7 @@ try_linter() {
 127 bindings/js/test
 193 bindings/python/tests
 198 bindings/rust/*.rs
-590 crates/*.rt
+591 crates/*.rt
 215 checks
 68 bindings/*.sh
 7 tools

@@ -9,6 +9,7 @@
 #include <string.h>
 
 extern unsigned long checks;
+extern uint32_t results; /* a checksum of those that were compared */
 
 /* Counts it, and ends the program if the condition is false. */
 #define CHECK(fact)                                                          \

@@ -105,14 +105,18 @@ static multihash_encoded model_encoding(uint64_t code, size_t length, size_t nee
 
 /* ---- the checks */
 
+uint32_t results;
+
 static int same(multihash_decoded a, multihash_decoded b)
 {
+    results = 31 * results + a.status + (uint32_t)(a.taken + a.digest_length);
     return a.status == b.status && a.size == b.size && a.code == b.code && a.digest_offset == b.digest_offset &&
            a.digest_length == b.digest_length && a.taken == b.taken;
 }
 
 static int same_encoded(multihash_encoded a, multihash_encoded b)
 {
+    results = 31 * results + a.status + (uint32_t)a.length;
     return a.status == b.status && a.size == b.size && a.length == b.length;
 }
 

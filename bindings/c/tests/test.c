@@ -79,6 +79,6 @@ int main(int argc, char **argv)
     check_version();
     replay(argv[1]);
     draw_inputs(strtoul(argv[2], NULL, 10), strtoul(argv[3], NULL, 10));
-    printf("drawn: %s, checks: %lu\n", argv[3], checks);
+    printf("drawn: %s, checks: %lu, results: %08x\n", argv[3], checks, (unsigned)results);
     return 0;
 }

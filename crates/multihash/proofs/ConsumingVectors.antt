@@ -12,7 +12,7 @@ use Rattle.multihash.specs.Consuming.{IsFrontErrorAt, IsHeadError, ReadMayFailWi
 use Rattle.multihash.proofs.VarintLemmas.{front_unique, error}
 use Rattle.multihash.proofs.VerdictLemmas.{verdict_unique}
 use Rattle.multihash.proofs.SettlingLemmas.{shortest_unique, shortest_code_error}
-use Rattle.multihash.proofs.ReadingVectors.{other, eof, consumed_is, returns_no_byte, size_in}
+use Rattle.multihash.proofs.ReadingVectors.{other, eof, end_is_no_reader_error, consumed_is, returns_no_byte, size_in}
 use Rattle.multihash.proofs.KnownVectors.{size_5, all_continuation, code_alone, size_above_limit, size_settles, shortest_of_size}
 
 -- ---- errors
@@ -243,11 +243,13 @@ front_ends_with_its_error h = let named = h.0.1 in cc
 -- a failure of the reader is counted once, and an error that is listed is not counted
 fails_by_no_other : ¬ (FailsBy 3 5 (λ e. ⊥) (of_io other)) × ¬ (FailsBy 3 4 (λ e. ⊥) (of_size 5))
     × ¬ (FailsBy 3 2 (λ e. ⊤) (of_size 5)) × ¬ (FailsBy 3 3 (λ e. ⊥) (of_size 5))
+    × ¬ (FailsBy 3 4 (λ e. ⊥) (of_io eof))
 fails_by_no_other = (
   (λ h. elim h [ inl own ↦ omega (arith, own.0) | inr listed ↦ listed.1 ]),
   (λ h. elim h [ inl own ↦ let is = own.1.1 in cc | inr listed ↦ listed.1 ]),
   (λ h. elim h [ inl own ↦ omega (arith, own.0) | inr listed ↦ omega (arith, listed.0) ]),
-  λ h. elim h [ inl own ↦ omega (arith, own.0) | inr listed ↦ listed.1 ],
+  (λ h. elim h [ inl own ↦ omega (arith, own.0) | inr listed ↦ listed.1 ]),
+  λ h. elim h [ inl own ↦ end_is_no_reader_error own.1 | inr listed ↦ listed.1 ],
 )
 
 varint_fails_by_no_size : ¬ (VarintFails 3 3 (of_size 0) None None)

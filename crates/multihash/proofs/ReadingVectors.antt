@@ -50,7 +50,7 @@ no_other_ends = ((λ (error, e, kind). cc), (λ (error, e, kind). cc), (λ (erro
 no_other_is_out_of_memory : ¬ (IsOutOfMemory (of_io eof)) × ¬ (IsOutOfMemory (of_io full)) × ¬ (IsOutOfMemory (of_io other))
 no_other_is_out_of_memory = ((λ (error, e, kind). cc), (λ (error, e, kind). cc), λ (error, e, kind). cc)
 
-end_is_no_reader_error : ¬ (IsReaderError (of_io eof))
+pub end_is_no_reader_error : ¬ (IsReaderError (of_io eof))
 end_is_no_reader_error (error, e, inl kind) = cc
 end_is_no_reader_error (error, e, inr kind) = cc
 
