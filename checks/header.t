@@ -259,7 +259,7 @@ def main() -> int:
         return 0
     if not shutil.which("c++"):
         return tap.report([tap.left_out("all", ["c++"])], 1)
-    return tap.report(results(), 33)
+    return tap.report(results(), 30)
 
 
 if __name__ == "__main__":
