@@ -61,8 +61,9 @@ packs() {
   (cd "$work"; build other -DMULTIHASH_C_ARCHIVE=own.a -DBUILD_SHARED_LIBS=ON -DMULTIHASH_C_PROGRAM=program \
     -DCMAKE_INSTALL_LIBDIR=lib/other -DCMAKE_INSTALL_INCLUDEDIR=headers/c -DCMAKE_INSTALL_DOCDIR=pages/c \
     -DCMAKE_INSTALL_MANDIR=manual -DCMAKE_INSTALL_BINDIR=other/bin)
-  cp "$work/source/libmultihash_c.a" "$archive"
+  objcopy --add-symbol mark=.text:0 "$work/source/libmultihash_c.a" "$archive"
   cmake --build "$work/other"
+  grep mark "$work/other/libmultihash_c.so"
   for name in built other; do
     mkdir "$work/un packed $name"
     (cd "$work/$name"; cpack -B "$work/$name/packed")
@@ -213,7 +214,7 @@ test_installation() {
     another_function
   try "installing below a folder" installs_below
   try "the portable source" from_source
-  try "packing: 23 comparisons" packs
+  try "packing: 24 comparisons" packs
   try "planted differences: 94 comparisons" planted_prefix
   try "the installed test of planted files: 8 comparisons" planted_test
   try "the installed test of nothing" rejects "no multihash_c.pc" bindings/c/examples/test.sh "$work/none"
@@ -288,14 +289,16 @@ in_go() {
   go run . | diff <(echo 'code 18, digest abc') -
 }
 
-# Each page of a function is that of the library, which has each comment of the header, after the name that it is of,
-# each function, and the date of the version.
+# Each page of a function is that of the library, which has each comment of the header, after the name that it is of, in
+# as many parts, each function, and the date of the version. Literal blocks alone have ` or *.
 man_pages() {
   local text page
   mandoc -T lint man3/multihash.3 "$top/crates/mh_show/mh_show.1"
   grep -Lx '.so man3/multihash.3' man3/* | diff <(echo man3/multihash.3) -
   sed -n 's/^\.Nm \(\S*\).*/\1.3/p' man3/multihash.3 | sort | diff <(ls man3) -
-  [ "$(command grep -c '^\.It Errors$' man3/multihash.3)" = "$(command grep -c '^ \* Errors:' "$1")" ]
+  diff <(command grep -cE '^\.(It|Pp|Ss|Sh D)' man3/multihash.3) \
+    <(command grep -cE '^ *(/\*|\*($| Err|  - ))' "$header")
+  sed '/^\.Bd/,/^\.Ed/d; /^\.F/d' man3/multihash.3 "$top/crates/mh_show/mh_show.1" | tr -cd '`*' | diff /dev/null -
   page=$(mandoc -T utf8 man3/multihash.3 | sed 's/.\x08//g' | tr -cs '[:alnum:],' ' ')
   { date -d "$released" '+%B %-d, %Y'
     printf '%s\n' "3 Library Functions Manual MULTIHASH 3 NAME multihash," \
@@ -305,21 +308,28 @@ man_pages() {
     perl -0777 -ne 'my @of = m{/\*((?:(?!\*/).)*)\*/\s*(?:static inline )?(?:const char \*|\w+ )?(\w+)(?=\(| =)}gs;
       for (m{/\*(.*?)\*/}gs, m{^(#define MULTIHASH_\w+ .*)}gm, m{^(typedef (?:struct .*?^\} )?[\w ]+;)}gms,
       m{^(?:static inline )?((?:const char \*|\w+ )multihash_\w+\([^()]*\))}gm,
-      map { "$of[2 * $_ + 1] $of[2 * $_]" } 0 .. $#of / 2) { s/`//g; s/[^[:alnum:],]+/ /g; print "$_\n" }' "$1"; } \
-    > "$work/texts"
+      map { "$of[2 * $_ + 1] $of[2 * $_]" } 0 .. $#of / 2) { s/`//g; s/[^[:alnum:],]+/ /g; print "$_\n" }' "$header"
+  } > "$work/texts"
   while read -r text; do
     [[ $page = *" $text "* ]] || { echo "not in the man page: $text"; return 1; }
   done < "$work/texts"
 }
 
-# Literal blocks alone have backquotes. Debian's packages have the pages, so Python is there when they are built.
+# Debian's packages have the pages, so Python is there when they are built.
 pages() {
+  local text edit
   cd "$prefix/share/man"
-  man_pages "$header"
-  sed '/^\.Bd/,/^\.Ed/d' man3/multihash.3 "$top/crates/mh_show/mh_show.1" | tr -cd '`' | diff /dev/null -
+  man_pages
   grep -x 'Build-Depends: cmake, debhelper-compat (= 13), python3' "$top/bindings/c/debian/control"
-  sed 's/-1 if the left one/-2 if the left one/' "$header" > "$work/planted.h"
-  rejects "not in the man page" man_pages "$work/planted.h"
+  cd "$work"
+  while IFS='|' read -r text edit; do
+    python3 <(sed "$edit" "$top/bindings/c/man.py") "$header" "$top/CHANGES" man3
+    rejects "$text" man_pages
+  done << 'END'
+1c1|s/ ?",/ ",/
+> `*|s/..fI.*fP/`*\\1/
+not in|s/(words)/&[9:]/
+END
 }
 
 # Runs a command of Cargo for the packages for Rust; what is set comes first.
@@ -339,7 +349,7 @@ test_programs() {
   try "a project of CMake: 15 comparisons" by_find_package
   try "a folder of a project of CMake: 7 comparisons" by_subdirectory
   needs=go try "Go: 1 comparison" in_go
-  needs=mandoc try "man pages: 9 comparisons" pages
+  needs=mandoc try "man pages: 23 comparisons" pages
   needs="cargo $crates" try "the packages for Rust, as installed" rust_crate
 }
 

@@ -161,7 +161,7 @@ try_linter() {
 193 bindings/python/tests
 198 bindings/rust/*.rs
 591 crates/*.rt
-215 checks
+216 checks
 68 bindings/*.sh
 7 tools
 END

@@ -44,19 +44,34 @@ old_engine() {
   done
 }
 
-# A wasm-opt that changes one local is found, no file is left, and a folder without the crates is an error.
+# Edits of what wasm-opt made are found, no file is left, and a folder without the crates is an error.
+# shellcheck disable=SC2317 # build.sh runs them
 built_anew() {
+  local -x text edit
   tools/generate --check wasm
-  # shellcheck disable=SC2317 # build.sh runs it
+  PROVED=$work/none rejects "No such file" tools/link_wasm "$work/none.wasm"
+  env() { :; } # no build
   wasm-opt() {
     command wasm-opt "$@"
-    wasm2wat "${!#}" | sed '0,/local.get 1/s//local.get 0/' | wat2wasm - -o "${!#}"
+    wasm2wat "${!#}" | sed "$edit" | wat2wasm - -o "${!#}"
   }
-  export -f wasm-opt
+  export -f env wasm-opt
   mkdir "$work/left"
-  TMPDIR=$work/left rejects "> local.get 0" "$here/build.sh" --check
+  while IFS='|' read -r text edit; do
+    TMPDIR=$work/left rejects "$text" "$here/build.sh" --check
+  done << 'END'
+> local.tee|/;36;/,${/l\./y/56/65/}
+> local.get|/;7;/,/;8;/s/get 4/get 3/
+> unreachable|0,/ end/s//& unreachable/
+> unreachable|/if 0 (;@5/{n;s/$/ unreachable/}
+1c1|0,/unreachable$/s//& i32.wrap_i64 &/
+> memory|/(memory/s/17/18/
+> data|/(data/s/76/77/
+bytes.js:|
+demo.html:|
+multihash.wasm:|
+END
   rmdir "$work/left"
-  rejects "No such file" env PROVED="$work/none" tools/link_wasm "$work/none.wasm"
 }
 
 # The module has the instructions of WebAssembly's first version and bulk memory operations, and no others.
@@ -188,7 +203,7 @@ test_browser() {
   part "the demo page in $name: 1 comparison" "$tools" demo "$name"
 }
 
-part "the WebAssembly built anew: 2 comparisons" "rt wasm-opt=108 wasm2wat=1.0.32" built_anew
+part "the WebAssembly built anew: 11 comparisons" "rt wasm-opt=108 wasm2wat=1.0.32" built_anew
 part "the WebAssembly for old engines: 1 comparison" wasm-validate old_module
 while read -r entry made; do
   part "in Node.js, $entry" node prints "$made checks right, 0 wrong" in_node "$vectors/verdicts.tsv" "$entry"
