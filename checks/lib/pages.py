@@ -73,7 +73,7 @@ def is_named(words: str, link: str, text: str) -> bool:
 
 def link_errors(texts: Texts) -> Iterator[str]:
     """Returns the links that lead to no file, folder or heading of the repository, or to one of another name."""
-    form = re.compile(r"\[([^\]]*)\]\(([^\s)]+)\)")
+    form = re.compile(r"\[([^\]]*)\](?:\(<?|: +)([^\s)>]+)")
     for page, text in pages_of(texts).items():
         text = FENCE.sub("", text)
         if "```" in text:
