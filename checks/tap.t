@@ -125,7 +125,7 @@ expect 2 "ran '' '' --wrong"
 expect 0 "ran 'echo ok 1' 'echo --wrong > .proverc'; rm .proverc"
 expect 0 "ran '[ \"\${BUILT-}\" ] || echo ok 1' 'export BUILT=\"rt ci\"'"
 # shellcheck disable=SC2016 # the check expands it
-text='[ $0 = checks/rt.t ] || [ "$BUILT" ] && echo ok 1'
+text='[ $0 = ../checks/rt.t ] || [ "$BUILT" ] && echo ok 1'
 expect 0 "ran '$text' 'cp checks/rt.t checks/lint.t'"
 # only one of two checks is run
 expect "1\ndid not pass: checks/lint.t" \
@@ -133,7 +133,7 @@ expect "1\ndid not pass: checks/lint.t" \
 # ended, it ends checks, and without a part of it does not
 while IFS='|' read -r edit files; do
   expect "0\n130\n$files" "ran 'echo ok 1' 'sed -i \"$edit\" .ci/run'; rm -f [ab]
-    stub checks/rt.t 'touch a; sleep 1; touch b'
+    stub checks/rt.t 'touch ../a; sleep 1; touch ../b'
     .ci/run > out & until [ -e a ]; do sleep .1; done; kill \$!; wait \$!; echo \$?; sleep 1.2; ls [ab]"
 done << 'END'
 |a
