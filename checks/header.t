@@ -6,11 +6,10 @@
 
 The header's declarations are made from the crate. The preprocessed header has to be these
 declarations and nothing else, in C and in C++, and its macros have to be the crate's constants. A text
-in no known form is an exception. Then the differences of checks/lib/header.edits are planted, which
-all have to be found.
+in no known form is an exception. Then the differences of checks/lib/header.edits are planted, each of which
+has to be found as what it is.
 """
 import re
-import shutil
 import subprocess
 import sys
 from collections.abc import Iterable, Iterator
@@ -60,9 +59,8 @@ Structs = dict[str, list[tuple[str, str]]]
 class Declared(NamedTuple):
     """What the crate has, from which the header and the bindings are judged."""
 
-    declarations: list[str]
-    macros: dict[str, str]
-    structs: Structs
+    declarations: set[str]
+    macros: set[str]
     statuses: dict[str, str]
     lengths: dict[str, str]
     version: str
@@ -103,11 +101,16 @@ def structs_of(sources: list[Item]) -> Structs:
     return found
 
 
-def declaration(item: Item) -> str:
-    """Returns the declaration of an export. checks/c_library.t sees any other."""
-    [(name, parameters, result)] = re.findall(r"^(\w+)\((.*)\) -> (\w+)$", item.signature())
-    parts = ", ".join(map(parameter, filter(None, parameters.split(", ")))) or "void"
-    return f"{TYPES.get(result, f'multihash_{result.lower()}')} {name}({parts});"
+def declared(structs: Structs, functions: list[Item]) -> Iterator[str]:
+    """Returns declarations in C. checks/c_library.t sees any other function."""
+    for name, fields in structs.items():
+        typed = [("multihash_status" if field == "status" else kind, field) for field, kind in fields]
+        members = " ".join(f"{kind} {field};" for kind, field in typed)
+        yield flat(f"typedef struct {name} {{ {members} }} {name};")
+    for item in functions:
+        [(name, parameters, result)] = re.findall(r"^(\w+)\((.*)\) -> (\w+)$", item.signature())
+        parts = ", ".join(map(parameter, filter(None, parameters.split(", ")))) or "void"
+        yield flat(f"{TYPES.get(result, f'multihash_{result.lower()}')} {name}({parts});")
 
 
 def numbers_of(sources: list[Item]) -> dict[str, str]:
@@ -117,21 +120,14 @@ def numbers_of(sources: list[Item]) -> dict[str, str]:
     return {constant[1]: constant[2] for constant in found if constant}
 
 
-def declarations(
-    structs: Structs, exports: list[Item], statuses: dict[str, str], texts: list[tuple[str, str]]
-) -> Iterator[str]:
-    """Returns the declarations that the header has to have, in C."""
-    yield "typedef uint32_t multihash_status;"
+def status_declarations(statuses: dict[str, str], texts: list[tuple[str, str]]) -> Iterator[str]:
+    """Returns the declarations of statuses and their texts, in C."""
+    yield "typedef uint32_t multihash_status ;"
     numbers = ", ".join(f"MULTIHASH_{name} = {number}" for name, number in statuses.items())
-    yield f"enum {{ {numbers} }};"
-    for name, fields in structs.items():
-        typed = [("multihash_status" if field == "status" else kind, field) for field, kind in fields]
-        members = " ".join(f"{kind} {field};" for kind, field in typed)
-        yield f"typedef struct {name} {{ {members} }} {name};"
-    yield from map(declaration, exports)
+    yield flat(f"enum {{ {numbers} }};")
     cases = " ".join(f'{f"case MULTIHASH_{name}" if name else "default"}: return "{text}";' for name, text in texts)
     signature = "static inline const char *multihash_status_text(multihash_status status)"
-    yield f"{signature} {{ switch (status) {{ {cases} }} }}"
+    yield flat(f"{signature} {{ switch (status) {{ {cases} }} }}")
 
 
 def of_crate(files: Files) -> Declared:
@@ -148,8 +144,9 @@ def of_crate(files: Files) -> Declared:
     major, minor, patch = (numbers[part] for part in ("MAJOR", "MINOR", "PATCH"))
     version, number = f"{major}.{minor}.{patch}", f"{major}{minor:>02}{patch:>02}"
     macros = {"H": "", "VERSION": f'"{version}"', "VERSION_NUMBER": number, **lengths}
-    structs = structs_of(every)
-    return Declared([*declarations(structs, exports, statuses, texts)], macros, structs, statuses, lengths, version)
+    lines = {f"#define MULTIHASH_{name} {value}\n" for name, value in macros.items()}
+    declarations = {*status_declarations(statuses, texts), *declared(structs_of(every), exports)}
+    return Declared(declarations, lines, statuses, lengths, version)
 
 
 def preprocessed(text: str, language: str) -> tuple[set[str], str]:
@@ -168,15 +165,14 @@ def header_errors(header: str, crate: Declared, language: str) -> Iterator[str]:
     rest = flat(text)
     if language == "c++":
         rest = rest.removeprefix('extern "C" { ').removesuffix("}")
-    for wanted in map(flat, crate.declarations):
+    for wanted in sorted(crate.declarations):
         if wanted not in rest:
-            yield f"{language}: the header lacks {wanted}"
+            yield f"{language}: the header lacks {wanted[:99]}"
         rest = rest.replace(wanted, "", 1)
     if rest.strip():
-        yield f"{language}: the header has more than the crate: {rest.strip()}"
-    own = macros - preprocessed("", language)[0]
-    if own != {f"#define MULTIHASH_{name} {value}\n" for name, value in crate.macros.items()}:
-        yield f"{language}: the crate has {crate.macros}, and the header {own}"
+        yield f"{language}: the header has more than the crate: {rest.strip()[:99]}"
+    if other := (macros - preprocessed("", language)[0]) ^ crate.macros:
+        yield f"{language}: other macros: {flat(' '.join(sorted(other)))}"
 
 
 def constants_of(files: Files, folder: str, names: Iterable[str]) -> set[tuple[str, str]]:
@@ -194,17 +190,16 @@ def binding_errors(files: Files, crate: Declared) -> Iterator[str]:
     statuses = re.findall(r"'(\w+)'", group(r"\nconst STATUSES = \[([^\]]*)\];\n", files[f"{JS}/core.js"]))
     of_script = {(name.upper(), str(at)) for at, name in enumerate(statuses)} | constants_of(files, JS, crate.lengths)
     ffi = items(files[f"{RUST}/src/ffi.rs"])
-    of_rust = structs_of(ffi)
-    functions = {flat(declaration(it)) for item in ffi if item.kind == "extern" for it in item.members()}
-    for name, found, wanted in (
-        ("Rust's numbers", constants_of(files, RUST, numbers), {*numbers.items()}),
-        ("Python's numbers", constants_of(files, PYTHON, numbers), {*numbers.items()}),
-        ("JavaScript's numbers", of_script, {*numbers.items()}),
-        ("Rust's structs", of_rust, {name: crate.structs.get(name) for name in of_rust}),
-        ("Rust's functions", functions, functions & {*map(flat, crate.declarations)}),
+    functions = [it for item in ffi if item.kind == "extern" for it in item.members()]
+    for name, found in (
+        ("Rust's numbers", constants_of(files, RUST, numbers)),
+        ("Python's numbers", constants_of(files, PYTHON, numbers)),
+        ("JavaScript's numbers", of_script),
     ):
-        if found != wanted:
-            yield f"{name} are {found}, and the crate's {wanted}"
+        if other := found ^ {*numbers.items()}:
+            yield f"{name} and the crate's: {sorted(other)}"
+    for text in sorted({*declared(structs_of(ffi), functions)} - crate.declarations):
+        yield f"the crate does not have Rust's {text}"
     for version in re.findall(r"(?m)^MULTIHASH_C_(\S+) ", files[MAP]):
         if [*map(int, version.split("."))] > [*map(int, crate.version.split("."))]:
             yield f"{MAP} has a function of version {version}, and the crate is {crate.version}"
@@ -219,8 +214,8 @@ def error_of(files: Files) -> str:
     return "\n".join(errors)
 
 
-def make_edits(text: str) -> object:
-    return edits.apply({"a": "bb"}, edits.parse(f"# b\nfile: a\n{text}")[0].edits)
+def make_edit(text: str) -> object:
+    return edits.apply({"a": "bb"}, [edits.Edit("a", text, "c")])
 
 
 def read_source(text: str) -> object:
@@ -230,10 +225,7 @@ def read_source(text: str) -> object:
 
 def unread() -> Iterator[tap.Result]:
     """Plants edits that cannot be read or made, and sources in no known form."""
-    for read, texts in (
-        (make_edits, ("else", "old: b\nnew: c", "old: c\nnew: b", "old:\nnew: b")),
-        (read_source, UNREAD),
-    ):
+    for read, texts in ((make_edit, ("b", "c", "")), (read_source, UNREAD)):
         for text in texts:
             error = ""
             try:
@@ -248,7 +240,8 @@ def results() -> Iterator[tap.Result]:
     yield "the header and the bindings", error_of(files)
     for name, rows in groupby(edits.rows(LIB / "header.edits"), itemgetter(0)):
         changed = edits.apply(files, [edits.Edit(*row[1:]) for row in rows])
-        yield tap.planted(name, error_of({**files, **changed}))
+        found = error_of({**files, **changed}).partition("\n")[0]
+        yield f"planted: {name}", "" if found == name else f"found is: {found}"
     yield from unread()
 
 
@@ -257,9 +250,7 @@ def main() -> int:
         _, text = preprocessed(read_files()[HEADER], "c")
         print("\n".join(sorted(re.findall(r"(\w+)\([^()]*\);", text))))
         return 0
-    if not shutil.which("c++"):
-        return tap.report([tap.left_out("all", ["c++"])], 1)
-    return tap.report(results(), 30)
+    return tap.report(results(), 26)
 
 
 if __name__ == "__main__":

@@ -1,19 +1,20 @@
 #!/usr/bin/env python3
-"""Plants bugs in copies of the crates, and checks that the test of each fails.
+"""Plants bugs in copies of the crates, and checks that their tests fail, and no others.
 
 They are in bugs.edits, each with what has to see it; mutants.py tries those of the proof:
 
-    seen: CRATE MODULE::TEST [N]            the test fails; with N, the allocation N fails in it
-    seen: proof CRATE::FUNCTION CLAUSE..    goals of exactly these clauses of the function stay open
+    CRATE MODULE::TEST..                   these tests of the crate fail
+    proof CRATE::FUNCTION CLAUSE..         goals of exactly these clauses of the function stay open
 
-The bugs of one crate are planted in one copy, so each has a test of its own, which no other bug changes.
+A bug replaces whole lines, and keeps their words, of which one may differ. The bugs of one crate are planted in one
+copy.
 """
 import re
 import shutil
 import subprocess
 import sys
 import tempfile
-from collections import defaultdict
+from collections import Counter, defaultdict
 from collections.abc import Iterator
 from pathlib import Path
 from typing import NamedTuple
@@ -26,33 +27,21 @@ BUGS = Path(__file__).with_name("bugs.edits")
 
 
 class Bug(NamedTuple):
-    """A bug, and what sees it: a test, or a function and the clauses with open goals."""
+    """A bug, and what sees it: tests, or a function and its clauses."""
 
     name: str
-    seen_by: str
-    wanted: str
-    edits: list[edits.Edit]
+    seen_by: list[str]
+    path: str
+    old: str
+    new: str
 
 
-class Group(NamedTuple):
-    """What is tried together: the tests of a crate in which an allocation may fail, or its proof."""
-
-    crate: str
-    allocation: str
-    is_proof: bool = False
-
-
-def groups() -> dict[Group, list[Bug]]:
-    """Returns the bugs, by what tries them."""
-    found: dict[Group, list[Bug]] = defaultdict(list)
-    for name, _, seen, its_edits in edits.read(BUGS):
-        kind, *words = seen.split()
-        if kind == "proof":
-            function, *clauses = words
-            group, bug = Group(function.partition("::")[0], "", True), Bug(name, function, " ".join(clauses), its_edits)
-        else:
-            group, bug = Group(kind, "".join(words[1:])), Bug(name, words[0], "", its_edits)
-        found[group].append(bug)
+def read_bugs() -> dict[str, list[Bug]]:
+    """Returns the bugs by the crates whose tests see them, and those that the proof sees."""
+    found: dict[str, list[Bug]] = defaultdict(list)
+    for name, seen, *edit in edits.rows(BUGS):
+        where, *seen_by = seen.split()
+        found[where].append(Bug(name, seen_by, *edit))
     return found
 
 
@@ -63,54 +52,78 @@ def copy_crates(to: Path) -> None:
         shutil.copy(ROOT / name, to)
 
 
+def planted(text: str, bug: Bug) -> str:
+    """Returns a text with a bug."""
+    form = rf"(?m)^ *{re.escape(bug.old)}$"
+    if len(re.findall(form, text)) != 1:
+        raise ValueError(f"{bug.path} has these lines not once: {bug.old}")
+    old, new = (Counter(re.findall(r"\w+", lines)) for lines in (bug.old, bug.new))
+    if (old - new).total() > 1:
+        raise ValueError(f"more than a word is lost: {bug.new}")
+    return re.sub(form, lambda _: bug.new, text)
+
+
 def plant(folder: Path, bugs: list[Bug]) -> None:
     """Plants bugs in a copy of the crates."""
-    planted = [edit for bug in bugs for edit in bug.edits]
-    texts = {edit.path: (folder / edit.path).read_text("utf-8") for edit in planted}
-    for path, text in edits.apply(texts, planted).items():
-        (folder / path).write_text(text, "utf-8")
+    for bug in bugs:
+        file = folder / bug.path
+        file.write_text(planted(file.read_text("utf-8"), bug), "utf-8")
 
 
-def result_of(log: str, test: str) -> str:
-    """Returns how a test ended: 'fails', 'passes', or '' if it did not end."""
-    found = re.search(rf"(?ms)^test {re.escape(test)} \.\.\.(.*?)(?=^test |\Z)", log)
-    if not found or "no-answer" in found[1]:
-        return ""
-    return "fails" if found[1].split("\n")[0].endswith("FAILED") else "passes"
+def error_of(bugs: list[Bug], log: str) -> str:
+    """Compares the tests that failed with those that see bugs."""
+    failed = re.findall(r"(?m)^test (\S+) \.\.\. FAILED$", log)
+    wanted = [test for bug in bugs for test in bug.seen_by]
+    is_so = sorted(failed) == sorted(wanted) and "no-answer" not in log
+    return "" if is_so else f"{sorted({*failed} ^ {*wanted})}\n{log[-900:]}"
 
 
-def try_tests(group: Group, bugs: list[Bug]) -> Iterator[tap.Result]:
+def try_tests(crate: str, bugs: list[Bug]) -> str:
     """Runs a crate's tests with bugs planted, unproved."""
-    words = ["rt", "try", "--test", "--seconds", "300"]
-    words += ["--fail-alloc", group.allocation] if group.allocation else []
-    words += ["--", bugs[0].seen_by] if len(bugs) == 1 else []
     with tempfile.TemporaryDirectory(prefix="bugs-") as folder:
         copy_crates(Path(folder))
         plant(Path(folder), bugs)
-        home = Path(folder) / "crates" / group.crate
-        log = subprocess.run(words, cwd=home, text=True, capture_output=True).stdout
-    yield from judged(bugs, log)
+        words = ["rt", "try", "--test", "--seconds", "300"]
+        home = Path(folder, "crates", crate)
+        return error_of(bugs, subprocess.run(words, cwd=home, stdout=subprocess.PIPE, text=True).stdout)
 
 
-def judged(bugs: list[Bug], log: str) -> Iterator[tap.Result]:
-    """Returns which tests did not fail."""
-    for bug in bugs:
-        found = result_of(log, bug.seen_by)
-        error = f"{bug.seen_by} {found or 'does not end'}\n{'' if found else log[-300:]}"
-        yield bug.name, "" if found == "fails" else error
+def planted_errors() -> Iterator[tap.Result]:
+    """Judges logs, and plants bugs that are no edit of a line."""
+    bugs = [Bug("", ["a"], "", "", ""), Bug("", ["b", "c"], "", "", "")]
+    log = "test a ... FAILED\ntest b ... FAILED\ntest c ... FAILED\n"
+    yield "tests that fail", error_of(bugs, log)
+    for what, old, new in (
+        ("another fails", "test a", "test d ... FAILED\ntest a"),
+        ("one passes", "b ... FAILED", "b ... ok"),
+        ("one does not end", "c ... FAILED", "c ... FAILED\n    no-answer"),
+    ):
+        yield tap.planted(what, error_of(bugs, log.replace(old, new)))
+    text = "a b c\n  a b\na b\nb c d\n"
+    made = planted(text, Bug("", [], "", "b c d", "b (x) d"))
+    yield "a line", "" if made == text.replace("c d", "(x) d") else made
+    for what, old, new in (
+        ("a part of a line", "b c", "b x"),
+        ("lines that are there twice", "a b", "a x"),
+        ("two words less", "a b c", "a"),
+    ):
+        yield tap.planted(what, error_of_bug(text, Bug("", [], "", old, new)))
+
+
+def error_of_bug(text: str, bug: Bug) -> str:
+    try:
+        planted(text, bug)
+    except ValueError as error:
+        return str(error)
+    return ""
 
 
 def results() -> Iterator[tap.Result]:
     """Runs tests over the bugs that they have to see."""
-    found = {group: bugs for group, bugs in groups().items() if not group.is_proof}
-    for group, bugs in sorted(found.items()):
-        yield from try_tests(group, bugs)
-    names = [(group.crate, bug.seen_by) for group, bugs in found.items() for bug in bugs]
-    yield "each bug of tests has a test of its own", "" if len({*names}) == len(names) else "two have one"
-    bugs = [Bug("a test that fails, among others", "a", "", [])]
-    for log in ("test a ... ok\ntest ab ... FAILED", "test b ... FAILED", "test a ... FAILED\nno-answer"):
-        yield tap.planted(log, all(error for _, error in judged(bugs, log)))
-    yield from judged(bugs, "test b ... ok\ntest a ... FAILED")
+    for crate, bugs in read_bugs().items():
+        if crate != "proof":
+            yield crate, try_tests(crate, bugs)
+    yield from planted_errors()
 
 
 if __name__ == "__main__":

@@ -1,7 +1,7 @@
 #!/usr/bin/env python3
-"""Plants mutants in copies of the crates, and checks that the proof rejects each. bugs.py says where they are.
+"""Plants mutants in a copy of the crates, and checks that the proof rejects each. bugs.py says where they are.
 
-A function is proved against contracts, never against another's body, so one copy has a mutant of each function.
+A function is proved against contracts, never against another's body, so the copy has a mutant of each function.
 """
 import os
 import re
@@ -9,23 +9,27 @@ import shutil
 import subprocess
 import sys
 import tempfile
-from collections import defaultdict
 from collections.abc import Iterator
-from itertools import zip_longest
 from pathlib import Path
 
 import tap
-from bugs import Bug, Group, copy_crates, groups, plant
+from bugs import Bug, copy_crates, plant, read_bugs
 
-# a name that a proof cites is gone; a function that was not tried, as one that it calls is not proved
+CRATE = "crates/multihash"
+# a name that a proof cites is gone
 NAMES = re.compile(r"can be named from here|has no field|is not in scope|is no name|has no `")
-WAITS = re.compile(r"it calls `.* (?:is|are) not proved")
 
 
-def check(home: Path) -> tuple[int, str]:
-    """Checks a crate. Returns the status and what it printed."""
-    done = subprocess.run(["rt", "check"], cwd=home, text=True, stdout=subprocess.PIPE, stderr=subprocess.STDOUT)
-    return done.returncode, done.stdout
+def check(bugs: list[Bug]) -> str:
+    """Checks the library with mutants, with what c_library.t proved of it. Returns what is printed."""
+    with tempfile.TemporaryDirectory(prefix="mutants-") as folder:
+        copy_crates(Path(folder))
+        plant(Path(folder), bugs)
+        home, kept = Path(folder, CRATE), Path(os.environ.get("KEPT", ""), "copy", CRATE, "out")
+        if kept.exists():
+            shutil.copytree(kept, home / "out", symlinks=True)
+        out = subprocess.PIPE
+        return subprocess.run(["rt", "check"], cwd=home, text=True, stdout=out, stderr=subprocess.STDOUT).stdout
 
 
 def open_clauses(log: str, function: str) -> tuple[str, set[str]]:
@@ -47,58 +51,24 @@ def open_clauses(log: str, function: str) -> tuple[str, set[str]]:
     return state[2], {re.sub("^returns.*-clause-|(?<=^returns)-.*", "", goal) for goal in goals}
 
 
-def try_proof(group: Group, bugs: list[Bug]) -> Iterator[tap.Result]:
-    """Plants mutants in a copy of the crates, with what c_library.t proved of one."""
-    bodies: dict[str, list[Bug]] = defaultdict(list)
-    for bug in bugs:
-        bodies[bug.seen_by].append(bug)
-    with tempfile.TemporaryDirectory(prefix="mutants-") as folder:
-        copy = Path(folder) / "copy"
-        copy_crates(copy)
-        home = copy / "crates" / group.crate
-        kept = Path(os.environ.get("KEPT", ""), "copy", "crates", group.crate, "out")
-        if kept.exists():
-            shutil.copytree(kept, home / "out", symlinks=True)
-        status, log = check(home)
-        yield f"{group.crate} without a bug", log[-300:] if status else ""
-        shutil.copytree(copy, f"{folder}/proved", symlinks=True)
-        for planted in zip_longest(*bodies.values()):
-            yield from try_round(copy, group.crate, [bug for bug in planted if bug])
-
-
-def try_round(copy: Path, crate: str, bugs: list[Bug]) -> Iterator[tap.Result]:
-    """Checks a copy with mutants of several functions. One that calls another of these is tried again without it."""
-    shutil.rmtree(copy)  # else the functions of the last round are proved again
-    shutil.copytree(copy.with_name("proved"), copy, symlinks=True)
-    plant(copy, bugs)
-    _, log = check(copy / "crates" / crate)
-    waiting = [bug for bug in bugs if WAITS.search(open_clauses(log, bug.seen_by)[0])]
-    if len(waiting) == len(bugs):
-        waiting = []
-    yield from rejected([bug for bug in bugs if bug not in waiting], log)
-    if waiting:
-        yield from try_round(copy, crate, waiting)
-
-
 def rejected(bugs: list[Bug], log: str) -> Iterator[tap.Result]:
-    """Compares the clauses with open goals with those that bugs name."""
-    for bug in bugs:
-        state, found = open_clauses(log, bug.seen_by)
-        is_so = state != "proved" and found == {*bug.wanted.split()}
-        yield bug.name, "" if is_so and found else f"{bug.seen_by}: {state}; open are {sorted(found)}"
+    """Compares the clauses with open goals with those that see bugs."""
+    for name, (function, *clauses), *_ in bugs:
+        state, found = open_clauses(log, function)
+        is_so = state != "proved" and sorted(found) == sorted(clauses)
+        yield name, "" if is_so else f"{function}: {state}; open are {sorted(found)}"
 
 
 def results() -> Iterator[tap.Result]:
-    """Checks crates with mutants that the proof has to reject."""
-    for group, bugs in groups().items():
-        if group.is_proof:
-            yield from try_proof(group, bugs)
+    """Checks the library with mutants that the proof has to reject."""
+    bugs = read_bugs()["proof"]
+    yield from rejected(bugs, check(bugs))
     yield from planted_logs()
 
 
 def planted_logs() -> Iterator[tap.Result]:
     """Judges a function of which two clauses, and no others, have to have open goals, by what a check prints."""
-    bug = Bug("a function whose goals are open", "c::f::g", "ok err", [])
+    bug = Bug("a function whose goals are open", ["c::f::g", "ok", "err"], "", "", "")
     note, error = "note: it is not proved that it holds (`returns-clause-ok`)\n", "proofs/f/g/Answers.antt:1:2: error: "
     goal, state = f"{error}`returns-then-clause-err`: x\n", "fn c::f::g: not proved"
     yield from rejected([bug], goal + note + state)
