@@ -126,7 +126,7 @@ def command_errors(texts: Texts) -> Iterator[str]:
 
 
 def program_results(texts: Texts) -> Iterator[tap.Result]:
-    """Installs each package and runs its program; plants other outputs and a package."""
+    """Installs each package and runs its program; plants other outputs, and that there is no clone."""
     shown = {}
     with tempfile.TemporaryDirectory() as work:
         start.copy_repository(copy := Path(work) / "copy")
@@ -137,11 +137,10 @@ def program_results(texts: Texts) -> Iterator[tap.Result]:
                 continue
             error, shown[program.language] = start.run(program, copy, Path(work) / program.language)
             yield name, error
-        last = start.programs(texts[README])[-1]
-        commands = ("a package", "cmake -S $MH/none -B build", "true"), ("a program", "true", "false")
-        for what, install, command in commands:
-            fails = last._replace(install=install, command=command)
-            yield tap.planted(f"{what} that fails", start.run(fails, copy, Path(work) / what)[0])
+            nowhere = start.run(program, Path("none"), Path(work, f"{program.language}0"))
+            yield tap.planted(f"{name}, no clone", nowhere[0])
+        fails = start.programs(texts[README])[-1]._replace(install="true", command="false")
+        yield tap.planted("a program that fails", start.run(fails, copy, Path(work) / "fails")[0])
     yield "what the programs print", "\n".join(start.judge(texts[README], shown))
     yield tap.planted(f"{README}: a row less", [*start.judge(texts[README].replace("| [C, C++]", "| C"), shown)])
     yield tap.planted("another output", [*start.judge(texts[README], {"C": "code 1, digest hello"})])

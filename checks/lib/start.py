@@ -50,14 +50,7 @@ def programs(readme: str) -> list[Program]:
 
 def missing(language: str) -> list[str]:
     """Returns what is not installed that a program needs."""
-    gone = [tool for tool in TOOLS[language] if not shutil.which(tool)]
-    if language == "Rust" and not any(REGISTRY.glob("cc-1.*")):
-        gone.append("librust-cc-dev")
-    if language == "Python" and not gone:
-        command = ["/usr/bin/python3", "-c", "import setuptools, venv, wheel"]
-        if subprocess.run(command, capture_output=True).returncode:
-            gone.append("python3-setuptools, python3-venv or python3-wheel")
-    return gone
+    return [tool for tool in TOOLS[language] if not shutil.which(tool)]
 
 
 def copy_repository(to: Path) -> None:
@@ -83,18 +76,14 @@ def prepare(program: Program, folder: Path) -> dict[str, str]:
     if language == "Rust":
         home = folder / "cargo"
         home.mkdir()
-        lines = ["[net]", "offline = true", "[source.crates-io]", "replace-with = 'here'"]
-        lines += ["[source.here]", f"directory = '{REGISTRY}'", ""]
-        (home / "config.toml").write_text("\n".join(lines), "utf-8")
-        environment = {"CARGO_HOME": str(home), "CARGO_TARGET_DIR": f"{folder}/target"}
-        command = ["cargo", "init", "--quiet", "--vcs", "none", "--name", "app"]
-        subprocess.run(command, cwd=folder, check=True, env={**os.environ, **environment})
-        return environment
+        source = f"[source.crates-io]\nreplace-with = 'here'\n[source.here]\ndirectory = '{REGISTRY}'\n"
+        (home / "config.toml").write_text(f"[net]\noffline = true\n{source}", "utf-8")
+        subprocess.run(["cargo", "init", "--quiet", "--name", "app"], cwd=folder, check=True)
+        return {"CARGO_HOME": str(home)}
     if language == "C":
         root = f"{folder}/root"
-        found = {"PKG_CONFIG_PATH": f"{root}/usr/local/lib/pkgconfig", "PKG_CONFIG_SYSROOT_DIR": root}
-        return {"DESTDIR": root, **found}
-    assert language == "Rattle", language
+        packages = f"{root}/usr/local/lib/pkgconfig"
+        return {"DESTDIR": root, "PKG_CONFIG_PATH": packages, "PKG_CONFIG_SYSROOT_DIR": root}
     (folder / "crates").mkdir()
     (folder / "crates.txt").write_text(program.crates, "utf-8")
     return {}
