@@ -11,7 +11,6 @@
 Valgrind counts instructions. The program is that of 'rt ci', if BUILT says so; otherwise 'rt run'
 builds it.
 """
-import argparse
 import os
 import re
 import subprocess
@@ -92,6 +91,13 @@ def table(head: str, rows: Counts) -> str:
     return "\n".join([*lines, ""])
 
 
+def with_tables(page: str, tables: dict[str, Counts]) -> str:
+    """Returns the page with the counts of these tables, by their heads."""
+    for head, rows in tables.items():
+        page = re.sub(re.escape(head) + r"\n(?:\|.*\n)+", table(head, rows), page)
+    return page
+
+
 def differences(found: Counts, stored: Counts) -> str:
     """Returns the calls that are there alone or whose counts differ."""
     lines = [f"{name}: it is there alone" for name in found.keys() ^ stored.keys()]
@@ -107,9 +113,8 @@ def text_errors(page: str, names: list[str]) -> Iterator[str]:
     counts = rows_of(page, RUST)
     if [*counts, *rows_of(page, OTHERS)] != names:
         yield "the page has other rows than crates/speed/args"
-    for head in (RUST, FROM_C):
-        if table(head, rows_of(page, head)) not in page:
-            yield f"these are not the shares of the counts: {head}"
+    if with_tables(page, {head: rows_of(page, head) for head in (RUST, OTHERS, FROM_C)}) != page:
+        yield "its tables are not what --write makes of their counts"
     dearer = {name for name, (own, tuned, _) in counts.items() if own / tuned > 1.05}
     if dearer != {name for cell in rows_of(page, CAUSES) for name in re.findall("`(.*?)`", cell)}:
         yield f"the shares above 1.05 are of {sorted(dearer)}"
@@ -157,24 +162,17 @@ def write(programs: list[str], names: list[str]) -> None:
     counts = {name: [found[name] for found in columns] for name in names}
     if len(programs) == 1:
         counts = {name: [*found, *before[name][1:]] for name, found in counts.items()}
-    for head, rows in ((RUST, counts), (OTHERS, of_others), (FROM_C, count_c())):
-        page = re.sub(re.escape(head) + r"\n(?:\|.*\n)+", table(head, rows), page)
-    PAGE.write_text(page, "utf-8")
+    PAGE.write_text(with_tables(page, {RUST: counts, OTHERS: of_others, FROM_C: count_c()}), "utf-8")
 
 
 def main() -> int:
-    parser = argparse.ArgumentParser(description=__doc__, formatter_class=argparse.RawDescriptionHelpFormatter)
-    parser.add_argument("--write", action="store_true")
-    parser.add_argument("rust", nargs="*", metavar="TUNED DEFAULT")
-    given, program = parser.parse_args(), str(HOME / "out" / "speed")
-    if len(given.rust) not in (0, 2):
-        parser.error("one program alone: no column of shares can be made")
+    program = str(HOME / "out" / "speed")
     names = (HOME / "args").read_text("utf-8").splitlines()[1:]
     if os.environ.get("BUILT") != "rt ci":
         subprocess.run(["rt", "run", "--", "8", *names], cwd=HOME, stdout=subprocess.DEVNULL, check=True)
-    if not given.write:
+    if sys.argv[1:2] != ["--write"]:
         return tap.report(results(program, names))
-    write([program, *given.rust], names)
+    write([program, *sys.argv[2:]], names)
     return 0
 
 
