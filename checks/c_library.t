@@ -4,7 +4,7 @@
 # valgrind, with all warnings as errors; and runs the examples.
 # shellcheck source=checks/lib/tap.sh
 . "$(dirname "$0")/lib/tap.sh"
-plan 37 cc python3 rt
+plan 38 cc python3 rt
 # shellcheck source=checks/lib/proved.sh
 . checks/lib/proved.sh
 # shellcheck source=checks/lib/warnings.sh
@@ -84,10 +84,18 @@ look_at_library() {
 
 # ---- the header
 
-# The header compiles without other includes, also if it is included twice.
+# The header of a folder compiles without other includes, also if it is included twice.
 stands_alone() {
   printf '#include "multihash.h"\n#include "multihash.h"\nint main(void) { return 0; }\n' > "$work/alone.c"
-  "$@" -I "$c/include" -fsyntax-only "$work/alone.c"
+  "${@:2}" -I "$1" -fsyntax-only "$work/alone.c"
+}
+
+planted_header() {
+  local edit
+  for edit in '/include <stdint/d' 's/ifndef MULTIHASH_H/if 1/'; do
+    sed "$edit" "$c/include/multihash.h" > "$work/multihash.h"
+    rejects "multihash.h:" stands_alone "$work" cc
+  done
 }
 
 # ---- programs
@@ -104,9 +112,21 @@ build_and_run() {
 faulty() {
   sed "s/multihash_front front = {0};/& volatile int most = __INT_MAX__; $2; (void)most;/" "$c/speed/plain.c" \
     > "$work/faulty.c"
-  build_and_run faulty "$1" cc -g -DHEAP "${@:3}" "$work/faulty.c" "${tests[@]}"
+  build_and_run faulty "$1" cc "${@:3}" "$work/faulty.c" "${tests[@]}"
 }
 overread="most = length ? bytes[length] : 0"
+
+# The compiler has put both sanitizers into a program.
+is_sanitized() {
+  nm "$work/$1" > "$work/symbols"
+  grep __asan_init "$work/symbols"
+  grep __ubsan_handle "$work/symbols"
+}
+
+sanitized() {
+  build_and_run "$1" "" "${@:2}" "${sanitize[@]}" "${tests[@]}" -x none "$library"
+  is_sanitized "$1"
+}
 
 # The tests over vectors of which one in the middle is wrong.
 wrong_vector() {
@@ -117,11 +137,10 @@ wrong_vector() {
 
 # What a compiler has to pass: its command, with the flags for the language.
 test_compiler() {
-  local name=$1 from=("${@:2}") test=("${tests[@]}" -x none "$library")
-  try "$name, header alone" stands_alone "${from[@]}"
-  try "$name, plain" build_and_run "$name" "" "${from[@]}" -O2 "${test[@]}"
-  try "$name, address and undefined-behaviour sanitizers" build_and_run "$name-san" "" "${from[@]}" "${sanitize[@]}" \
-    "${test[@]}"
+  local name=$1 from=("${@:2}")
+  try "$name, header alone" stands_alone "$c/include" "${from[@]}"
+  try "$name, plain" build_and_run "$name" "" "${from[@]}" -O2 "${tests[@]}" -x none "$library"
+  try "$name, address and undefined-behaviour sanitizers: 3 comparisons" sanitized "$name-san" "${from[@]}"
 }
 
 test_compilers() {
@@ -173,6 +192,7 @@ example_in() { block_of "$1" c | diff bindings/c/examples/show.c -; }
 stream_example() {
   sed "$1" bindings/c/examples/stream.c > "$work/stream.c"
   cc "${c_flags[@]}" "${sanitize[@]}" -I "$c/include" -I "$work" "$c/tests/stream.c" "$library" -o "$work/stream"
+  is_sanitized stream
   "$work/stream"
 }
 
@@ -193,6 +213,7 @@ needs="nm objdump ar" look_at_library
 try "tests of the exports" calls_each "$c"/tests/{test,models}.c
 try "tests without one" rejects "> multihash_version" calls_each "$c/tests/models.c"
 test_compilers
+try "planted headers: 2 comparisons" planted_header
 try "warnings: 9 comparisons" warns "strict-prototypes missing-prototypes" cc "${c_flags[@]}"
 needs=c++ try "warnings of C++: 7 comparisons" warns "" c++ "${cpp_flags[@]}" -x c++
 try "a read after an input" rejects heap-buffer-overflow faulty "" "$overread" "${sanitize[@]}"
@@ -200,9 +221,9 @@ try "a sum that is too large" rejects "signed integer overflow" faulty "" most++
 try "each check of the tests" prints "drawn: 2000, checks: 5898144, results: 07c76edb" "$work/cc" "$list" 1 2000
 try "a wrong vector" rejects "verdicts.c:29: not so: strcmp(" wrong_vector
 # each access of the library, which the compilers' sanitizers do not see
-needs=valgrind try valgrind build_and_run valgrind "${valgrind[*]}" cc "${c_flags[@]}" -g -O1 -DHEAP "${tests[@]}" \
+needs=valgrind try valgrind build_and_run valgrind "${valgrind[*]}" cc "${c_flags[@]}" "${heap[@]}" "${tests[@]}" \
   "$library"
-needs=valgrind try "a read that valgrind sees" rejects "Invalid read" faulty "${valgrind[*]}" "$overread"
+needs=valgrind try "a read that valgrind sees" rejects "Invalid read" faulty "${valgrind[*]}" "$overread" "${heap[@]}"
 needs=qemu-x86_64 try "a processor of the baseline: 7 comparisons" old_processor
 # what is counted beside the library
 try "C by hand" build_and_run plain "" cc "${c_flags[@]}" -O2 "$c/speed/plain.c" "${tests[@]}"
@@ -211,5 +232,5 @@ try "what is planted in C by hand: 12 comparisons" planted_in_c
 try "the example of the page" example_in bindings/c/README.md
 sed 's/int main(void)/int main()/' bindings/c/README.md > "$work/page.md"
 try "another example" rejects "> int main()" example_in "$work/page.md"
-try "the reader of a stream" stream_example ""
-try "what is planted in it: 6 comparisons" planted_in_stream
+try "the reader of a stream: 2 comparisons" stream_example ""
+try "what is planted in it: 18 comparisons" planted_in_stream

@@ -3,7 +3,8 @@
 # shellcheck disable=SC2034,SC2154 # what others use, or have set
 warnings=(-Wall -Wextra -Wpedantic -Wconversion -Wsign-conversion -Wshadow -Wcast-qual -Werror)
 c_flags=(-std=c11 "${warnings[@]}" -Wstrict-prototypes -Wmissing-prototypes)
-sanitize=(-g -O1 -DHEAP "-fsanitize=address,undefined" -fno-sanitize-recover=all)
+heap=(-g -O1 -DHEAP)
+sanitize=("${heap[@]}" "-fsanitize=address,undefined" -fno-sanitize-recover=all)
 
 # A compiler rejects each of these with an error of its own; the first word has more kinds.
 warns() {
