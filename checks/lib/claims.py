@@ -43,46 +43,43 @@ def flat(text: str) -> str:
     return " ".join(text.split())
 
 
+def whole(text: str) -> str:
+    """Returns the form of a text that begins and ends where words do; a literal is found sooner than what is before."""
+    form = re.escape(text)
+    return rf"{form}(?<![\w-]{form})(?![\w-])"
+
+
 @cache
-def sources(below: tuple[str, ...] = ()) -> dict[str, str]:
+def sources(below: tuple[str, ...] = ("",)) -> dict[str, str]:
     """Returns the texts of the sources in these folders, of all if none is named."""
-    names = [name for name in paths() if Path(name).suffix not in NO_SOURCES and not name.endswith(NO_TEXTS)]
-    is_below = re.compile("|".join(rf"{re.escape(folder)}(?:/|$)" for folder in below))
-    return {name: read(name) for name in names if is_below.match(name)}
+    names = (name for name in paths() if name.startswith(below))
+    return {name: read(name) for name in names if Path(name).suffix not in NO_SOURCES and not name.endswith(NO_TEXTS)}
 
 
 @cache
-def flat_sources(below: tuple[str, ...]) -> str:
-    return flat("\n".join(sources(below).values())).replace("pub ", "")
+def known_text(below: tuple[str, ...]) -> str:
+    """Returns the sources of these folders, and the paths of all files there."""
+    names = [name.replace("/src/", "/") for name in paths() if name.startswith(below)]
+    return flat("\n".join([*sources(below).values(), *names])).replace("pub ", "")
 
 
 def folders(page: str) -> tuple[str, ...]:
-    """Returns where the names of a page are looked up; none is everywhere."""
+    """Returns where the names of a page are looked up."""
     if page.startswith("bindings/c/"):
         return "bindings/c", "CMakeLists.txt", "tools", "checks"
     if page.startswith("bindings/"):
         return "/".join(page.split("/")[:2]), "bindings/c/include", "checks/rust.t"
-    return ("crates", "checks") if page in (FORMAT, DIFFERENCES, VECTORS, CALLING) else ()
+    return ("crates", "checks") if page in (FORMAT, DIFFERENCES, VECTORS, CALLING) else ("",)
 
 
 # ---- numbers
 
-WORDS = "zero one two three four five six seven eight nine ten".split()
+# numbers that are in no name, and what compares them or a name
+COMPARES = r"\b(?:above|at least|at most|below|(?:fewer|less|more) than|over(?! `)|up to) "
 NUMBER = re.compile(
-    r"(?<![\w.\-/^#+\\])(?:2\^\d+|\d[\d,]*\d(?:\.\d+)*|\d(?:\.\d+)*|(?:%s)(?!-?\w))(?![\w-]|\.\w)"
-    % "|".join([*WORDS[3:], "sixteen", "hundred", "thousand"])
+    rf"(?:{COMPARES})?(?<![\w.\-/^#+\\])(?:2\^\d+|\d(?:[\d,.]*\d)?|(?:three|four|five|six|seven|eight|nine|ten"
+    rf"|sixteen|hundred|thousand)(?!-))(?![\w-]|\.\w)|{COMPARES}`[^`]*`|MULTIHASH_\w+_MAX|\bor (?:fewer|less|more)\b"
 )
-# a number with what compares it
-COMPARED = re.compile(
-    r"(?:\b(?:above|at least|at most|below|fewer than|less than|more than|over|up to) )?(?P<number>%s)"
-    r"(?: or (?:fewer|less|more)\b)?" % NUMBER.pattern
-)
-# what compares a name
-NAMED = r"(?P<number>(?:above|at least|at most|below|fewer than|less than|more than|up to) `[^`]*`)"
-# a word and the number after it; words that say nothing of it
-PAIR = re.compile(r"([\w+.-]*\w)[\s`(,:=|/\"'>\[*-]{1,3}(?=(%s))" % NUMBER.pattern)
-WEAK = {*"a about above an and as at below by bytes first for from has have in is least most of on or".split()}
-WEAK |= {"than", "the", "to", "up", "with"}
 # bytes and rows that other functions compare, an example and a date of the man page, numbers of lists, links
 NO_PROSE = [
     re.compile(HEX + r"|`[0-9a-fA-F]{4,}`|^\| `[\w:]+` \| [A-Z][^|]*\. \|$", re.M),
@@ -91,88 +88,31 @@ NO_PROSE = [
     re.compile(r"^\|[^|`]*\| \d+ \|$", re.M),  # counted
     re.compile(r"^\| [\d^ -]+ \| +\|$|\| +\| \d* \|$|^\| `MULTIHASH_\w+` \| \d|^\d\. |\]\([^)]*\)", re.M),
 ]
-# the sources of limits and versions. header.t compares the header with the crate
-VALUES = {
-    "capacity": ("crates/mh_show/src/show.rt", r"Multihash::<(\d+)>::from_bytes"),
-    "input": ("crates/mh_show/src/run.rt", r"const MOST_INPUT: usize = (\d+);"),
-    "status": ("crates/mh_show/src/run.rt", r"tell\(alloc, err, &e\);\n +(\d+)\n"),
-    "continuation": ("crates/multihash/specs/Varint.antt", r"\nmax_continuation = (\d)\n"),
-    "bits": ("crates/multihash/specs/Varint.antt", r"varint_limit = 2 \^ (\d+)\n"),
-    "digest": (HEADER, r"MULTIHASH_DIGEST_MAX (\d+)\n"),
-    "length": (HEADER, r"MULTIHASH_LENGTH_MAX (\d+)\n"),
-    "scale": (HEADER, r"MULTIHASH_SCALE_LENGTH_MAX (\d+)\n"),
-    "head": (HEADER, r"MULTIHASH_HEAD_MAX (\d+)\n"),
-    "portable": ("bindings/c/src/memory.h", r"BLOCK_BITS (\d+)"),
-    "version": (HEADER, r'MULTIHASH_VERSION "(.*)"'),
-    "python": ("bindings/python/pyproject.toml", r'requires-python = ">=(.*)"'),
-    "upstream": ("bindings/rust/multihash/Cargo.toml", r'version = "(.*)"'),
-    "rust": ("bindings/rust/Cargo.toml", r'rust-version = "(.*)"'),
-    "cmake": ("CMakeLists.txt", r"cmake_minimum_required\(VERSION (.*)\)"),
-}
 
 
 @cache
-def values() -> dict[str, str]:
-    """Returns the limits and the versions that the sources have."""
-    found = {name: re.findall(form, read(file))[0] for name, (file, form) in VALUES.items()}
-    digest, length, continuation = (int(found[name]) for name in ("digest", "length", "continuation"))
-    found |= {"over": str(digest + 1), "seen": str(int(found["head"]) + digest), "most": str(continuation + 1)}
-    found |= {"long": str(length - digest), "short": str(length - digest - 1)}  # a length of one byte less
-    found |= {"eight": WORDS[continuation], "nine": WORDS[continuation + 1]}
-    return found | {"input": f"{int(found['input']):,}"}
-
-
-@cache
-def phrases() -> tuple[str, ...]:
-    lines = Path(__file__).with_name("numbers.txt").read_text("utf-8").splitlines()[1:]
-    its_values = {name: re.escape(value) for name, value in values().items()}
-    return tuple(line.format(**its_values) for line in lines)
-
-
-@cache
-def known_pairs() -> set[tuple[str, str]]:
-    """Returns the words after which the sources have one number, with it."""
-    texts = (flat(text) for name, text in sources().items() if name != HEADER)
-    pairs = {pair for text in texts for pair in PAIR.findall(text) if pair[0] not in WEAK}
-    several = Counter(word for word, _ in pairs)
-    return {(word, number) for word, number in pairs if several[word] == 1}
-
-
-def prose(text: str) -> str:
-    """Returns the text, of blocks the comments, without what other functions compare, and what links lead to."""
+def prose(page: str, text: str) -> str:
+    """Returns what a page says, of blocks and of the header the comments, without what other functions compare."""
+    if page == HEADER:
+        return flat(" ".join(re.findall(r"/\*.*?\*/", text, re.S)))
     text = FENCE.sub(lambda block: "\n".join(COMMENT.findall(block[2])), text)
     for form in NO_PROSE:
         text = form.sub(" ", text)
-    return text
+    return flat(text)
 
 
-def is_exact(phrase: str, text: str) -> bool:
-    """Returns whether the phrase has the numbers of this text alone."""
-    return not any(re.fullmatch(phrase, f"{text[: it.start()]}77{text[it.end() :]}") for it in NUMBER.finditer(text))
-
-
-def flat_prose(page: str, text: str) -> str:
-    return flat(prose(text) if page != HEADER else " ".join(re.findall(r"/\*.*?\*/", text, re.S)))
-
-
-def phrase_errors(pages: dict[str, str]) -> Iterator[str]:
-    """Returns the phrases that no page has."""
-    told = "\n".join(flat_prose(page, text) for page, text in pages.items())
-    yield from (phrase for phrase in phrases() if not re.search(phrase, told))
-
-
-def number_errors(page: str, text: str) -> Iterator[str]:
-    """Returns the numbers that no phrase has, with what compares them, and that no source has after the same word."""
-    text = flat_prose(page, text)
-    found = [(phrase, match) for phrase in phrases() for match in re.finditer(phrase, text)]
-    spans = [match.span() for phrase, match in found if is_exact(phrase, match[0])]
-    before = {match.start(2): match[1] for match in PAIR.finditer(text)}
-    names = re.finditer(r"(?P<number>MULTIHASH_\w+_MAX)" if page == HEADER else NAMED, text)  # of numbers
-    for match in (*COMPARED.finditer(text), *names) if page != CONTRACTS else ():
+def number_errors(pages: dict[str, str]) -> Iterator[str]:
+    """Returns the phrases of numbers.txt that the pages do not have as often, and the numbers that are in none."""
+    told = "\n".join(prose(page, text) for page, text in pages.items() if page != CONTRACTS)
+    spans = []
+    for line in Path(__file__).with_name("numbers.txt").read_text("utf-8").splitlines()[1:]:
+        times, _, phrase = line.partition(" ")
+        spans += (found := [it.span() for it in re.finditer(whole(phrase), told)])
+        if str(len(found)) != times:
+            yield f"'{phrase}' is there {len(found)} times"
+    for match in NUMBER.finditer(told):
         if not any(start <= match.start() and match.end() <= end for start, end in spans):
-            pair = before.get(match.start("number"), ""), match[0]
-            if pair not in known_pairs():
-                yield f"no source has this number: {text[max(match.start() - 30, 0) : match.end() + 20]}"
+            yield f"numbers.txt does not have {told[max(match.start() - 30, 0) : match.end() + 20]}"
 
 
 # ---- names
@@ -192,14 +132,8 @@ to_bytes(&self, alloc) -> Result<Vec<u8>, Error>; write(w: W); x.entry; x.new; x
 
 @cache
 def is_known(span: str, below: tuple[str, ...]) -> bool:
-    """Returns whether a source of these folders has a text between words, or a file or folder is named so."""
-    text, at = flat_sources(below), -1
-    while (at := text.find(span, at + 1)) >= 0:
-        if not re.match(r"[\w-]", text[at - 1]) and not re.match(r"[\w-]", text[at + len(span) :][:1]):
-            return True
-    name = re.escape(span.strip("./").replace("::", "/"))
-    names = (form for path in paths() for form in (path, path.replace("/src/", "/")))
-    return any(re.search(rf"(?:^|/){name}(?:$|/|\.\w+$)", path) for path in names)
+    """Returns whether a source or a path below these folders has a text, between other words."""
+    return any(re.search(whole(form), known_text(below)) for form in (span, span.strip("./").replace("::", "/")))
 
 
 def name_errors(page: str, text: str) -> Iterator[str]:
@@ -382,7 +316,7 @@ def usage_errors(page: str, text: str) -> Iterator[str]:
 
 def block_errors(page: str, text: str) -> Iterator[str]:
     """Returns the lines of blocks that no source has, if no other check reads the block."""
-    known = flat_sources(folders(page)) + " ".join(paths())
+    known = known_text(folders(page))
     for block in (block for block in own_blocks(page, text) if block[1] != "sh"):
         lines = [flat(COMMENT.sub("", line)) for line in block[2].splitlines()]
         if page == ARCHITECTURE:  # a picture
