@@ -1,9 +1,8 @@
-"""Compares numbers, names, sentences, commands and blocks of pages with the sources.
+"""Compares numbers, quotes and sentences of pages with the sources.
 
-A number is one of a phrase of numbers.txt, or is in a source after the same word. What is in backquotes is in a source
-of the page's folders. A sentence that is nearly one of a source's comments, or of another page, is the same, and two
-have one order. A command has the form of its usage. The lines of a block are those of a source, unless another check
-runs them.
+Numbers are in phrases of numbers.txt. What is in backquotes, and the lines of a block that no other check runs, are in a
+source of the page's folders or in quotes.txt. A sentence that is nearly one of a source's comments, or of another page,
+is the same, and two have one order.
 """
 import re
 import subprocess
@@ -24,7 +23,7 @@ FENCE = re.compile(r"^ *```(\S*)[^\n]*\n(.*?)^ *```$", re.M | re.S)
 HEX = r"`((?:[0-9a-f]{2} )*[0-9a-f]{2})`"
 COMMENT = re.compile(r"(?:^|(?<=\s))(?:#|//)(?= )([^\n]*)", re.M)
 NO_SOURCES = {".md", ".a", ".edits", ".tsv", ".wasm"}
-NO_TEXTS = ("checks/lib/claims.py", "checks/lib/numbers.txt", "bytes.js", "module.h")  # lists of what no source has
+NO_TEXTS = ("checks/lib/numbers.txt", "checks/lib/quotes.txt", "bytes.js", "module.h")  # lists of what no source has
 
 
 @cache
@@ -115,39 +114,63 @@ def number_errors(pages: dict[str, str]) -> Iterator[str]:
             yield f"numbers.txt does not have {told[max(match.start() - 30, 0) : match.end() + 20]}"
 
 
-# ---- names
+# ---- quotes
 
-# what is in backquotes and in no source: names of others, and what stands for several texts
-ELSEWHERE = """\
-#[tactic(..)]; &mut r; (x : T) × P; (x : T) → P; -DMULTIHASH_C_ARCHIVE=FILE; -DMULTIHASH_C_PROGRAM=FILE
--DMULTIHASH_C_SHARED=OFF; /usr/local; Arbitrary; area: what changes; c.from_residual-in_err-NAME.ensures.1
-c.in_err-NAME.ensures.CLAUSE; checks/NAME.t; CMAKE_PREFIX_PATH; const fn; crates/NAME
-crypto.timingSafeEqual; CRYPTO_memcmp; From<Multihash<S>>; gcc-aarch64-linux-gnu; hmac.compare_digest
-IfSome (R.rest r.old) P; LD_LIBRARY_PATH=PREFIX/lib; min(S, 255) + 11; MULTIHASH_C_STATIC; P → Q
-PKG_CONFIG_PATH=PREFIX/lib/pkgconfig; postMessage; python3-dev; rattle-kit-13f; read(r: R); requires { S < 65536 }
-Result: PASS; returns-in_err-NAME; S + 10; socket.makefile("rb"); tests_*
-the borrow checker does not cover this function yet; to_bytes(&self) -> Vec<u8>
-to_bytes(&self, alloc) -> Result<Vec<u8>, Error>; write(w: W); x.entry; x.new; x.now; x.old; {:?}; λ x. .."""
+# the languages or first words of blocks that another check compiles, runs or compares, and the number of these blocks
+READ_BY_OTHERS = {
+    README: (("text", "js", "python", "rust", "c", "sh"), 9),  # run, byte_errors
+    C: (("c", "go"), 3),  # c_library.t, install.t
+    JS: (("html", "js\nimport { decode, MultihashError }"), 2),  # test.sh
+    PYTHON: (("python",), 12),  # its tests
+    RUST: (("rust", "toml"), 2),  # its tests, as RUST_C's, and rust.t
+    RUST_C: (("rust",), 2),
+    FORMAT: (("\n", "text"), 4),  # byte_errors
+    VECTORS: (("text",), 1),  # byte_errors
+    ARCHITECTURE: (("sh",), 1),  # apt-get
+}
 
 
 @cache
-def is_known(span: str, below: tuple[str, ...]) -> bool:
+def elsewhere() -> set[str]:
+    """Returns what is quoted and in no source: commands and names of others, and what stands for several texts."""
+    return {*Path(__file__).with_name("quotes.txt").read_text("utf-8").splitlines()}
+
+
+@cache
+def is_known(quote: str, below: tuple[str, ...]) -> bool:
     """Returns whether a source or a path below these folders has a text, between other words."""
-    return any(re.search(whole(form), known_text(below)) for form in (span, span.strip("./").replace("::", "/")))
+    forms = {quote, quote.strip("./").replace("::", "/")}
+    return quote in elsewhere() or any(re.search(whole(it), known_text(below)) for it in forms)
 
 
-def name_errors(page: str, text: str) -> Iterator[str]:
-    """Returns what is in backquotes, and neither a command nor in the sources of the page's folders.
+def lines_of_blocks(page: str, text: str) -> Iterator[str]:
+    """Returns the lines of blocks that no other check reads, without comments, and names in comments."""
+    others, number = READ_BY_OTHERS.get(page, ((), 0))
+    for block in FENCE.finditer(text):
+        if f"{block[1]}\n{block[2]}".startswith(others):
+            number -= 1
+        elif page == ARCHITECTURE:  # a picture
+            yield from re.findall(r"(?<![\w.-])-{0,2}([A-Za-z_][\w-]+(?:\.\w+)?)", block[2])
+        else:
+            yield from (flat(COMMENT.sub("", line)) for line in re.split(r"(?<!\\)\n", block[2]))
+        comments = " ".join(COMMENT.findall(block[2])) if page != README else ""  # start.py reads them
+        yield from re.findall(r"\w+(?:(?:::|\.)\w+)+|\w*(?:_|[a-z][A-Z])\w*|--[\w-]+", comments)
+    if number:
+        raise ValueError(f"other checks read {number} blocks less, or more")
 
-    So are names in comments of blocks, but for README.md's, which start.py reads.
-    """
-    spans = {*re.findall(r"`([^`\n]+)`", FENCE.sub("", text))} if page != CONTRACTS else set()
-    comments = " ".join(it for block in FENCE.findall(text) for it in COMMENT.findall(block[1]) if page != README)
-    for span in spans | {*re.findall(r"\w+(?:(?:::|\.)\w+)+|\w*(?:_|[a-z][A-Z])\w*", comments)}:
-        is_command = " " in span and span.split()[0].rpartition("/")[2] in usages()[1]
-        if not is_command and not re.fullmatch("[0-9a-fA-F ]+", span) and span not in re.split("; |\n", ELSEWHERE):
-            if not is_known(span, folders(page)):
-                yield f"no source has {span}"
+
+def quote_errors(page: str, text: str) -> Iterator[str]:
+    """Returns what is in backquotes or in a block and in no source of the page's folders, or in another file than the
+    page says."""
+    if page == CONTRACTS:
+        return
+    prose = flat(FENCE.sub("", text))
+    for quote in {*re.findall(r"`([^`]+)`", prose), *lines_of_blocks(page, text)}:
+        if not re.fullmatch("[0-9a-fA-F ]*", quote) and not is_known(quote.replace("pub ", ""), folders(page)):
+            yield f"no source has {quote}"
+    for *names, place in re.findall(r"`([^` ]+)`(?: and `([^` ]+)`)? of `([^`]+)`", prose):
+        files = tuple(it for it in paths() if re.search(whole(place.replace("::", "/")), it.replace("/src/", "/")))
+        yield from (f"{place} has no {name}" for name in names if name and files and not is_known(name, files))
 
 
 # ---- sentences
@@ -227,100 +250,3 @@ def alike(words: list[str], others: list[str]) -> float:
     blocks = SequenceMatcher(None, words, others, False).get_matching_blocks()
     several = sum(block.size for block in blocks if block.size > 2) / len(words)
     return max(several if len(words) > 7 else 0, 2 * sum(block.size for block in blocks) / (len(words) + len(others)))
-
-
-# ---- commands and blocks
-
-# the usage of programs of others
-USAGE = """. FILE; ar rc ARCHIVE OBJECT; cargo add NAME --path FOLDER; cargo tree -i NAME; cargo update -p NAME
-cc -O2 -c FILE; cc -std=c11 [-static] FILE $(pkg-config --cflags --libs multihash_c) -o PROGRAM; cd FOLDER
-cmake -B FOLDER [-DCMAKE_INSTALL_PREFIX=/usr | -DMULTIHASH_C_ARCHIVE=OFF]; cmake --build FOLDER; ctest --test-dir FOLDER
-cmake --install FOLDER; DESTDIR=/tmp/package cmake --install FOLDER; dpkg-buildpackage -b -us -uc -d [-aarm64]
-npm install FOLDER; pip install [--no-build-isolation] FOLDER; prove [--verbose] --exec '' CHECK; python -m build
-python -m verified_multihash [HEX]; python3 -m venv FOLDER; rt check; rt ci; rt lemma WORD..; cp -r FROM TO
-rt lib; node FILE; rt try --test; rt try --data verdicts.tsv=my_vectors.tsv; sha256sum --check SHA256SUMS"""
-# blocks that a check compiles or runs, or of which it compares the output, by their languages or first words
-READ_BY_OTHERS = {
-    README: ("text", "js", "python", "rust", "c", "sh"),  # run, byte_errors
-    C: ("c", "go", "cmake"),  # c_library.t, install.t
-    JS: ("html", "import { decode, MultihashError }"),  # test.sh
-    PYTHON: ("python",),  # its tests
-    RUST: ("rust", "toml"),  # its tests, as RUST_C's, and rust.t
-    RUST_C: ("rust",),
-    FORMAT: ("", "text"),  # byte_errors
-    VECTORS: ("text",),  # byte_errors
-    ARCHITECTURE: ("sh",),  # apt-get
-}
-
-
-def usage_lines() -> tuple[list[str], set[str]]:
-    """Returns the usages, of scripts by their first lines, and the names of the programs."""
-    lines = re.split("; |\n", USAGE) + [f"echo '{it}' >> crates.txt" for it in read("crates.txt").splitlines()]
-    names = {line.split()[0] for line in lines}
-    for path, text in sources().items():
-        name = Path(path).name
-        form = rf"(?m)^(?:#|//)?  +((?:\S+ )*?(?:{re.escape(path)}|{re.escape(name)})(?: .*?)?)(?:  .*| &&.*)?$"
-        found = re.findall(form, re.sub(r"\n +\[", " [", text[:900]))
-        if found or text.startswith("#!"):
-            names.add(name)
-            lines += [line.replace(path, name).replace(name, path) for line in found or [path]]
-    return lines, names
-
-
-def form_of(word: str) -> str:
-    """Returns the form of a word of a usage, with the blank before it."""
-    if word in "[|]":
-        return {"[": "(?:", "|": "|", "]": ")?"}[word]
-    stem = re.escape(word.removesuffix(".."))
-    if "/" in word and (TOP / word).is_file():
-        stem = rf"(?:\./)?(?:{stem}|{re.escape(Path(word).name)})"
-    elif re.fullmatch(r"[A-Z]+(\.\.)?", word):  # a word, or the name that stands for it
-        stem = rf"(?:{stem}|[^\sA-Z-]\S*)"
-    return f" {stem}" + (rf"(?:\.\.|(?: {stem})*)" if word.endswith("..") else "")
-
-
-@cache
-def usages() -> tuple[re.Pattern[str], set[str]]:
-    """Returns the form of all commands, and their programs."""
-    lines, names = usage_lines()
-    forms = ("".join(map(form_of, re.findall(r"[][|]|[^][|\s]+", line))).strip() for line in lines)
-    return re.compile("|".join(forms)), names
-
-
-def own_blocks(page: str, text: str) -> Iterator[re.Match[str]]:
-    """Returns the blocks that no other check reads."""
-    others = READ_BY_OTHERS.get(page, ())
-    for block in FENCE.finditer(text) if page != CONTRACTS else ():
-        if block[1] not in others and not any(" " in it and block[2].startswith(it) for it in others):
-            yield block
-
-
-def usage_errors(page: str, text: str) -> Iterator[str]:
-    """Returns the commands with other options or another number of words than the usage, and options alone."""
-    form, names = usages()
-    spans = re.findall(r"`([^`\n]+)`", FENCE.sub("", text)) if page not in (README, CONTRACTS) else []
-    commands = [span for span in spans if " " in span and span.split()[0].rpartition("/")[2] in names]
-    blocks = [re.sub(r"\\\n| +# .*", "", block[2]) for block in own_blocks(page, text) if block[1] == "sh"]
-    paths = re.findall(r"(?<![\w/.])((?:bindings|crates|docs)/[\w./]+)", "\n".join(blocks))
-    yield from (f"there is no {path}" for path in paths if not (TOP / path).exists())
-    for command in re.split(r"\n|&&", "\n".join([*blocks, *commands])):
-        command = re.sub(r"^[\s(]*|(?<=check)\)$", "", command.strip())
-        if command and not form.fullmatch(command):
-            yield f"no usage has this form: {command}"
-    comments = (
-        comment for language, block in FENCE.findall(text) if language == "sh" for comment in COMMENT.findall(block)
-    )
-    alone = [word for comment in comments for word in comment.split() if re.match(r"--?\w", word)]
-    yield from (f"this option has no command: {it}" for it in alone + [span for span in spans if span.startswith("--")])
-
-
-def block_errors(page: str, text: str) -> Iterator[str]:
-    """Returns the lines of blocks that no source has, if no other check reads the block."""
-    known = known_text(folders(page))
-    for block in (block for block in own_blocks(page, text) if block[1] != "sh"):
-        lines = [flat(COMMENT.sub("", line)) for line in block[2].splitlines()]
-        if page == ARCHITECTURE:  # a picture
-            lines = re.findall(r"(?<![\w.-])-{0,2}([A-Za-z_][\w-]+(?:\.\w+)?)", block[2])
-        for line in sorted({line.replace("pub ", "") for line in lines}):
-            if line not in known:
-                yield f"no source has this of a block: {line}"

@@ -161,10 +161,8 @@ def of_all_pages(check: Callable[[str, str], Iterator[str]]) -> Callable[[Texts]
 
 
 OF_A_PAGE = (
-    claims.name_errors,
+    claims.quote_errors,
     claims.told_errors,
-    claims.usage_errors,
-    claims.block_errors,
     rows.row_errors,
     rows.status_errors,
     rows.time_errors,
