@@ -3,7 +3,7 @@
 # a planted script.
 # shellcheck source=checks/lib/tap.sh
 . "$(dirname "$0")/lib/tap.sh"
-plan 30
+plan 31
 
 listed() { git ls-files -co --exclude-standard "$@"; }
 # Prints the paths of the scripts in a language, by their first lines.
@@ -19,10 +19,9 @@ tested=$(listed "*.t" "*test.sh" | sed '/^bindings\/c\/examples\//d')
 # All but the tests of the package for Python have types.
 typed=$(sed '/^bindings\/python\/tests\//d' <<< "$python")
 
-# Each script, by its name or as it can be executed, is among these, and each check can be executed.
+# Each script, by its name or as it can be executed, is among these.
 are_known() {
-  { listed '*.js' '*.mjs' '*.py' '*.sh' '*.t' '*.ts'
-    git ls-files -s | awk '$1 == 100755 { print $4; next } $4 ~ /^checks\/.*\.t$/ { print $4, "cannot be run" }'; } |
+  { listed '*.js' '*.mjs' '*.py' '*.sh' '*.t' '*.ts'; git ls-files -s | awk '$1 == 100755 { print $4 }'; } |
     sort -u | comm -23 - <(printf '%s\n' bindings/c/debian/rules "$@" | sort) | diff /dev/null -
 }
 
@@ -47,7 +46,7 @@ chains() {
 names() {
   { tsc --noEmit --allowJs --checkJs --target es2022 --module es2022 --moduleResolution node --noUnusedLocals \
     --noFallthroughCasesInSwitch --allowUnreachableCode false "$@" || true; } |
-    sed -nE '/error TS([18][0-9]{3}|18004|230[45]|2448|2451|2552|6053|6133|7027|7029):/p' | diff /dev/null -
+    sed -nE '/error TS([18][0-9]{3}|18004|230[45]|2448|2451|2552|6133|7027|7029):/p' | diff /dev/null -
 }
 
 # Each kind of error that names has.
@@ -58,8 +57,12 @@ planted_names() {
     rejects "error $error:" names "$work/name.js"
   done << 'END'
 TS1181 const [;
+TS18004 export const one = { missing };
 TS2304 missing();
+TS2305 import { missing as one } from './name.js'; one();
+TS2448 one; let one = 1;
 TS2451 let one = 1; let one = one;
+TS2552 const number = 1; nunber + number;
 TS6133 const number = 1;
 TS7027 throw 1; export let after;
 TS7029 switch (Date.now()) { case 1: Date.now(); case 2: }
@@ -137,6 +140,8 @@ try_linter() {
   try "a script that is in none" rejects "> checks/lib/tap.sh" are_known ${shell/tap.sh/} $python $javascript
   try "scripts that go on after a failure" diff - <(comm -23 <(echo "$shell") <(echo "$ending")) \
     < <(printf '%s\n' .ci/run bindings/c/examples/test.sh checks/{bugs,js,mutants,pages,python,speed,tap,verdicts}.t)
+  try "tests with planted cases" diff - <({ echo "$tested"; echo bindings/c/examples/test.sh; } | sort) \
+    < <(listed "*.t" "*test.sh")
   try "Python with types" diff - <({ echo "$typed"; listed 'bindings/python/tests/*.py'; } | sort) \
     <<< "$python"
   try_linter syntax syntax.sh "unexpected end of file" "if true; then" $shell
@@ -161,9 +166,9 @@ try_linter() {
 193 bindings/python/tests
 198 bindings/rust/*.rs
 591 crates/*.rt
-216 checks
+218 checks
 68 bindings/*.sh
 7 tools
 END
-  needs=tsc try "each error of names: 14 comparisons" planted_names
+  needs=tsc try "each error of names: 22 comparisons" planted_names
 }

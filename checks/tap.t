@@ -5,7 +5,7 @@ cd "$(dirname "$0")/.." || exit 2
 number=0
 work=$(mktemp -d) || exit 2
 trap 'rm -rf "$work"' EXIT
-unset ALL
+unset ALL BUILT
 cp -r .ci checks "$work" || exit 2
 export PYTHONPATH=checks/lib # of the copy
 
@@ -18,7 +18,8 @@ expect() {
   echo "$result $number - ${text//'#'/}"
 }
 
-echo 1..69
+echo 1..78
+[[ $(expect 1 "echo 2" 2> /dev/null) = "not ok"* ]] || exit 2
 expect "not ok 1 - a\nok 2 - b" ". checks/lib/tap.sh; try a false; try b true"
 expect "not ok 1 - a" ". checks/lib/tap.sh; try a no_such_command"
 expect "not ok 1 - a\n# why" ". checks/lib/tap.sh; try a sh -c 'echo why >&2; exit 1' 2>&1"
@@ -30,18 +31,21 @@ expect "not ok 1 - a" ". checks/lib/tap.sh; try a rejects a echo a"
 expect "not ok 1 - a" ". checks/lib/tap.sh; try a rejects 'a text' false"
 expect "not ok 1 - a" ". checks/lib/tap.sh; try a rejects 'a.b' sh -c 'echo axb; exit 1'"
 expect "not ok 1 - a" ". checks/lib/tap.sh; try a rejects a false"
-expect "not ok 1 - a" ". checks/lib/tap.sh; d() { rejects_edits .ci ls none <<< 'a text|:'; }; try a d"
+expect "not ok 1 - a" ". checks/lib/tap.sh; d() { rejects_edits .ci cmp .ci/run \"\$work/planted/run\"; }
+  try a d <<< \$'differ|rm run; echo > run\ndiffer|:'"
 expect "ok 1 - a" ". checks/lib/tap.sh; try a prints b echo abc"
-expect "not ok 1 - a" ". checks/lib/tap.sh; try a prints b sh -c 'echo abc; exit 1'"
+expect "not ok 1 - a\n# abc\n# status 1, or without the text: b\n# abc" \
+  ". checks/lib/tap.sh; try a prints b sh -c 'echo abc; exit 1' 2>&1"
 expect "not ok 1 - a" ". checks/lib/tap.sh; try a prints a.c echo abc"
 expect "ok 1 - a\nnot ok 2 - a" ". checks/lib/tap.sh; try a true; try a true"
 # what fails in the middle, where bash by itself goes on
 # shellcheck disable=SC2016 # the check expands it
-for text in 'false; true' 'a=$(false; echo)' 'false | true' '(false; true); true' 'rejects b echo a; true' \
+for text in 'false; true' 'echo $none' 'a=$(false; echo)' 'false | true' '(false; true); true' 'rejects b echo a; true' \
   'rejects a c; true'; do
   expect "not ok 1 - a" ". checks/lib/tap.sh; c() { false; echo a; false; }; d() { $text; }; try a d"
 done
-expect 1 "(. checks/lib/tap.sh; false; true); echo \$?"
+expect "ok 1 - a\n1" "(. checks/lib/tap.sh; try a true; false; true); echo \$?"
+expect "a\nb" ". checks/lib/tap.sh; block_of <(printf '\`\`\`%s\n' \$'c\nx' '' \$'js\na\nb' '' js) js"
 text='. checks/lib/tap.sh; all() { cmp .ci/run .ci/run; (diff .ci .ci); rejects none ls none; }
   try b cmp .ci/run .ci/run; try "a: N comparisons" all'
 expect "ok 1 - b\nok 2 - a: 3 comparisons" "${text/N/3}"
@@ -57,16 +61,20 @@ expect "1..2\nok 1 - a\n1" "(. checks/lib/tap.sh; plan 2; try a true); echo \$?"
 expect "1..1\nok 1 # SKIP why\n1" "(. checks/lib/tap.sh; plan 1; leave_out why; false); echo \$?"
 
 # The same of tap.py.
-report() { echo "python3 -c 'import sys, tap; sys.exit(tap.report([$1]))'; echo \$?"; }
-expect "not ok 1 - a\nok 2 - b\n1" "$(report '("a", "why"), ("b", "")')"
+report() { echo "python3 -c 'import sys, tap; sys.exit(tap.report([$1]))' 2>&1; echo \$?"; }
+expect "not ok 1 - a\n#   why\nok 2 - b\n1" "$(report '("a", "why"), ("b", "")')"
 expect "ok 1 - a\n0" "$(report '("a", "")')"
-expect "ok 1 - a\nnot ok 2 - a\n1" "$(report '("a", ""), ("a", "")')"
+expect "ok 1 - a\nnot ok 2 - a\n#   a second result of this name\n1" "$(report '("a", ""), ("a", "")')"
 expect 1 "$(report "")"
 expect "ok 1 - a b\n0" "$(report '("a#\nb", "")')"
-expect "not ok 1 - planted: a\nok 2 - planted: b\n1" "$(report 'tap.planted("a", ""), tap.planted("b", "why")')"
+expect "not ok 1 - planted: a\n#   it is not found\nok 2 - planted: b\n1" \
+  "$(report 'tap.planted("a", ""), tap.planted("b", "why")')"
 expect "ok 1 - a # SKIP no why\n0" "$(report 'tap.left_out("a", ["why"])')"
-expect "not ok 1 - a # SKIP no why, sh\n1" "$(report 'tap.left_out("a", ["why", "sh"])')"
-expect "not ok 1 - a # SKIP no \n1" "$(report 'tap.left_out("a", [])')"
+for tool in "" sh "$(awk '/^[Ff].*: fp/ { print $4; exit }' /proc/cpuinfo)"; do
+  expect "not ok 1 - a # SKIP no $tool\n#   what it needs is there\n1" "$(report "tap.left_out(\"a\", \"$tool\".split())")"
+done
+expect "test --jobs 1\ncrates/a/out/a_tests" "mkdir -p bin crates/a; printf '#!/bin/sh\necho \"\$@\"' > bin/rt; chmod +x bin/rt
+  PATH=\$PWD/bin:\$PATH python3 -c 'import os, tap; print(os.path.relpath(tap.program(\"a\", \"test\")))' 2>&1"
 
 # Writes a check.
 stub() { printf '#!/bin/bash\necho 1..1\n%s\n' "$2" > "$1" && chmod +x "$1"; }
@@ -86,8 +94,8 @@ in_order() {
     if has "$check" "KEPT\|lib/proved"; then text='[ -e "$KEPT/copy" ] && echo ok 1'; fi
     if has "$check" "BUILT\|'rt ci'"; then text='[ "$BUILT" ] && echo ok 1'; fi
     case $check in
-      */c_library.t) text='sleep 3; touch "$KEPT/copy"; echo ok 1' ;;
-      */rt.t) text='sleep 3; echo ok 1' ;;
+      */c_library.t) text='touch "$KEPT/begun"; sleep 3; touch "$KEPT/copy"; echo ok 1' ;;
+      */rt.t) text='sleep 3; [ -e "$KEPT/begun" ] && echo ok 1' ;;
       */tap.t) text='echo ok 1' ;;
     esac
     stub "$check" "$text"
@@ -99,20 +107,24 @@ in_order() {
 
 # Runs .ci/run over a check, a text, after another text, and prints its status.
 ran() {
-  rm -f checks/*.t
+  rm -rf checks/*.t tmp
+  mkdir tmp
   cp "$top/.ci/run" .ci
   printf -- '---\nseq:\n  - checks/rt.t\n  - checks/*.t\n' > checks/rules.yml
   stub checks/rt.t "$1"
   eval "${2-}"
-  .ci/run "${@:3}" > out
+  (cd checks && TMPDIR=$PWD/../tmp ../.ci/run "${@:3}") > out
   echo $?
+  ls tmp
 }
-export top=$PWD
+export top=$PWD base
+base=$(nice)
 export -f stub has in_order ran
 expect 0 "in_order ''"
-expect 1 "in_order 'sed -i /memory/d checks/rules.yml'"
-expect 1 "in_order 'sed -i /js.t/d checks/rules.yml'"
-expect 0 "ran 'echo ok 1'"
+for check in memory pages rejected speed mutants js portable; do
+  expect 1 "in_order 'sed -i /$check.t/d checks/rules.yml'"
+done
+expect "0\n1" "ran 'echo ok 1'; grep -c ' ms' out"
 expect 1 "ran 'echo not ok 1'"
 expect 1 "ran 'echo ok 1; exit 1'"
 expect 0 "ran 'echo \"ok 1 # SKIP\"'"
@@ -121,18 +133,18 @@ expect 1 "ran '' 'sed -i s/1$/0/ checks/rt.t'"
 expect 1 "ran '' 'sed -i \"s/1..1$/\\x271..0 # SKIP why\\x27/\" checks/rt.t'"
 expect 2 "ran 'echo ok 1' 'rm checks/rules.yml'"
 expect 2 "ran 'echo ok 1' 'echo \"  - checks/NAME.t\" >> checks/rules.yml'"
-expect 2 "ran '' '' --wrong"
+expect "2\n.ci/run\n.ci/run --all" "ran '' '' --wrong; (cd checks; ../.ci/run --wrong) 2>&1 | sed 's/  .*//'"
 expect 0 "ran 'echo ok 1' 'echo --wrong > .proverc'; rm .proverc"
 expect 0 "ran '[ \"\${BUILT-}\" ] || echo ok 1' 'export BUILT=\"rt ci\"'"
 # shellcheck disable=SC2016 # the check expands it
-text='[ $0 = ../checks/rt.t ] || [ "$BUILT" ] && echo ok 1'
+text='case $0:$(($(nice) - base)):${BUILT-} in *rt.t:0: | *lint.t:5:rt?ci) echo ok 1 ;; esac'
 expect 0 "ran '$text' 'cp checks/rt.t checks/lint.t'"
 # only one of two checks is run
 expect "1\ndid not pass: checks/lint.t" \
   "ran 'echo ok 1' 'cp checks/rt.t checks/lint.t; sed -i \"s|timer checks|&/rt.t|\" .ci/run'; grep ^did out"
 # ended, it ends checks, and without a part of it does not
 while IFS='|' read -r edit files; do
-  expect "0\n130\n$files" "ran 'echo ok 1' 'sed -i \"$edit\" .ci/run'; rm -f [ab]
+  expect "0\n143\n$files" "ran 'echo ok 1' 'sed -i \"$edit\" .ci/run'; rm -f [ab]
     stub checks/rt.t 'touch ../a; sleep 1; touch ../b'
     .ci/run > out & until [ -e a ]; do sleep .1; done; kill \$!; wait \$!; echo \$?; sleep 1.2; ls [ab]"
 done << 'END'

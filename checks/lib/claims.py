@@ -22,8 +22,7 @@ HEADER, TYPES, MAN = "bindings/c/include/multihash.h", "bindings/js/index.d.ts",
 FENCE = re.compile(r"^ *```(\S*)[^\n]*\n(.*?)^ *```$", re.M | re.S)
 HEX = r"`((?:[0-9a-f]{2} )*[0-9a-f]{2})`"
 COMMENT = re.compile(r"(?:^|(?<=\s))(?:#|//)(?= )([^\n]*)", re.M)
-NO_SOURCES = {".md", ".a", ".edits", ".tsv", ".wasm"}
-NO_TEXTS = ("checks/lib/numbers.txt", "checks/lib/quotes.txt", "bytes.js", "module.h")  # lists of what no source has
+NO_SOURCES = (".edits", ".md", "quotes.txt")
 
 
 @cache
@@ -51,8 +50,7 @@ def whole(text: str) -> str:
 @cache
 def sources(below: tuple[str, ...] = ("",)) -> dict[str, str]:
     """Returns the texts of the sources in these folders, of all if none is named."""
-    names = (name for name in paths() if name.startswith(below))
-    return {name: read(name) for name in names if Path(name).suffix not in NO_SOURCES and not name.endswith(NO_TEXTS)}
+    return {name: read(name) for name in paths() if name.startswith(below) and not name.endswith(NO_SOURCES)}
 
 
 @cache
@@ -68,22 +66,22 @@ def folders(page: str) -> tuple[str, ...]:
         return "bindings/c", "CMakeLists.txt", "tools", "checks"
     if page.startswith("bindings/"):
         return "/".join(page.split("/")[:2]), "bindings/c/include", "checks/rust.t"
-    return ("crates", "checks") if page in (FORMAT, DIFFERENCES, VECTORS, CALLING) else ("",)
+    return ("crates", "checks") if page.startswith("crates/") or page in (FORMAT, DIFFERENCES) else ("",)
 
 
 # ---- numbers
 
 # numbers that are in no name, and what compares them or a name
-COMPARES = r"\b(?:above|at least|at most|below|(?:fewer|less|more) than|over(?! `)|up to) "
+COMPARES = r"(?:above|at least|at most|below|(?:fewer|less|more) than|over(?! `)|up to) "
 NUMBER = re.compile(
     rf"(?:{COMPARES})?(?<![\w.\-/^#+\\])(?:2\^\d+|\d(?:[\d,.]*\d)?|(?:three|four|five|six|seven|eight|nine|ten"
-    rf"|sixteen|hundred|thousand)(?!-))(?![\w-]|\.\w)|{COMPARES}`[^`]*`|MULTIHASH_\w+_MAX|\bor (?:fewer|less|more)\b"
+    rf"|sixteen|hundred|thousand))(?![\w-]|\.\w)|{COMPARES}`[^`]*`|MULTIHASH_\w+_MAX|or (?:fewer|less|more)\b"
 )
 # bytes and rows that other functions compare, an example and a date of the man page, numbers of lists, links
 NO_PROSE = [
     re.compile(HEX + r"|`[0-9a-fA-F]{4,}`|^\| `[\w:]+` \| [A-Z][^|]*\. \|$", re.M),
-    re.compile(r"^\.Bd(?s:.*?)^\.Ed|^\.Dd.*", re.M),
-    re.compile(r"^\|.*\| *\d+\.\d\d .*\|$|^\|[^|]*\| \d+ \| [\d.]+ .*\|$|^In \d.*:$", re.M),  # measured
+    re.compile(r"\.Bd(?s:.*?)\.Ed|^\.Dd.*", re.M),
+    re.compile(r"^\|.*\| *\d+\.\d\d .*|^In \d.*:$", re.M),  # measured
     re.compile(r"^\|[^|`]*\| \d+ \|$", re.M),  # counted
     re.compile(r"^\| [\d^ -]+ \| +\|$|\| +\| \d* \|$|^\| `MULTIHASH_\w+` \| \d|^\d\. |\]\([^)]*\)", re.M),
 ]
@@ -170,20 +168,20 @@ def quote_errors(page: str, text: str) -> Iterator[str]:
             yield f"no source has {quote}"
     for *names, place in re.findall(r"`([^` ]+)`(?: and `([^` ]+)`)? of `([^`]+)`", prose):
         files = tuple(it for it in paths() if re.search(whole(place.replace("::", "/")), it.replace("/src/", "/")))
-        yield from (f"{place} has no {name}" for name in names if name and files and not is_known(name, files))
+        yield from (f"{place} has no {name}" for name in names if files and not is_known(name, files))
 
 
 # ---- sentences
 
 ALIKE = 0.8  # how much of two sentences' words are the same if they say one thing
 COMMENTS = re.compile(r'/\*.*?\*/|(?:^\s*(?://[/!]?|#|--) ?[^\n]*\n)+|""".*?"""|(?://|#) [^\n]*$', re.M | re.S)
-PARTS = re.compile(r"\n\s*\n|\n(?=[-\d|]|\* | *\S+ {2,}\S)|\||(?<=\S) {2,}(?=\S)")
+PARTS = re.compile(r"\n\s*\n|\n(?=[-\d|]| *\S+ {2,}\S)|\||(?<=\S) {2,}(?=\S)")
 MARKS = re.compile(r'^\s*(?://[/!]?|#+|/\*+|\*+/?|--|""")\s?|\*/|"""', re.M)
 
 
 def sentences(text: str) -> Iterator[str]:
     """Returns the sentences of five or more words, without headings, macros and backquotes, in lower case."""
-    for part in PARTS.split(re.sub(r"^(?:#+|\.Sh) .*$|\n\.[A-Z][a-z]\b|`", "", text, flags=re.M)):
+    for part in PARTS.split(re.sub(r"^(?:#+|\.Sh) .*$|\n\.[A-Z][a-z]|`", "", text, flags=re.M)):
         for sentence in re.split(r"(?<=[.:;])\s+", flat(part).lower()):
             if len(sentence.split()) > 4:
                 yield sentence.strip("*-; `").rstrip(".:;,`")

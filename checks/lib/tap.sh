@@ -110,7 +110,7 @@ is_there() {
   esac
 }
 is_version() {
-  [[ $("$1" --version 2>&1) =~ [0-9]+(\.[0-9]+)* ]] || return
+  [[ $("$1" --version 2>&1) =~ [0-9]+(\.[0-9]+)* ]]
   case $2 in
     *+) printf '%s\n' "${2%+}" "${BASH_REMATCH[0]}" | sort -VC ;;
     *) [ "$2" = "${BASH_REMATCH[0]}" ] ;;
