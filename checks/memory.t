@@ -38,8 +38,9 @@ TESTS = {
     "allocating_examples": 11,
     "calls_need_no_memory": 0,
 }
-# inputs of mh_show, the last of which cannot be read, and how many allocations it makes
-SHOWN = {"example": 8, "0041": 5, "0": 4, "a folder": 4}
+# inputs of mh_show, the last of which cannot be read, how many allocations it makes, and what it prints then
+SHOWN = {"example": (8, "code 22"), "0041": (5, "mh_show: Invalid"), "0": (4, "mh_show: not hex")}
+SHOWN |= {"a folder": (4, "mh_show: input not read")}
 # programs, by how many allocations each is to make. The first ends as it should, with status 1 if one failed
 ONE = "void *made = malloc(1); "
 THREE = "void *a = malloc(1), *b = malloc(1), *c = malloc(1); free(a); free(b); free(c); "
@@ -110,7 +111,7 @@ def results(work: Path) -> Iterator[tap.Result]:
                 is_right = text == texts[0] and number == wanted
                 yield f"planted, {number}: {text}", "" if is_right != bool(error) else f"found: {error}"
     program = tap.program("tests_values", "test")
-    listed = subprocess.run([program, "--list"], capture_output=True, text=True, check=True).stdout
+    listed = subprocess.run([program, "--list"], stdout=subprocess.PIPE, text=True).stdout
     tests = {path.rpartition("::")[2]: path for path in re.findall(r"(?m)^(\S+): test$", listed)}
     yield "the tests are those listed", others(tests)
     yield tap.planted("a test that is not listed", others([*tests, "allocating_more"]))
@@ -119,10 +120,12 @@ def results(work: Path) -> Iterator[tap.Result]:
         failed, passed = rf"(.*\n)?{re.escape(FAILED)}\n(.*\n)?101", r"(.*\n)?test result: ok\n(.*\n)?0"
         yield name, counted.error_of([program, tests.get(name, "")], number, failed, passed)
     show = tap.program("mh_show")
-    for text, number in SHOWN.items():
+    for text, (number, printed) in SHOWN.items():
         stdin = {"example": tap.CRATES / "mh_show/stdin", "a folder": Path("/")}.get(text, work / "input")
         (work / "input").write_text(f"{text}\n", "utf-8")
-        yield f"mh_show on {text}", counted.error_of([show], number, r"mh_show: out of memory\n1", ".*", stdin)
+        yield f"mh_show on {text}", counted.error_of(
+            [show], number, r"mh_show: out of memory\n1", f"{printed}.*", stdin
+        )
 
 
 if __name__ == "__main__":
