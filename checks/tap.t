@@ -40,8 +40,8 @@ expect "not ok 1 - a" ". checks/lib/tap.sh; try a prints a.c echo abc"
 expect "ok 1 - a\nnot ok 2 - a" ". checks/lib/tap.sh; try a true; try a true"
 # what fails in the middle, where bash by itself goes on
 # shellcheck disable=SC2016 # the check expands it
-for text in 'false; true' 'echo $none' 'a=$(false; echo)' 'false | true' '(false; true); true' 'rejects b echo a; true' \
-  'rejects a c; true'; do
+for text in 'false; true' 'echo $none' 'a=$(false; echo)' 'false | true' '(false; true); true' \
+  'rejects b echo a; true' 'rejects a c; true'; do
   expect "not ok 1 - a" ". checks/lib/tap.sh; c() { false; echo a; false; }; d() { $text; }; try a d"
 done
 expect "ok 1 - a\n1" "(. checks/lib/tap.sh; try a true; false; true); echo \$?"
@@ -71,9 +71,11 @@ expect "not ok 1 - planted: a\n#   it is not found\nok 2 - planted: b\n1" \
   "$(report 'tap.planted("a", ""), tap.planted("b", "why")')"
 expect "ok 1 - a # SKIP no why\n0" "$(report 'tap.left_out("a", ["why"])')"
 for tool in "" sh "$(awk '/^[Ff].*: fp/ { print $4; exit }' /proc/cpuinfo)"; do
-  expect "not ok 1 - a # SKIP no $tool\n#   what it needs is there\n1" "$(report "tap.left_out(\"a\", \"$tool\".split())")"
+  expect "not ok 1 - a # SKIP no $tool\n#   what it needs is there\n1" \
+    "$(report "tap.left_out(\"a\", \"$tool\".split())")"
 done
-expect "test --jobs 1\ncrates/a/out/a_tests" "mkdir -p bin crates/a; printf '#!/bin/sh\necho \"\$@\"' > bin/rt; chmod +x bin/rt
+expect "test --jobs 1\ncrates/a/out/a_tests" "mkdir -p bin crates/a
+  printf '#!/bin/sh\necho \"\$@\"' > bin/rt; chmod +x bin/rt
   PATH=\$PWD/bin:\$PATH python3 -c 'import os, tap; print(os.path.relpath(tap.program(\"a\", \"test\")))' 2>&1"
 
 # Writes a check.

@@ -181,8 +181,8 @@ CHECKS: dict[str, Callable[[Texts], Iterator[str]]] = {
 
 # numbers, and what compares numbers or names
 PHRASES = """2^7; 7.5; 7,500; 7; three; four; five; six; seven; eight; nine; ten; sixteen; hundred; thousand; up to 255
-MULTIHASH_A_MAX; or fewer; or less; or more; above `S`; at least `S`; at most `S`; below `S`; fewer than `S`; less than `S`
-more than `S`; up to `S`"""
+MULTIHASH_A_MAX; or fewer; or less; or more; above `S`; at least `S`; at most `S`; below `S`; fewer than `S`
+less than `S`; more than `S`; up to `S`"""
 
 
 def planted(texts: Texts) -> Iterator[tap.Result]:
