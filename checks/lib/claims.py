@@ -1,8 +1,8 @@
 """Compares numbers, quotes and sentences of pages with the sources.
 
 Numbers are in phrases of numbers.txt. What is in backquotes, and the lines of a block that no other check runs, are in
-a source of the page's folders or in quotes.txt. A sentence that is nearly one of a source's comments, or of another page,
-is the same, and two have one order.
+a source of the page's folders or in quotes.txt. A sentence that is nearly one of a source's comments, or of another
+page, is the same, and two have one order.
 """
 import re
 import subprocess
