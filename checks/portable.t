@@ -16,8 +16,9 @@ ulimit -c 0
 
 # ---- the generated file
 
-# A copy of the repository in which one byte of the generated file differs, until it is made there.
+# A copy of the repository in which one byte of the generated file differs, until what was made is written there.
 planted_generated() {
+  local -x PROVED=none
   local copy=$work/repository file=bindings/c/src/module.h
   mkdir -p "$copy/${file%/*}"
   cp -r tools "$copy"
@@ -60,7 +61,7 @@ test_generated() {
 two_files() {
   tools/portable_c "$tree"
   mkdir "$work/a folder"
-  tools/portable_c "$work/a folder/tree"
+  (cd "$work/a folder"; "$OLDPWD/tools/portable_c" tree)
   diff -r "$tree" "$work/a folder/tree"
   cmp LICENSE "$tree/LICENSE"
   diff LICENSE <(sed -n "3,$(($(wc -l < LICENSE) + 2))p" "$tree/multihash.c")

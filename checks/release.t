@@ -2,7 +2,7 @@
 # The packages for Debian, and what is released: files, what they say of themselves, and programs built against them.
 # shellcheck source=checks/lib/tap.sh
 . "$(dirname "$0")/lib/tap.sh"
-plan 10 cc cmake python3=3.11+ readelf pkg-config dpkg-buildpackage dh lintian man /lib64/ld-linux-x86-64.so.2
+plan 9 cc cmake python3=3.11+ readelf pkg-config dpkg-buildpackage dh lintian man /lib64/ld-linux-x86-64.so.2
 # shellcheck source=checks/lib/installed.sh
 . checks/lib/installed.sh
 
@@ -10,14 +10,12 @@ plan 10 cc cmake python3=3.11+ readelf pkg-config dpkg-buildpackage dh lintian m
 
 lint_packages() { lintian --allow-root --fail-on warning --suppress-tags initial-upload-closes-no-bugs "$@"; }
 
-# Builds the packages in a copy of what they are made of, after an edit of it. The tests pass, and lintian warns of
-# nothing.
+# Builds the packages in a copy of the repository, after an edit of it. The tests pass, and lintian warns of nothing.
 build_packages() {
   local to=$work/debian-$1 from=$work/debian-$1/source
-  mkdir -p "$from"/{bindings,crates/vectors}
-  cp -r bindings/c "$from/bindings"
-  cp -r CHANGES CMakeLists.txt LICENSE bindings/c/debian "$from"
-  cp -r crates/vectors/data "$from/crates/vectors"
+  mkdir -p "$from"
+  git ls-files -z | xargs -0 cp --parents -t "$from"
+  cp -r bindings/c/debian "$from"
   eval "${2-}"
   (cd "$from"; prints '100% tests passed, 0 tests failed out of 2' dpkg-buildpackage -b -us -uc)
   lint_packages "$to"/*.changes
@@ -80,17 +78,9 @@ try_packages() {
   man -M "$root/usr/share/man" -w 3 multihash_encode
 }
 
-# A test that fails ends the build.
-planted_test() {
-  mkdir "$work/bin"
-  install -m 755 <(printf '#!/bin/sh\necho planted\nexit 1\n') "$work/bin/dh_auto_test"
-  rejects planted env PATH="$work/bin:$PATH" bindings/c/debian/rules override_dh_auto_test
-}
-
 test_packages() {
   try "building packages: 1 comparison" build_packages amd64
   try "a warning of a package" rejects "W: libmultihash-c1: file-missing-in-md5sums" planted_package
-  try "a test that fails: 1 comparison" planted_test
   try "a function of a later version: 4 comparisons" later_function
   try "packages for amd64: 11 comparisons" has_packages "$work/debian-amd64" amd64 x86_64-linux-gnu
   needs=qemu-x86_64 try "a program by the packages for amd64: 3 comparisons" try_packages amd64 x86_64-linux-gnu cc \
@@ -111,6 +101,7 @@ the files of the release|mv *x86_64.whl more
 SHA256SUMS|echo >> SHA256SUMS
 1 2 600 later|tar --owner=1 --group=2 --mode=600 -czf multihash_c-*-source.tar.gz SHA256SUMS
 0 0 700|mkdir d; tar --owner=0 --group=0 --mode=700 -czf multihash_c-*-source.tar.gz d; rmdir d
+order|touch a b; tar --transform s,^,d/, -czf multihash_c-*-source.tar.gz b a; rm a b
 more is there, or is not|mkdir d; touch d/more; tar -czf multihash_c-*-source.tar.gz d; rm -r d
 whl: more is|python3 -c 'import sys, zipfile; zipfile.ZipFile(sys.argv[1], "a").writestr("more", "")' *x86_64.whl
 {'default'|tar xf *.tgz; sed -Ei 's/("t.*), (.*) }/\2, \1 }/' package/*.json; tar czf *.tgz package; rm -r package
@@ -124,13 +115,26 @@ relations|sed -i 's/"SPDXRef-DOCUMENT",/"SPDXRef-more",/' multihash-*.spdx.json
 END
 }
 
-# A release is made of the last commit, whose owner is another one here, and not of a commit in which one byte of an
-# archive differs. With all it has the same bytes in another run.
+# The source of a release is the last commit, which is on no branch. That it changes are the owner's names, which are the
+# commit's own here.
+exports_source() {
+  # shellcheck disable=SC2016
+  install -m 755 -D <(printf '%s\n' '#!/bin/sh' 'cp -r "$2" "$0.source"' 'exit 1') "$work/bin/cmake"
+  sed -i 's/[1e]/3/g' "$1"/{CHANGES,LICENSE,README.md,tools/owner,bindings/c/include/multihash.h}
+  "${commit[@]}"
+  git -C "$1" checkout -q --detach HEAD~
+  rejects "release: cmake -S" env PATH="$work/bin:$PATH" "$1/tools/release" "$work/new/failed"
+  rm -r "$work/bin/cmake.source/debian"
+  diff -r -x .git "$1" "$work/bin/cmake.source"
+}
+
+# A release is made without a working tree, of a commit whose owner is another one, and not of a commit in which one byte
+# of an archive differs. With all it has the same bytes in another run.
 releases() {
   local from=$work/clone to=$work/release architecture needed
   local commit=(git -C "$work/clone" -c user.name=tester -c user.email=tester commit -q -a -m changed)
   git clone -q . "$from"
-  diff <(sed -nE 's/^([mh]\w+)=/\u\1: /p' tools/owner) <(sed '/^[MH]/!d; /^Multi/d' bindings/c/debian/control)
+  exports_source "$from"
   printf '%s\n' 'maintainer=A Tester <tester@forge.example>' homepage=https://forge.example/ \
     repository=https://forge.example/multihash > "$from/tools/owner"
   "${commit[@]}"
@@ -138,18 +142,14 @@ releases() {
   "${commit[@]}"
   rejects "not that of prebuilt/SHA256SUMS" "$from/tools/release" "$work/wrong"
   git -C "$from" reset -q --hard HEAD~
-  sed -i 's/[1e]/3/g' "$from"/{CHANGES,LICENSE,README.md,tools/owner,bindings/c/include/multihash.h}
-  (umask 077; TZ=Asia/Tokyo "$from/tools/release" "$to")
-  git -C "$from" checkout -q .
+  git -C "$from" sparse-checkout set --no-cone /tools/release
+  (umask 077; cd "$work"; TZ=Asia/Tokyo "$from/tools/release" release)
+  git -C "$from" sparse-checkout disable
   checks/lib/packed.py "$to" "$from"
   rejects "there is already" "$from/tools/release" "$to"
-  cp "$work"/bin/{dh_auto_test,cmake}
-  rejects "release: cmake -S" env PATH="$work/bin:$PATH" "$from/tools/release" "$work/new/failed"
   planted_release "$to" "$from"
-  tar -xf "$to/multihash-$version.tar.gz" -C "$work"
-  grep "^ -- A Tester <tester@forge.example>  $(date -d "$released" '+%a, %d %b %Y') " \
-    "$work/multihash-$version/bindings/c/debian/changelog"
-  diff -r -x .git -x control -x changelog -x Cargo.toml -x package.json "$from" "$work/multihash-$version"
+  tar -xOf "$to/multihash-$version.tar.gz" --wildcards '*/debian/changelog' |
+    grep "^ -- A Tester <tester@forge.example>  $(date -d "$released" '+%a, %d %b %Y') "
   while read -r architecture needed; do
     python3 -m zipfile -e "$to"/*_"$architecture".whl "$work/wheel"
     # shellcheck disable=SC2086 # words

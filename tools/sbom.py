@@ -28,7 +28,7 @@ def found(form: str, text: str) -> list[str]:
 
 
 COPYRIGHT, OWNER = found(r"(Copyright .*\d{4} (.*))", (SOURCE / "LICENSE").read_text())
-README, GENERATE = ((SOURCE / name).read_text() for name in ("README.md", "tools/generate"))
+README = (SOURCE / "README.md").read_text()
 KIT, LOGIC = (found(form, README)[0] for form in ("`(rattle-kit-[^`]*)`", "logic `([^`]*)`"))
 # what the kit made, and the files of a release that have it, or were linked with it
 MADE = {
@@ -37,7 +37,8 @@ MADE = {
     "bindings/c/src/module.h": r"-source\.|multihash_c-[0-9.]*\.crate|verified_multihash-[0-9.]*\.tar",
     "bindings/js/multihash.wasm": r"\.tgz$",
 }
-GENERATED = {"source": "bindings/c/src/module.h", "wasm": "bindings/js/multihash.wasm"}  # parts of tools/generate
+# what made two of them of what the kit linked
+MAKERS = (("wasm2c", "1.0.32", "bindings/c/src/module.h"), ("wasm-opt", "108", "bindings/js/multihash.wasm"))
 packages: list[dict[str, Any]] = []
 relations: list[dict[str, str]] = []
 
@@ -68,8 +69,8 @@ made = {name: package(name, VERSION, "LIBRARY", SOURCE / name) for name in MADE}
 for name in made.values():
     relate(name, "GENERATED_FROM", release)
     relate(kit, "BUILD_TOOL_OF", name)
-for part, tool, version in re.findall(r"^ *has (\w+) (\S+) ([0-9.]+)$", GENERATE, re.M):
-    relate(package(tool, version, "APPLICATION"), "BUILD_TOOL_OF", made[GENERATED[part]])
+for tool, version, name in MAKERS:
+    relate(package(tool, version, "APPLICATION"), "BUILD_TOOL_OF", made[name])
 for path in FILES:
     its_version = re.search("[-_]([0-9]+[.][0-9]+[.][0-9]+)", path.name)
     file = package(path.name, its_version[1] if its_version else VERSION, "ARCHIVE", path)

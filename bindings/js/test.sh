@@ -48,7 +48,7 @@ old_engine() {
 # shellcheck disable=SC2317 # build.sh runs them
 built_anew() {
   local -x text edit
-  tools/generate --check wasm
+  "$here/build.sh" --check
   PROVED=$work/none rejects "No such file" tools/link_wasm "$work/none.wasm"
   env() { :; } # no build
   wasm-opt() {

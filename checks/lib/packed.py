@@ -121,6 +121,8 @@ def file_errors() -> Iterator[str]:
     for name in archives:
         of_it, its_wanted = dict(members(name)), wanted.get(name)
         yield from (f"{name}: {path}: {wrong}" for path, wrong in of_it.items() if wrong)
+        if name.endswith(".tar.gz") and [*of_it] != sorted(of_it, key=lambda path: path.split("/")):
+            yield f"{name}: order"
         if its_wanted is not None:
             yield from (f"{name}: {path} is there, or is not" for path in sorted({*of_it} ^ its_wanted))
 
@@ -249,7 +251,8 @@ def material_errors() -> Iterator[str]:
     creators = [f"Organization: {HOLDER}", f"Tool: tools/release-{VERSION}"]
     about: Fields = {"spdxVersion": "SPDX-2.3", "dataLicense": "CC0-1.0", "SPDXID": "SPDXRef-DOCUMENT"}
     about |= {"name": f"multihash-{VERSION}", "creationInfo": {"created": f"{DATE}T00:00:00Z", "creators": creators}}
-    about |= {"documentNamespace": re.compile(rf"https://spdx.org/spdxdocs/multihash-{VERSION}-[0-9a-f]{{32}}")}
+    digest = hashlib.sha256(json.dumps(rows).encode()).hexdigest()[:32]
+    about |= {"documentNamespace": f"https://spdx.org/spdxdocs/multihash-{VERSION}-{digest}"}
     yield from field_errors(path.name, bill, about)
     names = {each["SPDXID"]: each["name"] for each in rows}
     keys = ("spdxElementId", "relationshipType", "relatedSpdxElement")
@@ -270,7 +273,8 @@ def material_errors() -> Iterator[str]:
     if not {*pairs} <= {(names.get(left), names[right]) for left, kind, right in related if kind == "BUILD_TOOL_OF"}:
         yield f"{path.name}: what made the WebAssembly"
     tools = {*names.values()} - release - {*files()} - {f"multihash-{VERSION}"}
-    known: Fields = dict(re.findall(r" has \w+ (\S+) (\S+)\n", (SOURCE / "tools/generate").read_text()))
+    known: Fields = {"wasm2c": fact(r"\bwasm2c=([\d.]+)", "checks/portable.t")}
+    known["wasm-opt"] = fact(r"\bwasm-opt=(\d+)", "bindings/js/test.sh")
     known[fact("`(rattle-kit-[^`]*)`", "README.md")] = fact("logic `([^`]*)`", "README.md")
     for name in COMMANDS:
         known[name] = re.findall(r"\d+(?:\.\d+)+", subprocess.getoutput(f"{name} --version"))[0]
@@ -278,7 +282,7 @@ def material_errors() -> Iterator[str]:
         yield f"{path.name}: tools {sorted(tools)}"
     described = {each["name"]: each for each in rows}
     for each in rows:
-        yield from field_errors(each["name"], each["versionInfo"], known.get(each["name"], ANY))
+        yield from field_errors(each["name"], each["versionInfo"], known.get(each["name"], re.compile(r"\d\S+")))
     of_all: Fields = {"SPDXID": re.compile("SPDXRef-[A-Za-z0-9.-]+"), "downloadLocation": "NOASSERTION"}
     of_all |= {"filesAnalyzed": False, "licenseConcluded": LICENCE, "licenseDeclared": LICENCE}
     of_all |= {"copyrightText": re.compile(f"Copyright .* {HOLDER}")}
