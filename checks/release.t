@@ -115,8 +115,7 @@ relations|sed -i 's/"SPDXRef-DOCUMENT",/"SPDXRef-more",/' multihash-*.spdx.json
 END
 }
 
-# The source of a release is the last commit, which is on no branch. That it changes are the owner's names, which are the
-# commit's own here.
+# The source of a release is the last commit, which is on no branch, but for names of the owner, which it has here.
 exports_source() {
   # shellcheck disable=SC2016
   install -m 755 -D <(printf '%s\n' '#!/bin/sh' 'cp -r "$2" "$0.source"' 'exit 1') "$work/bin/cmake"
@@ -128,8 +127,8 @@ exports_source() {
   diff -r -x .git "$1" "$work/bin/cmake.source"
 }
 
-# A release is made without a working tree, of a commit whose owner is another one, and not of a commit in which one byte
-# of an archive differs. With all it has the same bytes in another run.
+# A release is made without a working tree, of a commit with another owner, and not of one in which a byte of an archive
+# differs. With all it has the same bytes in another run.
 releases() {
   local from=$work/clone to=$work/release architecture needed
   local commit=(git -C "$work/clone" -c user.name=tester -c user.email=tester commit -q -a -m changed)
