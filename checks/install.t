@@ -3,7 +3,7 @@
 # pages and the packages for Rust, of the archives, in emulators for aarch64 and Windows, and of the portable source.
 # shellcheck source=checks/lib/tap.sh
 . "$(dirname "$0")/lib/tap.sh"
-plan 22 cc cmake python3 readelf pkg-config
+plan 21 cc cmake python3 readelf pkg-config
 # shellcheck source=checks/lib/installed.sh
 . checks/lib/installed.sh
 # shellcheck source=checks/lib/warnings.sh
@@ -18,21 +18,14 @@ build() {
   cmake -S "$top" -B "$to" "${@:2}"
   cmake --build "$to"
   prints '100% tests passed, 0 tests failed out of 2' ctest --output-on-failure --test-dir "$to"
-  both_ran "$to/Testing/Temporary/LastTest.log"
-}
-
-# The tests of both libraries drew inputs.
-both_ran() { command grep -c ' lines, drawn: 100000' "$1" | diff - <(echo 2); }
-
-planted_log() {
-  sed '0,/ drawn: 100000/s// drawn: 10000/' "$work/built/Testing/Temporary/LastTest.log" > "$work/planted.log"
-  both_ran "$work/planted.log"
 }
 
 install_built() { cmake --install "$work/$1" "${@:2}"; }
 
-# In the configured prefix, whose name has a blank. One of the tests loads the shared library.
+# In the configured prefix, whose name has a blank. The tests draw inputs, and one loads the shared library.
 installs() {
+  sed -n 's/.* lines, drawn: \(.*\), checks.*/\1/p' "$work/built/Testing/Temporary/LastTest.log" |
+    diff - <(printf '%s\n' 100000 100000)
   readelf -d "$work"/built/*_test | command grep -cF "[libmultihash_c.so.$major]" | diff - <(echo 1)
   install_built built
   is_installed "$prefix" lib
@@ -207,16 +200,15 @@ with_flags() {
 }
 
 test_installation() {
-  try "building: 2 comparisons" build built -DCMAKE_INSTALL_PREFIX="$prefix"
-  try "a test that draws less" rejects "< 1" planted_log
-  try "installing: 10 comparisons" installs
+  try "building: 1 comparison" build built -DCMAKE_INSTALL_PREFIX="$prefix"
+  try "installing: 11 comparisons" installs
   try "after edits: 5 comparisons" after_edits
   try "the installed test" installed_test "$prefix"
   try "a function in a released version" rejects "another number of functions than it says: MULTIHASH_C_1.0" \
     another_function
   try "installing below a folder" installs_below
   try "the portable source" from_source
-  try "packing: 24 comparisons" packs
+  try "packing: 23 comparisons" packs
   try "planted differences: 94 comparisons" planted_prefix
   try "the installed test of planted files: 8 comparisons" planted_test
   try "the installed test of nothing" rejects "no multihash_c.pc" bindings/c/examples/test.sh "$work/none"
@@ -233,7 +225,7 @@ test_installation() {
 by_subdirectory() {
   local to=$work/folder kind
   mkdir "$to"
-  printf '%s\n' 'cmake_minimum_required(VERSION 3.20)' 'project(example VERSION 7 LANGUAGES C)' 'enable_testing()' \
+  printf '%s\n' 'cmake_minimum_required(VERSION 3.20)' 'project(example VERSION 7 LANGUAGES C)' \
     "add_subdirectory(\"$top\" multihash_c)" 'add_executable(show ${source})' \
     'target_link_libraries(show multihash_c::${kind})' > "$to/CMakeLists.txt"
   for kind in shared static; do
@@ -245,10 +237,8 @@ by_subdirectory() {
   done
   readelf -Ws "$to/build/multihash_c/libmultihash_c.a" | grep ' HIDDEN .* multihash_encode$'
   cmake --install "$to/build"
-  for kind in pkgconfig/multihash_c.pc cmake/multihash_c/multihash_c-config-version.cmake; do
-    diff <(sed "s,^prefix=.*,prefix=$to/prefix," "$prefix/lib/$kind") "$to/prefix/lib/$kind"
-  done
-  prints 'No tests were found' ctest --test-dir "$to/build"
+  has_flags "$to/prefix" lib
+  grep "^set(PACKAGE_VERSION \"$version\")" "$to"/prefix/lib/cmake/multihash_c/*-version.cmake
   (cd "$to/prefix"; find . ! -type d | sort) |
     diff <(files_in lib | sed -E '/\/share\/|\.so/d; s/-release/-noconfig/' | sort) -
 }
@@ -350,7 +340,7 @@ rust_crate() {
 
 test_programs() {
   try "a project of CMake: 15 comparisons" by_find_package
-  try "a folder of a project of CMake: 7 comparisons" by_subdirectory
+  try "a folder of a project of CMake: 6 comparisons" by_subdirectory
   needs=go try "Go: 1 comparison" in_go
   needs=mandoc try "man pages: 23 comparisons" pages
   needs="cargo $crates" try "the packages for Rust, as installed" rust_crate
@@ -358,5 +348,5 @@ test_programs() {
 
 test_installation
 test_programs
-needs="aarch64-linux-gnu-gcc qemu-aarch64" try "building for aarch64: 3 comparisons" builds_for_aarch64
-needs="x86_64-w64-mingw32-gcc wine" try "building for Windows: 2 comparisons" builds_for_windows
+needs="aarch64-linux-gnu-gcc qemu-aarch64" try "building for aarch64: 2 comparisons" builds_for_aarch64
+needs="x86_64-w64-mingw32-gcc wine" try "building for Windows: 1 comparison" builds_for_windows

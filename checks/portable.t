@@ -38,7 +38,7 @@ translates() {
 planted_steps() {
   rejects_edits "$STEPS" translates "$work/planted" << 'END'
 $__rattle_leave is not recursive|sed -i -E 's/^  \(func \$__rattle_leave .*/&\n call $__rattle_leave/' linked.wat
-at most one frame|sed -i -E '0,/ global\.get \$__stack_pointer$/s//&\n i64.const 1\n i64.add/' linked.wat
+known frames|sed -i -E '0,/ global\.get \$__stack_pointer$/s//&\n i64.const 1\n i64.add/' linked.wat
 not so: the module has one block of data|sed -i -E 's/^(  \(data .*)\)$/\1\n\1)/' linked.wat
 the own block ends before the texts|sed -i -E 's/^(  \(data .*\(i64.const )[0-9]+/\1319/' linked.wat
 the module has the globals|sed -i -E 's/w2c_in_call = 0u/w2c_in_call = 1u/' calls.c

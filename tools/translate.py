@@ -18,7 +18,7 @@ COPY = re.compile(r"( *)memory\.copy(\)*)")
 ABOUT_MEMORY = re.compile(r'  \((?:memory |data |export "memory" |export "__heap_base" ).*')
 DATA = re.compile(r'  \(data (?:\$\S+ )?\(i64\.const (\d+)\) "((?:[^"\\]|\\[0-9a-f]{2})*)"\)(\)?)')
 FUNCTION = re.compile(r"  \(func (\S+) ")
-# What a function does first with the top of the stack: it allocates its frame, or only checks how much is left.
+# What a function does with the top of the stack: it allocates its frame, or only checks how much is left.
 FRAME = re.compile(r"global\.get \$__stack_pointer\s+i64\.const (\d+)\s+i64\.sub\s+local\.tee ")
 NO_FRAME = re.compile(
     r"global\.get \$__stack_pointer\s+(?:local\.tee \d+\s+)?i64\.const (?:16\s+i64\.lt_s|15\s+i64\.gt_s)\s"
@@ -108,7 +108,7 @@ def stack_size(linked: str) -> int:
             body = functions[name]
             frames = [int(size) for size in FRAME.findall(body)]
             looks = len(frames) + len(NO_FRAME.findall(body))
-            need(looks == body.count("global.get $__stack_pointer") <= 1, f"{name} has at most one frame")
+            need(looks == body.count("global.get $__stack_pointer"), f"{name} has known frames")
             within = [deepest(it, (*callers, name)) for it in re.findall(r"call (\$[^\s)]+)", body)]
             known[name] = sum(frames) + max(within, default=0)
         return known[name]
