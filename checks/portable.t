@@ -83,9 +83,9 @@ another_source() {
 }
 
 # The tests pass over multihash.c of a folder. What is built is kept in another one; the last words are a compiler with
-# options, and RUN runs a program.
+# options, and RUN runs a program. A warning is an error.
 passes() {
-  local from=$1 to=$work/$2 compile=("${@:3}" -std=c11 -I "$1")
+  local from=$1 to=$work/$2 compile=("${@:3}" "${c_flags[@]}" -I "$1")
   mkdir "$to"
   "${compile[@]}" -c "$from/multihash.c" -o "$to/multihash.o"
   "${compile[@]}" "$tests"/{test,verdicts,models,draws,buffer}.c "$to/multihash.o" -o "$to/test"
@@ -116,7 +116,7 @@ another_function() {
 }
 
 test_compiler() {
-  try "$1" passes "$tree" "$1" "$1" -O2 "${c_flags[@]}"
+  try "$1" passes "$tree" "$1" "$1" -O2
   try "$1, sanitizers" passes "$tree" "$1-sanitizers" "$1" "${sanitize[@]}"
 }
 
@@ -150,6 +150,7 @@ Aborted|sed -i 's/\(ADDRESS(OUT), out_length\))/\1 + 1)/' multihash.c
 Segm|sed -i '/ multihash_from_bytes/,/^}/s/= ANY_INPUT/= bytes_length \&\& bytes[-1] == 1/' multihash.c
 Segm|sed -i '/ multihash_from_bytes/,/^}/s/= ANY_INPUT/= bytes_length \&\& bytes[bytes_length] == 1/' multihash.c
 not so: |sed -i 's/35747867511423103ull/35747867511423102ull/' multihash.c
+[-Werror=|echo 'static int more;' >> multihash.c
 END
 }
 
@@ -162,7 +163,7 @@ test_here() {
   needs="clang llvm-nm" try "one of them that needs another function" rejects "> another" another_function
   needs="nm objdump" try "what the object needs: 2 comparisons" keeps_no_state "$work/cc/multihash.o"
   needs="nm objdump" try "objects with state: 14 comparisons" planted_state
-  try "planted source: 5 comparisons" planted_source
+  try "planted source: 6 comparisons" planted_source
 }
 
 # ---- other machines
@@ -170,7 +171,7 @@ test_here() {
 # The tests on a machine, by a compiler and a command that runs its programs.
 on_machine() {
   local -x RUN=$3
-  needs="$needs $2-gcc $3" try "$1" passes "$tree" "$1" "$2-gcc" -O2 "${c_flags[@]}" -static
+  needs="$needs $2-gcc $3" try "$1" passes "$tree" "$1" "$2-gcc" -O2 -static
 }
 
 needs="rt wasm2c=1.0.32 wasm2wat=1.0.32 wat2wasm=1.0.32" test_generated
