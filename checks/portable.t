@@ -18,14 +18,15 @@ ulimit -c 0
 
 # A copy of the repository in which one byte of the generated file differs, until what was made is written there.
 planted_generated() {
-  local -x PROVED=none
+  local -x PROVED=none TMPDIR=$work/left
   local copy=$work/repository file=bindings/c/src/module.h
-  mkdir -p "$copy/${file%/*}"
+  mkdir -p "$copy/${file%/*}" "$TMPDIR"
   cp -r tools "$copy"
   sed '0,/ = 127ull;/s// = 126ull;/' $file > "$copy/$file"
   rejects "module.h differ: " "$copy/tools/generate" --check source
   "$copy/tools/generate" source
   cmp $file "$copy/$file"
+  rmdir "$TMPDIR"
 }
 
 # Both steps of the translation.

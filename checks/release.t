@@ -20,27 +20,18 @@ build_packages() {
   (cd "$from"; prints '100% tests passed, 0 tests failed out of 2' dpkg-buildpackage -b -us -uc)
 }
 
-# A package with a file of which lintian warns.
-planted_package() {
-  dpkg-deb -R "$work"/debian-amd64/libmultihash-c1_*.deb "$work/planted-deb"
-  cp LICENSE "$work/planted-deb/usr/share/doc/libmultihash-c1"
-  dpkg-deb -b "$work/planted-deb" "$work/planted.deb"
-  lint_packages "$work/planted.deb"
-}
-
 # The packages of a folder for an architecture have what is installed, and no more: one what programs load, the other,
 # which needs it in this version, the rest; and the licence. They are unpacked together.
 has_packages() {
   local architecture=$2 lib=lib/$3 root=$work/root-$2 package file
-  printf './%s\n' "$lib"/libmultihash_c.so.{"$major","$version"} \
+  printf 'root/root ./%s\n' "$lib"/libmultihash_c.so.{"$major","$version"} \
     share/doc/libmultihash-c1/{changelog{.Debian,}.gz,copyright} > "$work/files.c1"
-  files_in "$lib" share/doc/multihash_c/changelog.Debian | sed -E -e '/\.so\./d' -e 's/-release\./-none./' \
-    -e 's,doc/multihash_c/,doc/libmultihash-c-dev/,' -e 's/(\.3|\.md|changelog|\.Debian)$/&.gz/' > "$work/files.c-dev"
+  files_in "$lib" share/doc/multihash_c/changelog.Debian | sed -E -e '/\.so\./d' -e 's,^,root/root ,' \
+    -e 's/-release\./-none./; s,doc/multihash_c/,doc/libmultihash-c-dev/,' \
+    -e 's/(\.3|\.md|changelog|\.Debian)$/&.gz/' > "$work/files.c-dev"
   for package in c1 c-dev; do
     file=$1/libmultihash-${package}_$version-1_$architecture.deb
-    dpkg -c "$file" > "$work/listed"
-    awk '$2 != "root/root"' "$work/listed" | diff /dev/null -
-    awk '!/^d/ { sub(/\/usr/, "", $6); print $6 }' "$work/listed" | sort | diff <(sort "$work/files.$package") -
+    dpkg -c "$file" | awk '!/^d/ { sub(/\/usr/, "", $6); print $2, $6 }' | sort | diff <(sort "$work/files.$package") -
     dpkg -x "$file" "$root"
     cmp LICENSE "$root/usr/share/doc/libmultihash-$package/copyright"
   done
@@ -51,15 +42,27 @@ has_packages() {
       sed -E 's/(.*)@@MULTIHASH_C_(.*)/ \1@MULTIHASH_C_\2 \2.0/' "$work/versions")
 }
 
-# A function that a later version brought: the map may say so, but Debian's list has to have that version.
+# A function that a later version brought: the map may say so, but Debian's list has to have that version, and what was
+# released has another number of functions.
 later_function() {
+  local map=$work/debian-later/source/bindings/c/src/multihash_c.map
   # shellcheck disable=SC2016
-  local edit='sed -i -e "/ multihash_head;/d" -e "s/# 12 f/# 11 f/" "$from"/bindings/c/src/multihash_c.map
-    printf "MULTIHASH_C_1.1 { # 1 functions\n    multihash_head;\n} MULTIHASH_C_1.0;\n" >> \
-      "$from"/bindings/c/src/multihash_c.map'
-  rejects "+ multihash_head@MULTIHASH_C_1.1" build_packages later "$edit"
-  local from=$work/debian-later/source
-  exports_exactly "$from"/obj-*/libmultihash_c.so "$from/bindings/c/src/multihash_c.map"
+  rejects "+ multihash_head@MULTIHASH_C_1.1" build_packages later 'sed -i "/ multihash_head;/d" "$map"
+    printf "MULTIHASH_C_1.1 { # 1 functions\n    multihash_head;\n} MULTIHASH_C_1.0;\n" >> "$map"'
+  set -- "$work"/debian-later/source/obj-*/libmultihash_c.so "$map"
+  rejects "another number of functions than it says: MULTIHASH_C_1.0" exports_exactly "$@"
+  sed -i 's/# 12 functions/# 11 functions/' "$map"
+  exports_exactly "$@"
+}
+
+# A package with a file more.
+planted_package() {
+  local package=$work/libmultihash-c1_$version-1_amd64.deb
+  dpkg-deb -R "$work/debian-amd64/${package##*/}" "$work/planted"
+  cp LICENSE "$work/planted/usr/share/doc/libmultihash-c1"
+  dpkg-deb -b --root-owner-group "$work/planted" "$package"
+  rejects "W: libmultihash-c1: file-missing-in-md5sums" lint_packages "$package"
+  rejects "> root/root ./share/doc/libmultihash-c1/LICENSE" has_packages "$work" amd64 x86_64-linux-gnu
 }
 
 # What the packages have works from where they were unpacked: both libraries, by a compiler and what runs its programs.
@@ -79,9 +82,9 @@ try_packages() {
 test_packages() {
   try "building packages: 1 comparison" build_packages amd64
   try "warnings of them" lint_packages "$work"/debian-amd64/*.changes
-  try "a warning of a package" rejects "W: libmultihash-c1: file-missing-in-md5sums" planted_package
-  try "a function of a later version: 4 comparisons" later_function
-  try "packages for amd64: 11 comparisons" has_packages "$work/debian-amd64" amd64 x86_64-linux-gnu
+  try "a planted package: 3 comparisons" planted_package
+  try "a function of a later version: 5 comparisons" later_function
+  try "packages for amd64: 9 comparisons" has_packages "$work/debian-amd64" amd64 x86_64-linux-gnu
   needs=qemu-x86_64 try "a program by the packages for amd64: 3 comparisons" try_packages amd64 x86_64-linux-gnu cc \
     qemu-x86_64
 }
@@ -141,7 +144,9 @@ releases() {
   rejects "not that of prebuilt/SHA256SUMS" "$from/tools/release" "$work/wrong"
   git -C "$from" reset -q --hard HEAD~
   git -C "$from" sparse-checkout set --no-cone /tools/release
-  (umask 077; cd "$work"; TZ=Asia/Tokyo "$from/tools/release" release)
+  mkdir "$work/left"
+  (umask 077; cd "$work"; TMPDIR=$work/left TZ=Asia/Tokyo "$from/tools/release" release)
+  rmdir "$work/left"
   git -C "$from" sparse-checkout disable
   checks/lib/packed.py "$to" "$from"
   rejects "there is already" "$from/tools/release" "$to"
@@ -170,7 +175,7 @@ test_release() {
   try "a release: $((45 + ${ALL:-0})) comparisons" releases
   CC=aarch64-linux-gnu-gcc RUN=$emulator try "the installed test of that for aarch64" \
     installed_test "$work/multihash_c-$version-aarch64"
-  try "packages for arm64: 11 comparisons" has_packages "$work/release" arm64 aarch64-linux-gnu
+  try "packages for arm64: 9 comparisons" has_packages "$work/release" arm64 aarch64-linux-gnu
   # shellcheck disable=SC2086
   try "a program by the packages for arm64: 3 comparisons" try_packages arm64 aarch64-linux-gnu aarch64-linux-gnu-gcc \
     $emulator
