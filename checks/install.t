@@ -198,7 +198,7 @@ test_installation() {
   try "installing below a folder" installs_below
   try "the portable source" from_source
   try "packing: 23 comparisons" packs
-  try "planted differences: 94 comparisons" planted_prefix
+  try "planted differences: 90 comparisons" planted_prefix
   try "the installed test of planted files: 8 comparisons" planted_test
   try "the installed test of nothing" rejects "no multihash_c.pc" bindings/c/examples/test.sh "$work/none"
   needs=clang try "other machines: 7 comparisons" machines
