@@ -309,6 +309,7 @@ pages() {
     python3 <(sed "$edit" "$top/bindings/c/man.py") "$header" "$top/CHANGES" man3
     rejects "$text" man_pages
   done << 'END'
+ERROR: skipping end|s/"[.]El"/".Ed"/
 1c1|s/ ?",/ ",/
 > `*|s/..fI.*fP/`*\\1/
 not in|s/(words)/&[9:]/
@@ -332,7 +333,7 @@ test_programs() {
   try "a project of CMake: 15 comparisons" by_find_package
   try "a folder of a project of CMake: 6 comparisons" by_subdirectory
   needs=go try "Go: 1 comparison" in_go
-  needs=mandoc try "man pages: 24 comparisons" pages
+  needs=mandoc try "man pages: 25 comparisons" pages
   needs="cargo $crates" try "the packages for Rust, as installed" rust_crate
 }
 
