@@ -3,17 +3,16 @@
 #
 #   bindings/python/pack.sh OUT [ARCHIVE..]   ARCHIVE is for Linux on x86-64 or aarch64
 #
-# The wheels are for distributions with glibc 2.17 or later. PYTHON has build, setuptools and wheel, else
-# /usr/bin/python3. CC is the compiler; for another machine it is aarch64-linux-gnu-gcc or x86_64-linux-gnu-gcc.
+# The wheels are for distributions with glibc 2.17 or later. /usr/bin/python3 has build, setuptools and wheel. CC is
+# the compiler; for another machine it is aarch64-linux-gnu-gcc or x86_64-linux-gnu-gcc.
 set -euo pipefail
 umask 022
 here=$(dirname "$(readlink -f "$0")")
-python=${PYTHON:-/usr/bin/python3}
-mkdir -p "$1"
-out=$(readlink -f "$1")
+out=$1
+mkdir -p "$out"
 work=$(mktemp -d)
 trap 'rm -rf "$work"' EXIT
-export SOURCE_DATE_EPOCH=${SOURCE_DATE_EPOCH:-315532800} CFLAGS="${CFLAGS-} -g0"
+export SOURCE_DATE_EPOCH=${SOURCE_DATE_EPOCH:-315532800} CFLAGS=-g0
 
 fail() {
   echo "pack.sh: $*" >&2
@@ -22,18 +21,8 @@ fail() {
 
 # Warnings are errors, but not that `[tool.setuptools]` is still beta.
 build() {
-  PYTHONWARNINGS="error::UserWarning,ignore:Support for" "$python" -m build --no-isolation "$@" > "$work/log" 2>&1 ||
-    { cat "$work/log" >&2; fail "not built"; }
-}
-
-# Debian's Python.h includes a file for each machine; those with 64 bits have the same configuration.
-for_machine() {
-  local headers
-  headers=$("$python" \
-    -c 'import sysconfig; print(sysconfig.get_config_var("MULTIARCH"), sysconfig.get_path("include"))')
-  mkdir -p "$work/$1-linux-gnu"
-  ln -s "/usr/include/${headers%% *}/${headers##*/}" "$work/$1-linux-gnu"
-  export CC=$1-linux-gnu-gcc CFLAGS="$CFLAGS -I$work"
+  PYTHONWARNINGS="error::UserWarning,ignore:Support for" /usr/bin/python3 -m build --no-isolation "$@" \
+    > "$work/log" 2>&1 || { cat "$work/log" >&2; exit 1; }
 }
 
 # A wheel of the unpacked sdist, whose module needs no later glibc than its tag says.
@@ -43,12 +32,17 @@ wheel() (
   *AArch64) machine=aarch64 ;;
   *) fail "no archive for x86-64 or aarch64: $1" ;;
   esac
-  [ "$machine" = "$(uname -m)" ] || for_machine "$machine"
+  if [ "$machine" != "$(uname -m)" ]; then
+    # Debian's Python.h includes a file for each machine; those with 64 bits have the same configuration.
+    ln -s "/usr/include/$(uname -m)-linux-gnu" "$work/$machine-linux-gnu"
+    export CC=$machine-linux-gnu-gcc CFLAGS="$CFLAGS -I$work"
+  fi
   MULTIHASH_C_ARCHIVE=$(readlink -f "$1") build -w "-C--build-option=--plat-name=manylinux2014_$machine" \
     -o "$work/$machine" "$work/$name"
-  "$python" -m zipfile -e "$work/$machine"/*.whl "$work/$machine/files"
-  glibc=$(readelf -W --dyn-syms "$work/$machine"/files/*/_core.abi3.so | grep -o 'GLIBC_[0-9.]*' | sort -Vu | tail -n 1)
-  [ "$(printf '%s\n' GLIBC_2.17 "$glibc" | sort -V | tail -n 1)" = GLIBC_2.17 ] || fail "the module needs $glibc"
+  python3 -m zipfile -e "$work/$machine"/*.whl "$work/$machine/files"
+  glibc=$({ echo GLIBC_2.17; readelf -W --dyn-syms "$work/$machine"/files/*/_core.abi3.so; } |
+    grep -o 'GLIBC_[0-9.]*' | sort -V | tail -n 1)
+  [ "$glibc" = GLIBC_2.17 ] || fail "the module needs $glibc"
   cp "$work/$machine"/*.whl "$out"
 )
 
@@ -59,7 +53,7 @@ build -s -o "$work" "$work/repository/bindings/python"
 name=verified_multihash-$(sed -n 's/^__version__ = "\(.*\)"$/\1/p' "$here/verified_multihash/__init__.py")
 mkdir "$work/$name"
 tar xf "$work"/*.tar.gz -C "$work/$name" --strip-components=1
-tar --sort=name --mode=u=rwX,go=rX --mtime="@$SOURCE_DATE_EPOCH" --owner=0 --group=0 --numeric-owner \
-  -C "$work" -c "$name" |
-  gzip -n9 > "$out/$name.tar.gz"
+chmod -R u=rwX,go=rX "$work/$name"
+tar --sort=name --mtime="@$SOURCE_DATE_EPOCH" --owner=0 --group=0 --numeric-owner \
+  -C "$work" -czf "$out/$name.tar.gz" "$name"
 for archive in "${@:2}"; do wheel "$archive"; done

@@ -1,55 +1,34 @@
 #!/usr/bin/env bash
-# Builds the sdist and the wheel, installs the wheel into a new virtual environment, and runs all tests there: plain,
-# over the portable source, under sanitizers, and with the debug allocator. It prints results as TAP, and its status
-# is 1 if one failed.
-#
-#   test.sh [ARCHIVE [WORK]]
-#
-# ARCHIVE is libmultihash_c.a, else that of bindings/c/prebuilt; WORK a folder in which the results stay, the
-# environment in WORK/venv. Needs cc, and PYTHON with headers, build, setuptools, venv and wheel, else
-# /usr/bin/python3. What needs a tool that is not installed is left out.
-# MULTIHASH_VERDICTS is the path of the test vectors, if not the repository's.
+# Builds the sdist and the wheel, installs the wheel into a new virtual environment, and runs all tests there: with the
+# debug allocator, over the portable source, and under sanitizers. /usr/bin/python3 has headers, _testcapi, build,
+# setuptools, venv and wheel.
 here=$(dirname "$(readlink -f "${BASH_SOURCE[0]}")")
-[ $# -le 2 ] || { sed -n '2,/^[^#]/s/^# \{0,1\}//p' "${BASH_SOURCE[0]}" >&2; exit 2; }
-archive=$(readlink -f "${1:-$here/../c/prebuilt/$(uname -m)/libmultihash_c.a}")
-to=
-if [ $# = 2 ]; then mkdir -p "$2" && to=$(readlink -f "$2") || exit 2; fi
 # shellcheck source=checks/lib/tap.sh
 . "$here/../../checks/lib/tap.sh"
-plan 20 cc "${PYTHON:=/usr/bin/python3}"
-to=${to:-$work}
-clone=$to/clone
-header=$PWD/bindings/c/include/multihash.h
-# What is tested is what was installed.
-unset PYTHONPATH LD_LIBRARY_PATH MULTIHASH_C_ARCHIVE CFLAGS
-export PYTHONDONTWRITEBYTECODE=1 PYTHON
-export MULTIHASH_VERDICTS=${MULTIHASH_VERDICTS:-$PWD/crates/vectors/data/verdicts.tsv}
-python=$to/venv/bin/python
+plan 18 cc /usr/bin/python3
+archive=$PWD/bindings/c/prebuilt/$(uname -m)/libmultihash_c.a
+clone=$work/clone
+python=$work/venv/bin/python
+export MULTIHASH_VERDICTS=$PWD/crates/vectors/data/verdicts.tsv
 
-# Another clone, in which an earlier build left more and other copies, makes the same, and leaves no other file.
-builds() {
-  rm -rf "$to/dist" "$to/again" "$clone"
-  mkdir -p "$clone"/bindings/python/{portable,verified_multihash.egg-info}
-  tar -C "$here/../.." -c LICENSE bindings/python checks/lib/not_shown.txt \
-    bindings/c/{include,prebuilt,src} crates/vectors/data | tar -x -C "$clone"
-  echo pack.sh > "$clone/bindings/python/verified_multihash.egg-info/SOURCES.txt"
-  env -C "$clone/bindings/python" tee LICENSE portable/{{memory,module,multihash}.h,multihash.c} \
-    tests/{earlier.pyc,not_shown.txt,verdicts.tsv} < /dev/null
-  "$here/pack.sh" "$to/dist" "$archive"
-  (umask 077; TMPDIR=$to/again "$clone/bindings/python/pack.sh" "$to/again" "$archive")
-  diff -r "$to/dist" "$to/again"
-  ls "$to"/dist/verified_multihash-[0-9]*.tar.gz
-  basename "$to"/dist/*.whl
-}
-
+# The module has no warnings. Another clone, of another owner, in which an earlier build left more and other copies,
+# makes the same, and leaves no other file.
 warnings="-std=c89 -Wall -Wextra -Wshadow -Wconversion -Wsign-conversion -Werror"
-without_warnings() {
-  CFLAGS=$warnings "$here/pack.sh" "$to/warned" "$archive"
+builds() {
+  mkdir -p "$clone"/bindings/python/{portable,verified_multihash.egg-info}
+  tar -c LICENSE bindings/{c,python} checks/lib/not_shown.txt crates/vectors/data | tar -x -C "$clone"
+  env -C "$clone/bindings/python" tee LICENSE portable/{{memory,module,multihash}.h,multihash.c} \
+    tests/{earlier.pyc,not_shown.txt,verdicts.tsv} verified_multihash.egg-info/PKG-INFO < /dev/null
+  echo pack.sh > "$clone/bindings/python/verified_multihash.egg-info/SOURCES.txt"
+  [ $UID != 0 ] || chown -R 1:2 "$clone"
+  CC="cc $warnings" "$here/pack.sh" "$work/dist" "$archive"
+  (umask 077; cd "$clone"; TMPDIR=$work/again bindings/python/pack.sh "$work/again" "${archive#"$OLDPWD/"}")
+  diff -r "$work/dist" "$work/again"
 }
 
 # An archive with a function less than the header's, which `$1` has in C.
 archive_with() {
-  local at=$to/other
+  local at=$work/other
   rm -rf "$at"
   mkdir "$at"
   printf '%s\n' "$1" > "$at/version.c"
@@ -60,13 +39,10 @@ archive_with() {
 
 # A file that is no archive, or a later glibc, makes no wheel.
 looks_at_archive() {
-  local name
-  for name in "$here/README.md" none.a; do
-    rejects "pack.sh: no archive for x86-64 or aarch64" "$here/pack.sh" "$to/wrong" "$name"
-  done
+  rejects "pack.sh: no archive for x86-64 or aarch64" "$here/pack.sh" "$work/wrong" "$here/README.md"
   archive_with 'int __cxa_thread_atexit_impl(void); int multihash_version(void) { return __cxa_thread_atexit_impl(); }'
-  rejects "pack.sh: the module needs GLIBC_2.18" "$here/pack.sh" "$to/wrong" "$to/other/libmultihash_c.a"
-  [ -z "$(find "$to/wrong" -name '*.whl')" ]
+  rejects "pack.sh: the module needs GLIBC_2.18" "$here/pack.sh" "$work/wrong" "$work/other/libmultihash_c.a"
+  [ -z "$(find "$work/wrong" -name '*.whl')" ]
 }
 
 # Installs what is named without a network, the kit, or a package that builds, in place of what was installed.
@@ -77,7 +53,7 @@ installs() {
 
 # What is timed has the same results, in the rows of README.md, and no call takes longer than a limit.
 beside_plain() {
-  local other=$to/beside_plain.py edit
+  local other=$work/beside_plain.py edit
   "$python" -I "$here/beside_plain.py" | sed 's/[0-9.]* µs.*//' |
     diff <(sed -n '/^| Call | this/,$s/\([0-9.]* µs.*\)\?$//p' "$here/README.md") -
   sed 's/= 0.6 /= 0 /; s/40, 2000/1, 99/' "$here/beside_plain.py" > "$other"
@@ -91,116 +67,117 @@ beside_plain() {
 # What is installed is imported, from the environment.
 imports() {
   installs "$1"
-  cd "$to"
+  cd "$work"
   "$python" -c 'import verified_multihash as found; print(found.__version__, found.__file__)' |
-    grep "^[0-9.]* $to/venv/"
+    grep "^[0-9.]* $work/venv/"
 }
 
 # The tests of a folder over what is installed, with variables that the other words set.
 unit_tests() {
   local tests=$1
   shift
-  cd "$to"
-  env "$@" timeout 600 "$python" -m unittest discover -v -s "$tests" 2>&1 | tee "$to/unit.log"
-  grep -E '^Ran [1-9][0-9]* tests' "$to/unit.log"
+  cd "$work"
+  env "$@" timeout 600 "$python" -m unittest discover -v -s "$tests" 2>&1 | tee "$work/unit.log"
+  grep "^Ran $(cat "$tests"/*.py | command grep -c '^    def test_') tests" "$work/unit.log"
 }
 
-# All tests, also that of failing allocations, which is skipped without CPython's module _testcapi.
+# All tests, also that of failing allocations.
 all_tests() {
-  unit_tests "$here/tests"
-  grep '^test_failing_allocations .* ok$' "$to/unit.log"
+  unit_tests "$here/tests" PYTHONMALLOC=debug
+  grep '^test_failing_allocations .* ok$' "$work/unit.log"
 }
 
 # The sdist is all that is needed: its own tests run too. What is in the folders above it is not used.
 sdist() {
-  local above=$to/above
-  rm -rf "$to/sdist" "$above"
-  mkdir "$to/sdist"
-  tar xf "$to"/dist/*.tar.gz -C "$to/sdist" --strip-components=1
-  mkdir -p "$above/folder/c/prebuilt/$(uname -m)"
-  cp -r "$to/sdist" "$above/folder"
-  touch "$above/folder/c/prebuilt/$(uname -m)/libmultihash_c.a" "$above/LICENSE"
-  imports "$above/folder/sdist"
-  cmp "$here/../../LICENSE" "$to/sdist/LICENSE"
-  imports "$to"/dist/*.tar.gz
-  unit_tests "$to/sdist/tests" -u MULTIHASH_VERDICTS
+  mkdir "$work/sdist"
+  tar xf "$work"/dist/*.tar.gz -C "$work/sdist" --strip-components=1
+  mkdir -p "$work/above/folder/c/prebuilt/$(uname -m)"
+  cp -r "$work/sdist" "$work/above/folder"
+  touch "$work/above/folder/c/prebuilt/$(uname -m)/libmultihash_c.a" "$work/above/LICENSE"
+  imports "$work/above/folder/sdist"
+  cmp "$here/../../LICENSE" "$work/sdist/LICENSE"
+  unit_tests "$work/sdist/tests" -u MULTIHASH_VERDICTS
 }
 
 # An archive of another version than the header's is not imported.
 other_version() {
   local number
-  number=$(sed -n 's/^#define MULTIHASH_VERSION_NUMBER //p' "$header")
+  number=$(sed -n 's/^#define MULTIHASH_VERSION_NUMBER //p' bindings/c/include/multihash.h)
   archive_with "unsigned multihash_version(void) { return $((number + 1)); }"
-  MULTIHASH_C_ARCHIVE=$to/other/libmultihash_c.a rejects \
+  MULTIHASH_C_ARCHIVE=$work/other/libmultihash_c.a rejects \
     "ImportError: the library for C has version $((number + 1))," imports "$here"
 }
 
-# A folder whose archive differs in one byte is not installed. Other systems have other options, and take no archive.
+# The folder of an earlier build takes the archive of its machine, but not on other systems, which have other options,
+# or with 32 bits. One that differs, or is another machine's, is not installed.
 altered_archive() {
-  local system options
-  printf x | dd of="$clone/bindings/c/prebuilt/$(uname -m)/libmultihash_c.a" bs=1 seek=9999 conv=notrunc
-  rejects "not the archive of prebuilt/SHA256SUMS" installs "$clone/bindings/python"
-  while read -r system options; do
-    CC=echo LDSHARED=echo _PYTHON_HOST_PLATFORM=$system env -C "$clone/bindings/python" "$python" setup.py build_ext |
-      sed -nE '/^echo .*multihash\.o/s/.*(multihash\.o|abi3\.so)//p' | xargs | diff - <(echo "$options")
+  local system bits options
+  cd "$clone/bindings/python"
+  while read -r system bits options; do
+    CC=echo LDSHARED=echo _PYTHON_HOST_PLATFORM=$system "$python" -c "import sys; sys.maxsize >>= 64 - $bits
+sys.argv[1:] = ['build_ext']; exec(open('setup.py').read())" |
+      sed -nE '/^echo .*(multihash\.o|_c\.a)/s/.*(multihash\.o|abi3\.so)//p' | xargs | diff - <(echo "$options")
   done << END
-win-amd64 /std:c11
-other-$(uname -m) -std=c11 -fvisibility=hidden
-linux-other -std=c11 -fvisibility=hidden -Wl,--exclude-libs,ALL -Wl,-z,now
+win-amd64 64 /std:c11
+other-$(uname -m) 64 -std=c11 -fvisibility=hidden
+linux-other 64 -std=c11 -fvisibility=hidden -Wl,--exclude-libs,ALL -Wl,-z,now
+linux-$(uname -m) 32 -std=c11 -fvisibility=hidden -Wl,--exclude-libs,ALL -Wl,-z,now
+linux-$(uname -m) 64 -Wl,--exclude-libs,ALL -Wl,-z,now
 END
+  printf x >> "../c/prebuilt/$(uname -m)/libmultihash_c.a"
+  rejects "not the archive of prebuilt/SHA256SUMS" installs .
+  (cd ../c/prebuilt; mv aarch64 kept; mv x86_64 aarch64; mv kept x86_64)
+  rejects "not the archive of prebuilt/SHA256SUMS" installs .
 }
 
 # The portable source and the module, built with sanitizers, which the interpreter loads first.
 sanitize="-g -O1 -fsanitize=address,undefined -fno-sanitize-recover=all"
-preloaded() {
-  echo "LD_PRELOAD=$(cc -print-file-name=libasan.so) $(cc -print-file-name=libubsan.so)"
-}
-
 under_sanitizers() {
   CFLAGS=$sanitize installs "$1"
-  unit_tests "$here/tests" "$(preloaded)" ASAN_OPTIONS=detect_leaks=0:allocator_may_return_null=1 PYTHONMALLOC=malloc
+  unit_tests "$here/tests" LD_PRELOAD="$(cc -print-file-name=libasan.so) $(cc -print-file-name=libubsan.so)" \
+    ASAN_OPTIONS=detect_leaks=0:allocator_may_return_null=1 PYTHONMALLOC=malloc
 }
 
 # A copy of the sdist whose module has an edit of sed.
 planted() {
-  rm -rf "$to/planted"
-  cp -r "$to/sdist" "$to/planted"
-  sed -i "$1" "$to/planted/src/core.c"
+  rm -rf "$work/planted"
+  cp -r "$work/sdist" "$work/planted"
+  sed -i "$1" "$work/planted/src/core.c"
 }
 
 planted_read() {
   planted 's/bytes + found.digest_offset/& + 4096/'
-  under_sanitizers "$to/planted"
+  under_sanitizers "$work/planted"
 }
 
 planted_shift() {
   planted '1s/^/__attribute__((constructor)) static void planted(void) { volatile int n = 40; n = 1 << n; }\n/'
-  under_sanitizers "$to/planted"
+  under_sanitizers "$work/planted"
 }
 
 planted_write() {
   planted '/^static int fill_module/,/{/s/{/{ char *block = PyMem_Malloc(1); block[1] = 1; PyMem_Free(block);/'
-  installs "$to/planted"
+  installs "$work/planted"
   unit_tests "$here/tests" PYTHONMALLOC=debug
 }
 
 planted_warning() {
   sed -i "$1" "$clone/bindings/python/$2"
-  CFLAGS=$warnings "$clone/bindings/python/pack.sh" "$to/warned" "$archive"
+  CC="cc $warnings" "$clone/bindings/python/pack.sh" "$work/warned" "$archive"
 }
 
 # Each argument is kept.
 planted_leak() {
   planted '/^    Py_DECREF(from->owner);$/d'
-  installs "$to/planted"
+  installs "$work/planted"
   unit_tests "$here/tests"
 }
 
 # The package and the examples of README.md are typed, the module has the names of its stub, and wrong arguments are
 # found.
 types() {
-  local strict=(mypy --strict --cache-dir "$to/mypy" --python-executable "$python")
-  cd "$to"
+  local strict=(mypy --strict --cache-dir "$work/mypy" --python-executable "$python")
+  cd "$work"
   python3 -c 'import doctest, sys; print(doctest.script_from_examples(sys.stdin.read()))' < "$here/README.md" |
     grep -vE '"1220"|\(SHA2_256, 32\)$' > readme_examples.py
   printf '%s\n' 'import verified_multihash as vm' 'vm.encode(0x12, 32)' 'vm.decode("1220")' \
@@ -214,25 +191,20 @@ types() {
   rejects 'Found 5 errors' "${strict[@]}" wrong.py
 }
 
-"$PYTHON" -c 'import build, setuptools, venv, wheel' 2> "$work/log" || all_need=python3-build+setuptools+venv+wheel
+/usr/bin/python3 -c 'import _testcapi, build, setuptools, venv, wheel' 2> "$work/log" ||
+  all_need=python3-build+setuptools+venv+wheel
 try "the sdist and the wheel, built twice: 1 comparison" builds
-try "the module without warnings" without_warnings
-needs="objcopy ar" try "archives: 3 comparisons" looks_at_archive
-try "an environment" "$PYTHON" -m venv --clear --system-site-packages "$to/venv"
-try "the wheel, installed" imports "$to"/dist/*.whl
-if "$python" -c 'import _testcapi' 2> "$work/log"; then
-  try "the tests: 2 comparisons" all_tests
-else
-  leave_out "_testcapi is not installed"
-fi
-try "the tests with the debug allocator" unit_tests "$here/tests" PYTHONMALLOC=debug
+needs="objcopy ar" try "archives: 2 comparisons" looks_at_archive
+try "an environment" /usr/bin/python3 -m venv --clear --system-site-packages "$work/venv"
+try "the wheel, installed" imports "$work"/dist/*.whl
+try "the tests: 2 comparisons" all_tests
 needs="mypy stubtest" try "types: 3 comparisons" types
 try "the times beside plain Python: 6 comparisons" beside_plain
 try "the folder, installed" imports "$here"
 needs="objcopy ar" try "an archive of another version" other_version
-try "an altered archive: 4 comparisons" altered_archive
-try "the sdist, installed, the portable source: 4 comparisons" sdist
-try "sanitizers" under_sanitizers "$to/sdist"
+try "an altered archive: 7 comparisons" altered_archive
+try "the sdist, installed, the portable source: 3 comparisons" sdist
+try "sanitizers" under_sanitizers "$work/sdist"
 try "a write after a block" rejects "bad trailing pad byte" planted_write
 try "a warning" rejects "conversion]" planted_warning '1s/^/signed char planted(long more) { return more; }\n/' \
   src/core.c
