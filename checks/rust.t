@@ -10,8 +10,7 @@ version=$(sed -n 's/^#define MULTIHASH_VERSION "\([0-9.]*\)"$/\1/p' bindings/c/i
 # Runs a command of Cargo for the packages for Rust, and counts it; what is set comes first.
 in_crate() {
   printf . >> "$work/compared"
-  env -u MULTIHASH_C_LIB_DIR -u MULTIHASH_C_SYSTEM -u CC -u CFLAGS KEEP=1 RUSTFLAGS="-D warnings" \
-    RUSTDOCFLAGS="-D warnings" bindings/rust/offline.sh "$work" "$@"
+  CARGO_NET_OFFLINE=true KEEP=1 RUSTFLAGS="-D warnings" RUSTDOCFLAGS="-D warnings" bindings/rust/offline.sh "$work" "$@"
 }
 
 # Runs a number of tests. None is left out, and neither Cargo nor a build script warns.
@@ -45,6 +44,7 @@ rust_source() {
   done
   in_crate cargo clean -p multihash_c
   rejects "no-compiler" in_crate CC=no-compiler cargo build
+  rejects '"/std:c11"' in_crate CC=clang-cl cargo build --target x86_64-pc-windows-msvc
   mv "$work/kept" "$c/prebuilt"
 }
 
@@ -62,13 +62,17 @@ rust_targets() {
   done
 }
 
-# What is packed is of the repository, not of an earlier copy, and needs none: it has the archives, else the portable
-# source.
+# What is packed is of the repository without what was built there, not of an earlier copy, and needs none: it has the
+# archives, else the portable source.
 rust_packed() {
-  local packed=$work/packed package
+  local packed=$work/packed clone=$work/clone package
   touch "$work/repository/bindings/rust/multihash/src/old.rs"
-  bindings/rust/pack.sh "$work"
-  mkdir "$packed"
+  mkdir "$packed" "$clone"
+  cp -r LICENSE bindings "$clone"
+  mkdir -p "$clone/bindings/rust/target"
+  echo planted > "$clone/bindings/rust/Cargo.lock"
+  (cd "$work"; clone/bindings/rust/pack.sh .)
+  [ ! -e "$work/repository/bindings/rust/target" ]
   for package in multihash-0.19.5 "multihash_c-$version"; do
     tar xf "$work/target/package/$package.crate" -C "$packed"
     cmp LICENSE "$packed/$package/LICENSE"
@@ -77,7 +81,7 @@ rust_packed() {
     >> "$packed/multihash-0.19.5/Cargo.toml"
   [ ! -e "$packed/multihash-0.19.5/src/old.rs" ]
   diff -r bindings/c/prebuilt "$packed/multihash_c-$version/prebuilt"
-  tests 12 cargo test --manifest-path "$packed/multihash-0.19.5/Cargo.toml" -- --show-output
+  tests 12 CC=none cargo test --manifest-path "$packed/multihash-0.19.5/Cargo.toml" -- --show-output
   rm -r "$packed/multihash_c-$version/prebuilt"
   tests 12 cargo test --manifest-path "$packed/multihash-0.19.5/Cargo.toml"
 }
@@ -125,7 +129,6 @@ rust_serde() {
 rust_lints() {
   in_crate cargo clippy --all-targets
   in_crate cargo clippy --no-default-features --all-targets
-  in_crate cargo clippy --no-default-features --features alloc
 }
 
 # Beside the same package each share of instructions is 1. A wrong result of a call is found.
@@ -181,12 +184,12 @@ rust_build() {
 }
 
 try "the tests: 8 comparisons" rust_binding
-try "the portable source: 13 comparisons" rust_source
+try "the portable source: 15 comparisons" rust_source
 needs=clang try "the portable source for other targets: 15 comparisons" rust_targets
 try "the packed packages: 7 comparisons" rust_packed
 needs=$archive try "the build script: 13 comparisons" rust_build
 try "the switch from upstream's package: 7 comparisons" rust_switch
 try "serde: 4 comparisons" rust_serde
-needs=cargo-clippy try "lints: 3 comparisons" rust_lints
+needs=cargo-clippy try "lints: 2 comparisons" rust_lints
 needs=cargo-clippy try "a warning of each command: 19 comparisons" planted_warnings
 needs="python3=3.11+ valgrind /lib64/ld-linux-x86-64.so.2" try "instructions: 4 comparisons" rust_counts

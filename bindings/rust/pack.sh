@@ -5,14 +5,10 @@
 #   bindings/rust/pack.sh WORK
 set -euo pipefail
 here=$(dirname "$(readlink -f "$0")")
-work=$(readlink -f "$1")
-copy=$work/repository
-"$here/offline.sh" "$work" true
-package=$copy/bindings/rust/multihash_c
-mkdir "$package/portable"
-cp "$here/../../LICENSE" "$package"
-cp "$here/../../LICENSE" "$copy/bindings/rust/multihash"
-cp -r "$copy/bindings/c/prebuilt" "$package"
-cp "$copy"/bindings/c/{src/{multihash.c,module.h,memory.h},include/multihash.h} \
-  "$package/portable"
-KEEP=1 "$here/offline.sh" "$work" cargo package --workspace --exclude-lockfile --no-verify
+packages=$1/repository/bindings/rust
+"$here/offline.sh" "$1" true
+mkdir "$packages/multihash_c/portable"
+cp "$here/../../LICENSE" "$packages/multihash"
+cp -r "$here"/../{../LICENSE,c/prebuilt} "$packages/multihash_c"
+cp "$here"/../c/{src/{multihash.c,module.h,memory.h},include/multihash.h} "$packages/multihash_c/portable"
+KEEP=1 "$here/offline.sh" "$1" cargo package --workspace --exclude-lockfile --no-verify
