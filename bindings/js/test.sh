@@ -48,6 +48,11 @@ old_engine() {
 # shellcheck disable=SC2317 # build.sh runs them
 built_anew() {
   local -x text edit
+  mkdir -p "$work/anew/bindings"
+  cp -r "$here" "$work/anew/bindings"
+  ln -s "$top/tools" "$work/anew"
+  (cd "$work/anew/bindings/js"; sed -i "s/atob('[^']*/&more/" demo.html; rm bytes.js multihash.wasm; ./build.sh)
+  diff -r "$here" "$work/anew/bindings/js"
   "$here/build.sh" --check
   PROVED=$work/none rejects "No such file" tools/link_wasm "$work/none.wasm"
   env() { :; } # no build
@@ -203,7 +208,7 @@ test_browser() {
   part "the demo page in $name: 1 comparison" "$tools" demo "$name"
 }
 
-part "the WebAssembly built anew: 11 comparisons" "rt wasm-opt=108 wasm2wat=1.0.32" built_anew
+part "the WebAssembly built anew: 12 comparisons" "rt wasm-opt=108 wasm2wat=1.0.32" built_anew
 part "the WebAssembly for old engines: 1 comparison" wasm-validate old_module
 while read -r entry made; do
   part "in Node.js, $entry" node prints "$made checks right, 0 wrong" in_node "$vectors/verdicts.tsv" "$entry"
