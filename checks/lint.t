@@ -104,7 +104,7 @@ located() { ! command grep -nE 'dirname "\$[0{]' "$@"; }
 without_words() {
   local script name status=1
   for script in bindings/{c/man.py,python/pack.sh,rust/{beside_upstream.py,offline.sh,pack.sh}} checks/lib/packed.py \
-    tools/{sbom.py,link_wasm,{portable_c,release}{,\ -h},generate\ none}; do
+    tools/{sbom.py,link_wasm,{portable_c,release}{,\ -h},generate\ none} bindings/js/build.sh\ none; do
     name=${script%% *}
     [ "$script" != tools/link_wasm ] || status=2
     ends $status "${name##*/}" eval "$script < /dev/null > /dev/null"
@@ -159,7 +159,7 @@ try_linter() {
   needs=mypy try_linter "mypy --strict --scripts-are-modules --cache-dir $work/mypy" untyped.py \
     "missing a type annotation" "def same(number): return number" $typed
   needs=tsc try_linter names unused.js TS6133 "export {};\nconst number = 1;" $javascript
-  try "scripts without their words: 13 comparisons" without_words
+  try "scripts without their words: 14 comparisons" without_words
   try "what tests compare: 8 comparisons" compares << 'END'
 135 bindings/c/tests
 127 bindings/js/test

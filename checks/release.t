@@ -91,21 +91,16 @@ test_packages() {
 
 # ---- a release
 
-# Each of these differences of a release, and of its source, is found.
+# Each of these differences of a release is found.
 planted_release() {
-  rejects_edits "$2" checks/lib/packed.py "$1" "$work/planted" << 'END'
-sideEffects|echo 'connect();' >> bindings/js/module.js
-creators|sed -i 's/ (c) 2026 .*/ (c) 2026 Another/' LICENSE
-repository|sed -i 's/^repository=.*/repository=another/' tools/owner
-END
   rejects_edits "$1" checks/lib/packed.py "$work/planted" "$2" << 'END'
 the files of the release|mv *x86_64.whl more
 SHA256SUMS|echo >> SHA256SUMS
-1 2 600 later|tar --owner=1 --group=2 --mode=600 -czf multihash_c-*-source.tar.gz SHA256SUMS
-0 0 700|mkdir d; tar --owner=0 --group=0 --mode=700 -czf multihash_c-*-source.tar.gz d; rmdir d
-order|touch a b; tar --transform s,^,d/, -czf multihash_c-*-source.tar.gz b a; rm a b
+1 2 ab600 (1970|tar --owner=a:1 --group=b:2 --mode=600 --mtime=@0 -czf multihash_c-*-source.tar.gz SHA256SUMS
+0 0 700|mkdir d; tar --numeric-owner --owner=0 --group=0 --mode=700 -czf multihash_c-*-source.tar.gz d; rmdir d
+order|tar -czf multihash_c-*-source.tar.gz --transform=s,^,d/, *.json SHA256SUMS
 more is there, or is not|mkdir d; touch d/more; tar -czf multihash_c-*-source.tar.gz d; rm -r d
-whl: more is|python3 -c 'import sys, zipfile; zipfile.ZipFile(sys.argv[1], "a").writestr("more", "")' *x86_64.whl
+d: 600 (1980|python3 -c 'import sys, zipfile as z; z.ZipFile(*sys.argv[1:]).writestr(z.ZipInfo("d"), "")' *_x*.whl a
 {'default'|tar xf *.tgz; sed -Ei 's/("t.*), (.*) }/\2, \1 }/' package/*.json; tar czf *.tgz package; rm -r package
 checksumValue|echo >> libmultihash-c-dev_*_amd64.deb
 what the kit made|sed -i s/GENERATED_FROM/DEPENDS_ON/ multihash-*.spdx.json
@@ -127,6 +122,22 @@ exports_source() {
   rejects "release: cmake -S" env PATH="$work/bin:$PATH" "$1/tools/release" "$work/new/failed"
   rm -r "$work/bin/cmake.source/debian"
   diff -r -x .git "$1" "$work/bin/cmake.source"
+}
+
+# Each field of a release is compared: here all differ.
+altered_fields() {
+  python3 - "$@" << 'END' | wc -l | diff <(echo 144) -
+import sys
+sys.path.append("checks/lib")
+import packed
+
+def altered(of_it):
+    return {name: altered(each) for name, each in of_it.items()} if isinstance(of_it, dict) else "?"
+for module, name in (packed, "headers"), (packed.json, "loads"), (packed.tomllib, "loads"):
+    setattr(module, name, lambda text, old=getattr(module, name): altered(old(text)))
+packed.material_errors = list
+packed.main()
+END
 }
 
 # A release is made without a working tree, of a commit with another owner, and not of one in which a byte of an archive
@@ -151,6 +162,7 @@ releases() {
   checks/lib/packed.py "$to" "$from"
   rejects "there is already" "$from/tools/release" "$to"
   planted_release "$to" "$from"
+  altered_fields "$to" "$from"
   tar -xOf "$to/multihash-$version.tar.gz" --wildcards '*/debian/changelog' |
     grep "^ -- A Tester <tester@forge.example>  $(date -d "$released" '+%a, %d %b %Y') "
   while read -r architecture needed; do
@@ -165,14 +177,11 @@ releases() {
 x86_64 libc.so.6
 aarch64 ld-linux-aarch64.so.1 libc.so.6
 END
-  [ "${ALL-}" = 1 ] || return 0
-  "$from/tools/release" "$work/again"
-  diff -r "$to" "$work/again"
 }
 
 test_release() {
   local emulator="qemu-aarch64 -L /usr/aarch64-linux-gnu"
-  try "a release: $((45 + ${ALL:-0})) comparisons" releases
+  try "a release: 44 comparisons" releases
   CC=aarch64-linux-gnu-gcc RUN=$emulator try "the installed test of that for aarch64" \
     installed_test "$work/multihash_c-$version-aarch64"
   try "packages for arm64: 9 comparisons" has_packages "$work/release" arm64 aarch64-linux-gnu

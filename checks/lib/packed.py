@@ -1,6 +1,6 @@
 #!/usr/bin/env python3
-"""Compares a release with its source: the files of each package, with owners and modes; each field that describes a
-package; checksums and the bill of materials.
+"""Compares a release with its source: the files of each package, with owners, modes, times and their order; each field
+that describes a package; checksums and the bill of materials.
 
     checks/lib/packed.py RELEASE SOURCE    SOURCE is the clone that the release was made of
 
@@ -42,7 +42,6 @@ MAINTAINER, HOMEPAGE, REPOSITORY = (
 )
 FILES = subprocess.check_output(["git", "-C", SOURCE, "ls-files", "-s"], text=True).splitlines()
 EXECUTABLE = {line.partition("\t")[2]: line.startswith("100755") for line in FILES}
-WORDS = re.compile(r"(?=.*\bmultihash\b)[\w, '\[\]-]*\bmultiformats\b.*\bverified\b.*")
 ANY = re.compile(r"(?s).+")
 
 
@@ -54,16 +53,21 @@ def below(folder: str, to: str = "", without: str = "$^") -> set[str]:
 
 def members(name: str) -> Iterator[tuple[str, str]]:
     """The files of an archive, by their paths in the package, with what is wrong with the owner, mode or time."""
+    midnight = (*map(int, DATE.split("-")), 0, 0, 0)
     if name.endswith(".whl"):
-        yield from ((path, "") for path in zipfile.ZipFile(RELEASE / name).namelist())
+        for part in zipfile.ZipFile(RELEASE / name).infolist():
+            mode = {"so": "755", "dist-info/RECORD": "664"}.get(part.filename.rpartition(".")[2], "644")
+            found = f"{part.external_attr >> 16 & 0o777:o} {part.date_time}"
+            yield part.filename, "" if found == f"{mode} {midnight}" else found
         return
+    times = {".crate": (2006, 7, 24, 1, 21, 28), ".tgz": (1985, 10, 26, 8, 15, 0)}  # of Cargo and npm
+    wanted_time = times.get(Path(name).suffix, midnight)
     for each in tarfile.open(RELEASE / name):
         path = each.name.partition("/")[2]
         is_program = path.endswith("examples/test.sh") or name == f"multihash-{VERSION}.tar.gz" and EXECUTABLE.get(path)
-        wanted = 0o644 if each.isfile() and not is_program else 0o755
-        day = time.strftime("%F", time.gmtime(each.mtime))
-        found = f"{each.uid} {each.gid} {each.mode:o}" + " later" * (day > DATE)
-        wrong = "" if found == f"0 0 {wanted:o}" else found
+        mode = "644" if each.isfile() and not is_program else "755"
+        found = f"{each.uid} {each.gid} {each.uname}{each.gname}{each.mode:o} {time.gmtime(each.mtime)[:6]}"
+        wrong = "" if found == f"0 0 {mode} {wanted_time}" else found
         if wrong or not each.isdir():
             yield path, wrong
 
@@ -121,7 +125,7 @@ def file_errors() -> Iterator[str]:
     for name in archives:
         of_it, its_wanted = dict(members(name)), wanted.get(name)
         yield from (f"{name}: {path}: {wrong}" for path, wrong in of_it.items() if wrong)
-        if name.endswith(".tar.gz") and [*of_it] != sorted(of_it, key=lambda path: path.split("/")):
+        if name.endswith((".crate", ".gz")) and [*of_it] != sorted(of_it, key=lambda path: path.split("/")):
             yield f"{name}: order"
         if its_wanted is not None:
             yield from (f"{name}: {path} is there, or is not" for path in sorted({*of_it} ^ its_wanted))
@@ -135,7 +139,8 @@ def npm() -> Fields:
     exports: Fields = {"." if name == "index" else f"./{name}": entry for name, entry in entries.items()}
     exports |= {path: path for path in ("./multihash.wasm", "./package.json")}
     connecting = (path for path in folder.glob("*.js") if re.search(r"(?m)^(await )?connect\w*\(", path.read_text()))
-    fields = {"name": "verified-multihash", "version": VERSION, "keywords": WORDS}
+    fields: Fields = {"name": "verified-multihash", "version": VERSION}
+    fields |= {"keywords": ["multihash", "multiformats", "wasm", "verified"]}
     fields |= {"description": fact(r"\A// (.*?)\. ", "bindings/js/core.js")}
     fields |= {"license": LICENCE, "repository": REPOSITORY, "author": HOLDER, "type": "module", "exports": exports}
     fields |= {"types": "./index.d.ts", "files": ANY, "engines": {"node": f">={NODE}"}}
@@ -145,7 +150,9 @@ def npm() -> Fields:
 def crate(name: str, version: str) -> Fields:
     """The description of a crate: its tests cover features and dependencies."""
     fields: Fields = {"name": name, "version": version, "edition": "2021", "rust-version": RUST, "license": LICENCE}
-    fields |= {"repository": REPOSITORY, "readme": "README.md", "keywords": WORDS}
+    words = ("cid", "ipfs") if name == "multihash" else ("varint",)
+    fields |= {"repository": REPOSITORY, "readme": "README.md"}
+    fields |= {"keywords": ["multihash", "multiformats", *words, "verified"]}
     fields |= {"description": fact(rf"^\| \[`{name}`\].*\| (.*) \|$", "bindings/rust/README.md").replace("`", "")}
     fields |= {f"auto{kind}": False for kind in ("lib", "bins", "examples", "tests", "benches")}
     if name == "multihash":
@@ -158,7 +165,8 @@ def python() -> Fields:
     classes = ("Programming Language :: Python :: 3", "Programming Language :: Python :: Implementation :: CPython")
     fields: Fields = {"Metadata-Version": ANY, "Name": "verified-multihash", "Version": VERSION}
     fields |= {"Summary": fact(r'\A"""(.*)\.$', "bindings/python/verified_multihash/__init__.py")}
-    fields |= {"Author": HOLDER, "License": LICENCE, "License-File": "LICENSE", "Keywords": WORDS}
+    fields |= {"Author": HOLDER, "License": LICENCE, "License-File": "LICENSE"}
+    fields |= {"Keywords": "multihash,multiformats,cid,ipfs,verified"}
     fields |= {"Classifier": [*classes, "Typing :: Typed"], "Requires-Python": f">={PYTHON}"}
     return fields | {"Description-Content-Type": "text/markdown"}
 
@@ -195,6 +203,8 @@ def fields() -> Iterator[tuple[str, Fields, Fields]]:
         yield name, tomllib.loads(content(f"{name}.crate", f"{name}/Cargo.toml"))["package"], crate(package, version)
     name = f"verified_multihash-{VERSION}"
     yield name, headers(content(f"{name}.tar.gz", f"{name}/PKG-INFO")), python()
+    build = {"requires": ["setuptools >= 61"], "build-backend": "setuptools.build_meta"}
+    yield name, tomllib.loads(content(f"{name}.tar.gz", f"{name}/pyproject.toml"))["build-system"], build
     for machine, architecture in (("x86_64", "amd64"), ("aarch64", "arm64")):
         tag = f"cp38-abi3-manylinux2014_{machine}"
         wheel, info = f"{name}-{tag}.whl", f"{name}.dist-info"
@@ -299,9 +309,10 @@ def material_errors() -> Iterator[str]:
 def main() -> int:
     errors, compared = [*file_errors()], [*fields()]
     errors += [*material_errors(), *(error for each in compared for error in field_errors(*each))]
-    numbers = len(compared), sum(value is ANY for *_, wanted in compared for value in wanted.values())
-    if numbers != (15, 12):
-        errors.append(f"the numbers of descriptions, and of fields with any value: {numbers}")
+    any_value = sum(value is ANY for *_, wanted in compared for value in wanted.values())
+    numbers = len(compared), any_value, [*files().values()].count(None)
+    if numbers != (16, 12, 8):
+        errors.append(f"the numbers of descriptions, any values, and packages of any files: {numbers}")
     print("\n".join(errors))
     return bool(errors)
 
