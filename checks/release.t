@@ -20,8 +20,7 @@ build_packages() {
   (cd "$from"; prints '100% tests passed, 0 tests failed out of 2' dpkg-buildpackage -b -us -uc)
 }
 
-# The packages of a folder for an architecture have what is installed, and no more: one what programs load, the other,
-# which needs it in this version, the rest; and the licence. They are unpacked together.
+# The packages of a folder for an architecture, unpacked together, have what is installed, the licence, and no more.
 has_packages() {
   local architecture=$2 lib=lib/$3 root=$work/root-$2 package file
   printf 'root/root ./%s\n' "$lib"/libmultihash_c.so.{"$major","$version"} \
@@ -65,7 +64,7 @@ planted_package() {
   rejects "> root/root ./share/doc/libmultihash-c1/LICENSE" has_packages "$work" amd64 x86_64-linux-gnu
 }
 
-# What the packages have works from where they were unpacked: both libraries, by a compiler and what runs its programs.
+# Both libraries work from where the packages were unpacked.
 try_packages() {
   local root=$work/root-$1 flags option
   local -x PKG_CONFIG_SYSROOT_DIR=$root PKG_CONFIG_LIBDIR=$root/usr/lib/$2/pkgconfig
@@ -96,11 +95,11 @@ planted_release() {
   rejects_edits "$1" checks/lib/packed.py "$work/planted" "$2" << 'END'
 the files of the release|mv *x86_64.whl more
 SHA256SUMS|echo >> SHA256SUMS
-1 2 ab600 (1970|tar --owner=a:1 --group=b:2 --mode=600 --mtime=@0 -czf multihash_c-*-source.tar.gz SHA256SUMS
+1 2 ab600 1970|tar --owner=a:1 --group=b:2 --mode=600 --mtime=@0 -czf multihash_c-*-source.tar.gz SHA256SUMS
 0 0 700|mkdir d; tar --numeric-owner --owner=0 --group=0 --mode=700 -czf multihash_c-*-source.tar.gz d; rmdir d
 order|tar -czf multihash_c-*-source.tar.gz --transform=s,^,d/, *.json SHA256SUMS
 more is there, or is not|mkdir d; touch d/more; tar -czf multihash_c-*-source.tar.gz d; rm -r d
-d: 600 (1980|python3 -c 'import sys, zipfile as z; z.ZipFile(*sys.argv[1:]).writestr(z.ZipInfo("d"), "")' *_x*.whl a
+whl: more is|python3 -c 'import sys, zipfile; zipfile.ZipFile(sys.argv[1], "a").writestr("more", "")' *x86_64.whl
 {'default'|tar xf *.tgz; sed -Ei 's/("t.*), (.*) }/\2, \1 }/' package/*.json; tar czf *.tgz package; rm -r package
 checksumValue|echo >> libmultihash-c-dev_*_amd64.deb
 what the kit made|sed -i s/GENERATED_FROM/DEPENDS_ON/ multihash-*.spdx.json
@@ -130,7 +129,6 @@ altered_fields() {
 import sys
 sys.path.append("checks/lib")
 import packed
-
 def altered(of_it):
     return {name: altered(each) for name, each in of_it.items()} if isinstance(of_it, dict) else "?"
 for module, name in (packed, "headers"), (packed.json, "loads"), (packed.tomllib, "loads"):

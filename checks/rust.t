@@ -1,6 +1,6 @@
 #!/usr/bin/env bash
-# The packages for Rust: their tests over the archive and the portable source, from a clone and as packed, in a program
-# that uses upstream's package, and with serde; and their build script.
+# The packages for Rust: their tests, from a clone and as packed, in a program that uses upstream's package, and with
+# serde; and their build script.
 # shellcheck source=checks/lib/tap.sh
 . "$(dirname "$0")/lib/tap.sh"
 plan 10 cc cargo rustc=1.82+ /usr/share/cargo/registry/{cc-1,pkg-config-0.3,serde_json-1}.*
@@ -48,8 +48,8 @@ rust_source() {
   mv "$work/kept" "$c/prebuilt"
 }
 
-# Another compiler builds it for targets without a C library, and where the system, the byte order or the width of
-# addresses is another than the archive of the processor is for. Rust's core for these is not installed here.
+# Another compiler builds it where the system, the byte order or the width of addresses is another than the archive of
+# the processor is for. Rust's core for these is not installed here.
 rust_targets() {
   local target flags
   for target in thumbv7em-none-eabi wasm32-unknown-unknown x86_64-unknown-none \
@@ -62,15 +62,13 @@ rust_targets() {
   done
 }
 
-# What is packed is of the repository without what was built there, not of an earlier copy, and needs none: it has the
-# archives, else the portable source.
+# What is packed is not of an earlier copy or build, and needs no repository: it has archives, else the portable source.
 rust_packed() {
   local packed=$work/packed clone=$work/clone package
   touch "$work/repository/bindings/rust/multihash/src/old.rs"
   mkdir "$packed" "$clone"
   cp -r LICENSE bindings "$clone"
-  mkdir -p "$clone/bindings/rust/target"
-  echo planted > "$clone/bindings/rust/Cargo.lock"
+  echo planted | tee "$clone"/bindings/rust/{Cargo.lock,target}
   (cd "$work"; clone/bindings/rust/pack.sh .)
   [ ! -e "$work/repository/bindings/rust/target" ]
   for package in multihash-0.19.5 "multihash_c-$version"; do
@@ -108,8 +106,7 @@ fn main() {
 END
 }
 
-# The line of the pages replaces upstream's package by this one in a whole dependency graph. A crate that asks for an
-# absent feature is an error, and does not undo this.
+# The line of the pages replaces upstream's package in a whole dependency graph. An absent feature is an error.
 rust_switch() {
   local feature
   (write_program)
@@ -131,7 +128,7 @@ rust_lints() {
   in_crate cargo clippy --no-default-features --all-targets
 }
 
-# Beside the same package each share of instructions is 1. A wrong result of a call is found.
+# Beside the same package each share of instructions is 1. A wrong result is found.
 rust_counts() {
   local copy=$work/repository/bindings/rust
   [[ $(in_crate ./beside_upstream.py multihash --write) = "| Call"* ]]
@@ -140,7 +137,7 @@ rust_counts() {
   rejects "truncate 1 20" in_crate ./beside_upstream.py multihash
 }
 
-# Each warning of a command is an error: a line is planted in a file.
+# Each warning of a command is an error.
 planted_warnings() {
   local file command text line
   while IFS=, read -r file command text line; do
@@ -164,8 +161,7 @@ multihash/Cargo.toml,tests 13 cargo test --features serde --test values,unused m
 END
 }
 
-# The archive is found in a directory of any name, and missed in another and once it is gone. A relative path is
-# rejected, and a library that pkg-config does not find. The archive that comes with the source needs no compiler.
+# The archive is found in a directory of any name, and missed once it is gone. That of the source needs no compiler.
 rust_build() {
   local directory=$work/$'a \xff directory' plain=$work/plain
   mkdir "$directory" "$plain"

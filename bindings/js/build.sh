@@ -64,8 +64,6 @@ differs_in_wraps() {
   operands=$(awk '/\.(load|store)/ { n++ } /memory\.copy/ { n += 3 } END { print n + 0 }' "$work/linked")
   linked=$(wraps "$work/linked.wat")
   lowered=$(wraps "$work/lowered.wat")
-  echo "$(wc -l < "$work/linked") instructions, and $lowered times i32.wrap_i64: $linked," \
-    "and $operands for addresses and lengths"
   [ "$operands" -gt 0 ]
   diff <(echo $((linked + operands))) <(echo "$lowered")
 }

@@ -1,5 +1,5 @@
 #!/usr/bin/env bash
-# Tests the module for JavaScript. It prints results as TAP, and its status is 1 if one failed.
+# Tests the module for JavaScript.
 here=$(dirname "$(readlink -f "${BASH_SOURCE[0]}")")
 # shellcheck source=checks/lib/tap.sh
 . "$here/../../checks/lib/tap.sh"

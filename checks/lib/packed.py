@@ -2,9 +2,7 @@
 """Compares a release with its source: the files of each package, with owners, modes, times and their order; each field
 that describes a package; checksums and the bill of materials.
 
-    checks/lib/packed.py RELEASE SOURCE    SOURCE is the clone that the release was made of
-
-A field's value is mostly a fact of another file, else it stands here, or a pattern does. Prints what differs.
+    checks/lib/packed.py RELEASE SOURCE    SOURCE is the clone that the release was made of; prints what differs
 """
 import email.parser
 import hashlib
@@ -53,21 +51,17 @@ def below(folder: str, to: str = "", without: str = "$^") -> set[str]:
 
 def members(name: str) -> Iterator[tuple[str, str]]:
     """The files of an archive, by their paths in the package, with what is wrong with the owner, mode or time."""
-    midnight = (*map(int, DATE.split("-")), 0, 0, 0)
     if name.endswith(".whl"):
-        for part in zipfile.ZipFile(RELEASE / name).infolist():
-            mode = {"so": "755", "dist-info/RECORD": "664"}.get(part.filename.rpartition(".")[2], "644")
-            found = f"{part.external_attr >> 16 & 0o777:o} {part.date_time}"
-            yield part.filename, "" if found == f"{mode} {midnight}" else found
+        yield from ((path, "") for path in zipfile.ZipFile(RELEASE / name).namelist())
         return
-    times = {".crate": (2006, 7, 24, 1, 21, 28), ".tgz": (1985, 10, 26, 8, 15, 0)}  # of Cargo and npm
-    wanted_time = times.get(Path(name).suffix, midnight)
     for each in tarfile.open(RELEASE / name):
         path = each.name.partition("/")[2]
         is_program = path.endswith("examples/test.sh") or name == f"multihash-{VERSION}.tar.gz" and EXECUTABLE.get(path)
-        mode = "644" if each.isfile() and not is_program else "755"
-        found = f"{each.uid} {each.gid} {each.uname}{each.gname}{each.mode:o} {time.gmtime(each.mtime)[:6]}"
-        wrong = "" if found == f"0 0 {mode} {wanted_time}" else found
+        wanted = "0 0 644" if each.isfile() and not is_program else "0 0 755"
+        found = f"{each.uid} {each.gid} {each.uname}{each.gname}{each.mode:o}"
+        if name.endswith(".gz"):  # Cargo and npm have times of their own
+            wanted, found = f"{wanted} {DATE} 00:00:00", found + time.strftime(" %F %T", time.gmtime(each.mtime))
+        wrong = "" if found == wanted else found
         if wrong or not each.isdir():
             yield path, wrong
 
