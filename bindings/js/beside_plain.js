@@ -1,12 +1,12 @@
 // Times of each call beside plain JavaScript that copies its results, with the same checks, by turns, as minima.
 //   node beside_plain.js           prints the table of README.md
-//   node beside_plain.js --write   also writes it; a number after that is the number of rounds
-//   node beside_plain.js --check   compares only the results
+//   node beside_plain.js --write   also writes it
 import { readFileSync, writeFileSync } from 'node:fs';
 import * as ours from './index.js';
+import { same, summary, tally } from './test/check.js';
 
-const ROUNDS = Number(process.argv[3] ?? 250);
-const CALLS = 2000;
+const ROUNDS = 30;
+const CALLS = 1000;
 const { MultihashError } = ours;
 const fail = (status, details) => {
   throw new MultihashError(status, details);
@@ -150,36 +150,43 @@ function errorOf(it, input) {
   }
 }
 
-let sink = 0;
+let results = 0;
 function nanoseconds(call) {
   const start = process.hrtime.bigint();
-  for (let left = CALLS; left > 0; left--) sink += typeof call() === 'object' ? 1 : 0;
+  for (let left = CALLS; left > 0; left--) results += typeof call() === 'object' ? 1 : 0;
   return Number(process.hrtime.bigint() - start) / CALLS;
 }
 
-/** Throws if two calls differ in what they return, or in how they fail. */
+/** Compares what two calls return, or how they fail. */
 function agree(what, ...calls) {
-  const [here, there] = calls.map((call) => {
+  const texts = calls.map((call) => {
     try {
       return JSON.stringify(call());
     } catch (error) {
       return JSON.stringify([error.name, error]);
     }
   });
-  if (here !== there) throw new Error(`${what} differ: ${here}, ${there}`);
+  same(...texts, what);
 }
 const both = (what, call) => agree(what, () => call(ours), () => call(plain));
 
 const [mine, theirs] = [callsOf(ours), callsOf(plain)];
-for (const name of Object.keys(mine)) {
-  const called = name.split('`')[1] ?? 'errorOf';
-  if (!RegExp(`[. ]${called}\\b`).test(String(mine[name]))) throw new Error(`${name}: ${mine[name]}`);
-  const [, size] = name.match(/of (\d+) bytes/) ?? [];
-  const [, input] = String(mine[name]).match(/(\w+)\)$/) ?? [];
-  if (size) agree(`${name}: sizes`, () => Number(size), () => ({ bytes, long, digest })[input].length);
-  agree(name, mine[name], theirs[name]);
+for (const name of Object.keys(mine)) agree(name, mine[name], theirs[name]);
+for (const [code, ...rest] of [[17, 5, 6], [19, 5, 6], [18, 5], [18, 5, 6, 7], [18, 4, 7], [18, 5, 7]]) {
+  both(`order of ${code}, ${rest}`, (it) => {
+    const [one, other] = [it.Multihash.of(18, Uint8Array.of(5, 6)), it.Multihash.of(code, Uint8Array.from(rest))];
+    return [it.compare(one, other), it.compare(other, one), one.equals(other)];
+  });
 }
-for (const text of ['', '80', '8000', '12', '1280', '12ff02', `${'ff'.repeat(9)}01`, `12${'80'.repeat(9)}`])
+both('head of an array', (it) => it.head([18, 0]));
+both('copies', (it) => {
+  const input = Uint8Array.of(18, 1, 5);
+  const found = [it.decode(input), it.read(input), it.Multihash.of(18, input)];
+  input.fill(1);
+  return found;
+});
+for (const text of ['', '0000', '80', '8000', '12', '1280', '128000', '12ff02', `${'ff'.repeat(9)}01`,
+  `12${'80'.repeat(9)}`])
   both(text, (it) => it.read(Buffer.from(text, 'hex')));
 for (let code = 1; code < 2 ** 53; code *= 128) both(`read ${code}`, (it) => it.read(ours.encode(code, digest)));
 for (const code of [0, 127, 128, 2 ** 53 - 1, -1, 2 ** 53]) {
@@ -189,7 +196,7 @@ for (const code of [0, 127, 128, 2 ** 53 - 1, -1, 2 ** 53]) {
     both(`of ${code}, ${size}`, (it) => it.Multihash.of(code, new Uint8Array(size).fill(7)));
   }
 }
-if (process.argv[2] === '--check') process.exit();
+if (tally.errors.length > 0) throw new Error(summary(tally));
 const least = Object.fromEntries(Object.keys(mine).map((name) => [name, [Infinity, Infinity]]));
 for (let round = 0; round < ROUNDS; round++) {
   for (const [name, [here, there]] of Object.entries(least))
@@ -198,7 +205,7 @@ for (let round = 0; round < ROUNDS; round++) {
 let table = '| Call | Time | Plain JavaScript | Share |\n|---|---:|---:|---:|\n';
 for (const [name, [here, there]] of Object.entries(least))
   table += `| ${name} | ${here.toFixed(0)} ns | ${there.toFixed(0)} ns | ${(here / there).toFixed(2)} |\n`;
-console.log(table + (sink ? '' : 'nothing was called'));
+console.log(`${table}${results} results; ${summary(tally)}`);
 if (process.argv[2] === '--write') {
   const page = new URL('README.md', import.meta.url);
   writeFileSync(page, readFileSync(page, 'utf8').replace(/\| Call \| Time (.+\n)+/, () => table));

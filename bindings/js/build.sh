@@ -68,10 +68,6 @@ differs_in_wraps() {
   diff <(echo $((linked + operands))) <(echo "$lowered")
 }
 
-build_bytes() {
-  printf "// Made by build.sh: multihash.wasm in base64.\nexport default '%s';\n" "$(base64 -w 0 "$1")"
-}
-
 # demo.html, whose function `load` has the code of core.js on one line, without its comments, over the module's bytes.
 build_page() {
   {
@@ -85,7 +81,8 @@ build_page() {
 build_into() {
   "$top/tools/link_wasm" "$work/linked.wasm"
   lower_wasm "$work/linked.wasm" "$1/multihash.wasm"
-  build_bytes "$1/multihash.wasm" > "$1/bytes.js"
+  printf "// Made by build.sh: multihash.wasm in base64.\nexport default '%s';\n" "$(base64 -w 0 "$1/multihash.wasm")" \
+    > "$1/bytes.js"
   build_page "$1/multihash.wasm" > "$work/demo.html"
   cp "$work/demo.html" "$1"
 }

@@ -3,18 +3,11 @@
 here=$(dirname "$(readlink -f "${BASH_SOURCE[0]}")")
 # shellcheck source=checks/lib/tap.sh
 . "$here/../../checks/lib/tap.sh"
-plan 22
+plan 20
 # shellcheck source=checks/lib/proved.sh
 . checks/lib/proved.sh
 top=$PWD
 vectors=$top/crates/vectors/data
-
-# Counts a command that needs tools, whose names are one word.
-part() {
-  local name=$1 tools=$2
-  shift 2
-  needs=$tools try "$name" "$@"
-}
 
 in_node() {
   # Node.js may hang where it compiles beside a collection of garbage
@@ -23,25 +16,36 @@ in_node() {
 
 # The tests find that there are no vectors, and these faults, whose numbers differ where a test compares less.
 planted() {
-  head -n 1 "$vectors/verdicts.tsv" > "$work/none"
-  rejects " 1 wrong" in_node "$work/none"
+  head -n 1 "$vectors/verdicts.tsv" | tr S s > "$work/none"
+  rejects " 2 wrong" in_node "$work/none"
   cp -r "$here" "$work/planted"
   local here=$work/planted
   sed -i -f "$here/test/faults.sed" "$here"/{core,api,index}.js
-  rejects "47403 checks right, 23437 wrong" in_node "$vectors/verdicts.tsv"
+  rejects "checksum 146053340, 47385 checks right, 23466 wrong" in_node "$vectors/verdicts.tsv" module
+}
+
+lists_engines() {
+  echo "after $2"
+  node --no-warnings --input-type=module -e "
+    $2;
+    await import('$1').then(() => process.exit(1), (error) => console.log(error.message));" |
+    grep 'WebAssembly.*BigInt.*Node.js 20.16, Chrome 89, Edge 89, Firefox 90 and Safari 15'
 }
 
 # In an engine without WebAssembly, without BigInt, or without bulk memory operations, the import throws an error that
-# lists versions. --jitless is Node.js without WebAssembly.
+# lists versions, since core.js has a condition for each.
 old_engine() {
-  local lack option
-  for lack in 0 'delete globalThis.WebAssembly' 'delete globalThis.BigInt' 'WebAssembly.validate = () => false'; do
-    if [ "$lack" = 0 ]; then option=--jitless; else option=--no-warnings; fi
-    node "$option" --input-type=module -e "
-      $lack;
-      await import('$here/$1.js').then(() => process.exit(1), (error) => console.log(error.message));" |
-      grep 'WebAssembly.*BigInt.*Node.js 20.16, Chrome 89, Edge 89, Firefox 90 and Safari 15'
-  done
+  local entry lack condition copy=$work/old
+  cp -r "$here" "$copy"
+  while IFS='|' read -r entry lack condition; do
+    lists_engines "$here/$entry.js" "$lack"
+    sed "s/$condition/false/" "$here/core.js" > "$copy/core.js"
+    rejects "after $lack" lists_engines "$copy/$entry.js" "$lack"
+  done << 'END'
+index|delete globalThis.WebAssembly|typeof WebAssembly !== 'object'
+index|delete globalThis.BigInt|typeof BigInt !== 'function'
+inline|WebAssembly.validate = () => false|!WebAssembly.validate(PROBE)
+END
 }
 
 # Edits of what wasm-opt made are found, no file is left, and a folder without the crates is an error.
@@ -93,13 +97,12 @@ plain() {
   local copy=$work/timed edit
   cp -r "$here" "$copy"
   sed -i 's/ ns |.*//' "$copy/README.md"
-  node "$copy/beside_plain.js" --write 1
+  node --import "$copy/test/clock.js" "$copy/beside_plain.js" --write | cksum | grep -x '3094711087 635'
   edit='s/[0-9.]*\( ns\)* |//g'
   diff <(sed "$edit" "$here/README.md") <(sed "$edit" "$copy/README.md")
-  for edit in "s/'0')/'1')/" 's/: at /: 0 /' 's/(code, size);/;/' 's/of 34/of 33/' 's/scale \*=.*)/scale <<= 7)/'; do
-    sed "$edit" "$here/beside_plain.js" > "$copy/beside_plain.js"
-    rejects " differ: " node "$copy/beside_plain.js" --check
-  done
+  sed -i -e "s/'0')/'1')/" -e 's/: at /: 0 /' -e 's/(code, size);/;/' -e 's/scale \*=.*)/scale <<= 7)/' \
+    "$copy/beside_plain.js"
+  rejects "checksum 859004280, 67 checks right, 61 wrong" node "$copy/beside_plain.js"
 }
 
 # What is packed, unpacked elsewhere, runs the script of README.md, and is imported from CommonJS.
@@ -154,73 +157,72 @@ shows() {
 
 # The page of README.md, over the unpacked package.
 packed_page() {
-  printf 'page.html\tcode 22, size 32; MultihashError: unexpected_eof, incomplete: true\n' | shows "$1"
+  printf 'page.html\tcode 22, size 32; MultihashError: unexpected_eof, incomplete: true\n' |
+    prints "checksum -1468367868, 3 checks right, 0 wrong" shows "$1"
 }
 
 demo() {
   local example bytes
   example=$(cat "$top/crates/mh_show/stdin")
   bytes=$(printf '07%.0s' {1..301})
-  sed 's/^/demo.html#/; s/|/\t/g' << END | prints '24 pages, 0 wrong' shows "$1"
-$example|Valid: code 22, digest of 32 bytes.|22 (0x16)|3 to 34|32|~ #summary.good[role=status]|~ .digest > .eighth
-${example}00|1 byte follows the multihash.|Byte 35 of 35: 00|The first 34 bytes are a multihash.|Keep the first 34 bytes
-${example}00|~ [aria-invalid=true]|~ .decided[title="Byte 35"]|~ tbody th[scope=row] > .following
-${example}0000|2 bytes follow|invalid_size: Invalid multihash size 2.|not a part of the multihash|35 to 36
+  sed 's/^/demo.html#/; s/|/\t/g' << END | prints "${2-}106 checks right, 0 wrong" shows "$1"
+$example|Valid: code 22, digest of 32 bytes.
+${example}00|1 byte follows the multihash.|Byte 35 of 35: 00|The first 34 bytes are a multihash.
+${example}0000|2 bytes follow|invalid_size: Invalid multihash size 2.
 16|The input ends inside or before a varint.|at least 1 byte.
-80|~ .code > .byte|No byte: the input ends after 1 byte, and more input can change the result.
-7f80|a varint that is not complete|insufficient: not enough input bytes|the varint of the code
-1620ab|The input ends inside the digest.|Still needed: 31 bytes.|unexpected_eof: failed to fill whole buffer|~ td.digits
-168002|A digest of 256 bytes is too long: it may have 255.|2 bytes (1680) can begin a multihash.|Byte 3 of 3: 02|! empty
+80|No byte: the input ends after 1 byte, and more input can change the result.
+7f80|a varint that is not complete
+1620ab|The input ends inside the digest.|Still needed: 31 bytes.
+168002|A digest of 256 bytes is too long: it may have 255.|! empty
 16ffffffffffffffff7f|A digest of 9223372036854775807 bytes is too long
-12808000|A varint is longer than needed: it ends in a zero byte.|The first 2 bytes (1280) can begin a multihash.
-ffffffffffffffffff01|A varint has more than nine bytes, as every number of 2^63 or more needs.|Byte 9 of 10: ff
+12808000|A varint is longer than needed: it ends in a zero byte.
+ffffffffffffffffff01|A varint has more than nine bytes, as every number of 2^63 or more needs.
 %|, after 0 digits, is not
 12%F0%9D%9F%8E0|𝟎|, after 2 digits, is not a hexadecimal digit.
 120|The number of digits, 3, is odd: each byte has two.
-1200|Valid: code 18, digest of 0 bytes.|empty|none|~ label[for=input] + #input[aria-describedby=help] + #help|! more
+1200|Valid: code 18, digest of 0 bytes.
 0X1E01|30 (0x1e)|The whole input can begin a multihash. Still needed: 1 byte.
-%200x12%2001|Still needed: 1 byte.|= |Paste a multihash, or choose an example.
-1200${bytes}|301 bytes follow|… and 1 byte more|3 to 303
-ffffffffffffffff7fff01${bytes::508}|9223372036854775807|12 to 265|! following|Still needed: 1 byte.
+%200x12%2001|Still needed: 1 byte.|= |Paste a multihash
+1200${bytes}|301 bytes follow|… and 1 byte more
+ffffffffffffffff7fff01${bytes::508}|9223372036854775807|! following|Still needed: 1 byte.
 168002|> Keep the first 2 bytes|~ #input:focus|The whole input can begin|! Keep|= 0x1300|Valid: code 19|# 12 01|1 byte.
 |Valid: code 22|= |Paste|! The parts|> Trailing bytes|3 bytes follow|> A multihash|Valid: code 22
 |> Truncated digest|inside the|> Unfinished varint|before a varint|> Not minimal|a varint that is longer than needed
-|> Code too large|a varint of more than nine bytes|~ .byte + .hidden|> Digest too long|is too long|= |! What is wrong
+|> Code too large|a varint of more than nine bytes|> Digest too long|is too long|= |! What is wrong
 END
 }
 
 another_text() {
-  printf 'demo.html#1200\tNot valid\n' | shows "$1"
+  printf 'demo.html#1200\tNot valid\t! Valid\t~ .following\n' | shows "$1"
 }
 
-# The demo page works from the disk too.
-demo_of_disk() {
-  chromium --headless --no-sandbox --disable-gpu --user-data-dir="$work/profile" \
-    --dump-dom "file://$here/demo.html#1200" 2> "$work/err" |
-    sed -e '/<script/,$d' -e 's/<[^>]*>//g' | grep -F 'Valid: code 18, digest of 0 bytes.'
-}
-
-# The parts in a browser, whose name and tools are given.
+# The parts in a browser, whose name and tools are given, with checksums, which are others where a clone of an error
+# lacks its cause.
 test_browser() {
   local name=$1 tools=$2
-  part "in $name" "$tools" node "$here/test/browser.js" "$name" test/page.html "$here" "$vectors"
-  part "the packed package's page in $name" "$tools" packed_page "$name"
-  part "the demo page in $name: 1 comparison" "$tools" demo "$name"
+  needs=$tools try "in $name" prints "${3-}140786 checks right, 0 wrong" \
+    node "$here/test/browser.js" "$name" test/page.html "$here" "$vectors"
+  needs=$tools try "the packed package's page in $name: 1 comparison" packed_page "$name"
+  needs=$tools try "the demo page in $name: 1 comparison" demo "$name" "${4-}"
 }
 
-part "the WebAssembly built anew: 12 comparisons" "rt wasm-opt=108 wasm2wat=1.0.32" built_anew
-part "the WebAssembly for old engines: 1 comparison" wasm-validate old_module
+sums=("2 entries, checksum 890844232, " "checksum 165294037, ")
+needs="rt wasm-opt=108 wasm2wat=1.0.32" try "the WebAssembly built anew: 12 comparisons" built_anew
+needs=wasm-validate try "the WebAssembly for old engines: 1 comparison" old_module
 while read -r entry made; do
-  part "in Node.js, $entry" node prints "$made checks right, 0 wrong" in_node "$vectors/verdicts.tsv" "$entry"
-done < <(sed -n 's|.*"default": "./\(.*\)[.]js".*|\1|p' "$here/package.json" | paste - <(printf '708%s\n' 50 50 58))
-part "faults: 2 comparisons" node planted
-part "plain JavaScript: 6 comparisons" node plain
-part "old engines: 4 comparisons" node old_engine index
-part "old engines, inline: 4 comparisons" node old_engine inline
-part "the packed package's script: 4 comparisons" npm packed_script
-part "the packed package's types: 3 comparisons" "npm tsc" packed_types
-test_browser chromium chromium
-part "another text than the demo page's" chromium rejects " 1 wrong" another_text chromium
-part "the demo page from the disk: 1 comparison" chromium demo_of_disk
-test_browser firefox firefox-esr
+  needs=node try "in Node.js, $entry" prints "checksum $made checks right, 0 wrong" \
+    in_node "$vectors/verdicts.tsv" "$entry"
+done << 'END'
+index -430753592, 70850
+inline -430753592, 70850
+module 487848430, 70858
+END
+needs=node try "faults: 2 comparisons" planted
+needs=node try "plain JavaScript: 3 comparisons" plain
+needs=node try "old engines: 9 comparisons" old_engine
+needs=npm try "the packed package's script: 4 comparisons" packed_script
+needs="npm tsc" try "the packed package's types: 3 comparisons" packed_types
+test_browser chromium chromium "${sums[@]}"
+needs=chromium try "another text than the demo page's" rejects " 2 checks right, 3 wrong" another_text chromium
+test_browser firefox firefox-esr "${sums[@]}"
 test_browser webkit "WebKitWebDriver xvfb-run"

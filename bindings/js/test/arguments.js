@@ -18,6 +18,8 @@ function outOfBounds() {
   return bytes;
 }
 
+const kindOf = (value) => Object.prototype.toString.call(value);
+
 function noBytes() {
   const others = [34, 34n, '1620', [22, 0], null, undefined, true, {}, { length: 1, 0: 0 }, Symbol('bytes'), () => 0];
   const buffers = [new ArrayBuffer(4), new DataView(new ArrayBuffer(4)), new Uint16Array(2), new Int8Array(2),
@@ -29,7 +31,7 @@ function noBytes() {
 
 function bytesAlone(module) {
   for (const wrong of noBytes()) {
-    const what = Object.prototype.toString.call(wrong);
+    const what = kindOf(wrong);
     const text = what === '[object Uint8Array]' ? undefined : 'bytes have to be a Uint8Array';
     for (const [name, call] of Object.entries(CALLS))
       if (name !== 'rest' || wrong !== undefined)
@@ -50,7 +52,7 @@ function numbers(module) {
   for (const [name, call] of Object.entries(calls)) {
     const what = `a ${{ length: 'length', limit: 'limit' }[name] ?? 'code'} has to be`;
     for (const wrong of ['18', null, {}, [18], true, Symbol('code')])
-      fails(TypeError, () => call(wrong), `${name} ${typeof wrong}`, `${what} a number or a bigint`);
+      fails(TypeError, () => call(wrong), `${name} ${kindOf(wrong)}`, `${what} a number or a bigint`);
     for (const wrong of [-1, 1.5, NaN, Infinity, 2 ** 53])
       fails(RangeError, () => call(wrong), `${name} ${wrong}`, `${what} a whole number, from 2^53 a bigint`);
     for (const wrong of [-1n, 1n << 64n])
@@ -169,10 +171,10 @@ function looseEquals(module) {
   const multihash = module.Multihash.of(0, Uint8Array.of(5));
   for (const code of ['0', '', false, [], [0], null, undefined, Symbol('0'), Object.create(null),
     { valueOf: () => 0 }]) {
-    same(multihash.equals({ code, digest: Uint8Array.of(5) }), false, 'equals, a code that is none');
+    same(multihash.equals({ code, digest: Uint8Array.of(5) }), false, `equals, a code: ${kindOf(code)}`);
   }
   for (const digest of [[5], '5', new Int8Array([5]), new Lying([5, 6, 7])]) {
-    same(multihash.equals({ code: 0, digest }), false, 'equals, another digest');
+    same(multihash.equals({ code: 0, digest }), false, `equals, a digest: ${kindOf(digest)}`);
     same(withDigest(module, digest).equals({ ...multihash, code: 18 }), false, 'equals, a replaced digest');
   }
   same(multihash.equals({ code: 0n, digest: new Lying([5]) }), true, 'equals, a subclass');
@@ -220,7 +222,7 @@ function multihashes(module) {
   for (const pair of unequal.flatMap((value) => [[value, multihash], [multihash, value]]))
     same(module.compare(...pair), order(...pair), 'compare');
   for (const value of [...unequal, null, undefined, 22, 'text', {}, EXAMPLE])
-    same(multihash.equals(value), false, 'equals');
+    same(multihash.equals(value), false, `equals ${kindOf(value)}`);
   multihash.bytes.fill(0);
   same(hex(multihash.bytes), hex(EXAMPLE), 'bytes are a copy');
   looseEquals(module);
@@ -267,7 +269,7 @@ function errors(module) {
     same(`${error.message} ${error.isIncomplete}`, `${message} ${isIncomplete}`, 'message and isIncomplete');
     const again = module.MultihashError.from(structuredClone(error));
     const fields = ['name', 'message', 'status', 'size', 'code', 'taken', 'isIncomplete'];
-    if (keepsCause()) for (const field of fields) same(again?.[field], error[field], `${field} of a clone`);
+    for (const field of fields) same((keepsCause() ? again : error)?.[field], error[field], `${field} of a clone`);
     same(`${module.MultihashError.from(error) === error} ${again instanceof module.MultihashError}`,
       `true ${keepsCause()}`, 'from');
   }
@@ -275,7 +277,7 @@ function errors(module) {
     '{"value":"MultihashError","writable":true,"enumerable":false,"configurable":true}', 'name, as of other errors');
   same(new module.MultihashError('invalid_size', { size: 0 }).message, 'Invalid multihash size 0.', 'size 0');
   const others = [null, undefined, 3, {}, new Error('text'), new Error('text', { cause: { status: 'ok' } })];
-  for (const value of others) same(module.MultihashError.from(value), undefined, 'from');
+  for (const value of others) same(module.MultihashError.from(value), undefined, `from ${kindOf(value)}`);
   for (const status of ['ok', 'text', 1, undefined])
     fails(TypeError, () => new module.MultihashError(status), 'a wrong status', 'no status of an error');
   for (const [code, text] of [[22, '22'], [2n ** 53n - 1n, '9007199254740991'], [2n ** 53n, '"9007199254740992"']]) {

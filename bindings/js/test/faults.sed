@@ -2,7 +2,6 @@
 s/new TypeError(/new Error(1 + /
 s/: status/: code/
 s/{ cause },//
-s|() !== number|() / 100 ^ number / 100|
 s/tagOf.call(data)/data?.[Symbol.toStringTag]/
 s/offsetOf.call(d/bufferOf.call(data).resize ? 0 : &/
 s/n length;/n lengthOf.call(data);/
@@ -40,3 +39,10 @@ s/'the code/'code/
 s/throw e.*/throw Error(1);/
 s/this.#isReleased = true//
 s/^        this.release();//
+s/return new MultihashError/return new (class extends MultihashError {})/
+/connectTo(f/,/}/s/if (library) return;//
+s/, memory, w/, memory = { set() { throw 1; } }, w/
+s/ = 264/ = 265/
+s/, version,/,/
+s/functions.memory.buffer/&.valueOf()/
+s/#end ??= () => {/#end = () => {/
