@@ -162,7 +162,7 @@ try_linter() {
   try "scripts without their words: 14 comparisons" without_words
   try "what tests compare: 8 comparisons" compares << 'END'
 135 bindings/c/tests
-130 bindings/js/test
+124 bindings/js/test
 193 bindings/python/tests
 198 bindings/rust/*.rs
 591 crates/*.rt

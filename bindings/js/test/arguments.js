@@ -156,7 +156,7 @@ function views(module) {
   const inputs = [...starts.map(unhex), EXAMPLE, module.scaleEncode(2n ** 53n, EXAMPLE)];
   const rest = Array.from({ length: 3000 }, (_, index) => (index * 7) & 127);
   for (const length of [33, 255, 256, 258, 266, 272, 273, 274, 275, 3000])
-    for (const start of ['', '9601ff01', hex(EXAMPLE)])
+    for (const start of ['8000', '9601ff01', hex(EXAMPLE)])
       inputs.push(Uint8Array.of(...unhex(start), ...rest).slice(0, length));
   for (const input of inputs) {
     for (const [name, call] of Object.entries(CALLS)) {

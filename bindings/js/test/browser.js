@@ -35,7 +35,7 @@ async function serve(request, response) {
 }
 
 // On a busy machine Chromium sometimes hangs at its start, so another one is started with a new profile. timeout ends
-// a browser with the processes that it starts: after two minutes, or where it is ended.
+// a browser and what it has started.
 function start(attempt) {
   const profile = mkdtempSync(join(tmpdir(), `${name}-`));
   const words = commands[name](profile, `http://127.0.0.1:${server.address().port}/${path}`);

@@ -1,4 +1,4 @@
-// Counts checks, notes what is wrong, and adds up a checksum of what is compared, which shows where it is less.
+// Counts checks, notes what is wrong, and sums up what is compared.
 export const tally = { checks: 0, sum: 0, errors: [] };
 
 const DIGITS = Array.from({ length: 256 }, (_, byte) => byte.toString(16).padStart(2, '0'));

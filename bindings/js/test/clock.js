@@ -1,5 +1,4 @@
-// A clock for beside_plain.js: a call of the library takes 1000 ns, and nothing else takes time but to read the clock,
-// ever another number of ns.
+// A clock for beside_plain.js: a call of the library takes 1000 ns, and to read the clock another time each time.
 const { instantiate } = WebAssembly;
 let now = 0n;
 let turn = 7n;

@@ -46,3 +46,4 @@ s/ = 264/ = 265/
 s/, version,/,/
 s/functions.memory.buffer/&.valueOf()/
 s/#end ??= () => {/#end = () => {/
+s/else if (!stream.locked)/else/
