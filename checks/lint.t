@@ -164,7 +164,6 @@ try_linter() {
 135 bindings/c/tests
 124 bindings/js/test
 193 bindings/python/tests
-198 bindings/rust/*.rs
 591 crates/*.rt
 218 checks
 68 bindings/*.sh

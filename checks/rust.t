@@ -3,7 +3,7 @@
 # serde; and their build script.
 # shellcheck source=checks/lib/tap.sh
 . "$(dirname "$0")/lib/tap.sh"
-plan 10 cc cargo rustc=1.82+ /usr/share/cargo/registry/{cc-1,pkg-config-0.3,serde_json-1}.*
+plan 11 cc cargo rustc=1.82+ /usr/share/cargo/registry/{cc-1,pkg-config-0.3,serde_json-1}.*
 archive=bindings/c/prebuilt/$(uname -m)/libmultihash_c.a
 version=$(sed -n 's/^#define MULTIHASH_VERSION "\([0-9.]*\)"$/\1/p' bindings/c/include/multihash.h)
 
@@ -23,24 +23,47 @@ tests() {
 rust_binding() {
   local features
   in_crate DOCS_RS=1 MULTIHASH_C_LIB_DIR=none cargo doc --no-deps
-  tests 13 cargo test --no-default-features
-  tests 13 cargo test --no-default-features --features alloc
-  tests 23 cargo test
+  tests 11 cargo test --no-default-features
+  tests 11 cargo test --no-default-features --features alloc
+  tests 21 cargo test
   features=$(in_crate cargo tree -p multihash -e normal,features)
   [[ $features = multihash* && $features != *"multihash_c feature"* ]]
+}
+
+# Over faults, which change each of them, the comparisons of the tests, the pages and speed/main.rs print both sides and
+# go on: what they print has this checksum, which is another one where a comparison sees less.
+planted_faults() {
+  local copy=$work/repository/bindings/rust sum words
+  bindings/rust/offline.sh "$work" true
+  sed 1s/S/T/ crates/vectors/data/verdicts.tsv > "$work/vectors"
+  sed -i -f "$copy/tests/faults.sed" "$copy"/*/src/*.rs
+  sed -i 's/1\.0\.0/1.2.3/' "$copy/multihash_c/Cargo.toml"
+  cp -r "$copy/speed" "$copy/multihash/examples"
+  sed -Ei "s~(.*)use (super::\*|multihash(_c)?::\{(varint, )?(Error|$))~\
+\1#[macro_use] #[path = \"$copy/tests/compared.rs\"] mod compared;\n&~" "$copy"/*/{README.md,*/*.rs}
+  while read -r sum words; do
+    # shellcheck disable=SC2086
+    in_crate MULTIHASH_VERDICTS="$work/vectors" RUST_BACKTRACE=0 cargo $words 2>&1 > "$work/tests" | sed '/^= /!d' |
+      cksum | diff - <(echo "${sum/,/ }")
+  done << 'END'
+2614442623,32308517 test --features serde -- --nocapture --test-threads=1
+3906763014,30265168 test --no-default-features --features alloc --tests -- --nocapture --test-threads=1
+3570733316,7664 run --example main
+END
 }
 
 # A clone without archives has the portable source, each file of which is watched, and uses the compiler that CC names.
 rust_source() {
   local c=$work/repository/bindings/c file
   mv "$c/prebuilt" "$work/kept"
-  tests 23 cargo test
+  tests 21 cargo test
   [[ $(cat "$work"/target/debug/build/multihash_c-*/output) = *'"-O2"'*'/include" "-std=c11" "-o"'* ]]
   for file in "$c"/src/*.[ch] "$c"/include/*; do
     cp -p "$file" "$work/file"
     echo '#error planted' >> "$file"
     rejects "#error planted" in_crate cargo build
     cp -p "$work/file" "$file"
+    in_crate cargo build
   done
   in_crate cargo clean -p multihash_c
   rejects "no-compiler" in_crate CC=no-compiler cargo build
@@ -79,9 +102,9 @@ rust_packed() {
     >> "$packed/multihash-0.19.5/Cargo.toml"
   [ ! -e "$packed/multihash-0.19.5/src/old.rs" ]
   diff -r bindings/c/prebuilt "$packed/multihash_c-$version/prebuilt"
-  tests 12 CC=none cargo test --manifest-path "$packed/multihash-0.19.5/Cargo.toml" -- --show-output
+  tests 11 CC=none cargo test --manifest-path "$packed/multihash-0.19.5/Cargo.toml" -- --show-output
   rm -r "$packed/multihash_c-$version/prebuilt"
-  tests 12 cargo test --manifest-path "$packed/multihash-0.19.5/Cargo.toml"
+  tests 11 cargo test --manifest-path "$packed/multihash-0.19.5/Cargo.toml"
 }
 
 # Writes a program over a library, both of which name upstream's package; the program has the line of the pages too.
@@ -117,7 +140,20 @@ rust_switch() {
   done
 }
 
+# Bytes are no sequence of numbers for a format that has both.
 rust_serde() {
+  local example=$work/repository/bindings/rust/multihash/examples
+  mkdir -p "$example"
+  cat > "$example/bytes.rs" << 'END'
+use serde::{Serialize, Serializer};
+fn main() {
+    let mut json = serde_json::Serializer::new(Vec::new());
+    let mut map = json.serialize_map(None).unwrap();
+    let flat = serde::__private::ser::FlatMapSerializer(&mut map);
+    println!("{}", multihash::Multihash::<4>::wrap(18, b"ab").unwrap().serialize(flat).unwrap_err());
+}
+END
+  prints "got a byte array" in_crate cargo run --features serde --example bytes
   [[ $(in_crate cargo tree -p multihash -e normal,features --features serde-codec) = *$'\n└── serde v'* ]]
   tests 13 cargo test --features serde --test values
   in_crate cargo build -p multihash --no-default-features --features serde-codec
@@ -167,7 +203,7 @@ rust_build() {
   mkdir "$directory" "$plain"
   cp "$archive" "$directory"
   cp "$archive" "$plain"
-  tests 11 MULTIHASH_C_LIB_DIR="$directory" cargo test -p multihash_c
+  tests 10 MULTIHASH_C_LIB_DIR="$directory" cargo test -p multihash_c
   in_crate MULTIHASH_C_LIB_DIR="$plain" cargo build
   rm "$directory"/*
   rejects "libmultihash_c.a: No such file" in_crate MULTIHASH_C_LIB_DIR="$directory" cargo build
@@ -180,6 +216,7 @@ rust_build() {
 }
 
 try "the tests: 8 comparisons" rust_binding
+try "faults: 6 comparisons" planted_faults
 try "the portable source: 15 comparisons" rust_source
 needs=clang try "the portable source for other targets: 15 comparisons" rust_targets
 try "the packed packages: 7 comparisons" rust_packed

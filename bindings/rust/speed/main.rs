@@ -25,7 +25,7 @@ fn request(kind: usize, text: usize) {
 fn count<T>(name: &str, mut call: impl FnMut() -> T, is_right: impl Fn(T) -> bool) {
     {
         let first = black_box(call());
-        debug_assert!(is_right(first), "{name}");
+        assert!(!cfg!(debug_assertions) || is_right(first), "{name}");
     }
     let name = CString::new(name).expect("a name");
     request(ZERO_STATS, 0);
@@ -58,11 +58,11 @@ fn calls<const S: usize>(code: u64, size: usize) {
     count(&of("read, dyn Read"), || Multihash::<S>::read(&mut of_dyn), is_value);
     count(&of("write, slice"), || black_box(&value).write(black_box(&mut out[..])), is_length);
     count(&of("write, Vec"), || black_box(&value).write(&mut vector), is_length);
-    count(&of("to_bytes"), || black_box(&value).to_bytes(), |it| it == bytes);
+    count(&of("to_bytes"), || black_box(&value).to_bytes(), |it| is_value(Multihash::from_bytes(&it)));
     count(&of("encoded_len"), || black_box(&value).encoded_len(), |it| it == bytes.len());
     count(&of("=="), || black_box(&value) == black_box(&same), |it| it);
     count(&of("cmp"), || black_box(&value).cmp(black_box(&same)), |it| it.is_eq());
-    count(&of("Hash"), || hasher.hash_one(black_box(&value)), |it| it == hasher.hash_one(same));
+    count(&of("Hash"), || hasher.hash_one(black_box(&value)), |it| it == hasher.hash_one((code, &digest[..])));
     count(&of("truncate"), || black_box(&value).truncate(20), |it| it.digest() == &digest[..size.min(20)]);
     count(&of("resize"), || black_box(&value).resize::<255>(), |it| it.is_ok_and(|it| it == value));
     count(&of("into_inner"), || black_box(value).into_inner(), |it| it.0 == code);

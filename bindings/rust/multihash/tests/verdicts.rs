@@ -172,7 +172,7 @@ fn check_owned<const S: usize>(multihash: &Multihash<S>, encoding: &[u8]) {
     #[cfg(feature = "alloc")]
     {
         let mut written = b"before".to_vec();
-        assert_eq!(multihash.write(&mut written).expect("a vector"), length);
+        assert_eq!(multihash.write(&mut written).expect("a vector"), encoding.len());
         assert_eq!((&written[6..], &multihash.to_bytes()[..]), (encoding, encoding));
         assert_eq!(Vec::from(*multihash), encoding);
     }
@@ -210,7 +210,6 @@ fn vectors() {
     let list = fs::read_to_string(path).expect("the list");
     let mut lines = list.lines();
     assert_eq!(lines.next(), Some(COLUMNS));
-    assert!(lines.clone().count() > 0);
     for line in lines {
         println!("{line}"); // shown where the test fails
         check_line(line);

@@ -153,7 +153,6 @@ mod tests {
             let mut text = [0; 64];
             // SAFETY: pointer and length are those of a slice.
             let made = unsafe { multihash_put_status_text(status, text.as_mut_ptr(), text.len()) };
-            assert_eq!(made.status, OK);
             let text = &text[..made.length];
             if text == b"unknown status" {
                 assert!(status > NO_ROOM);

@@ -28,7 +28,9 @@ fn of(code: u64, digest: &[u8]) -> MultihashRef<'_> {
     MultihashRef::wrap(code, digest).expect("a multihash")
 }
 
-fn is_common<T: Copy + fmt::Debug + Eq + Hash + Send + Sync>(_: T) {}
+fn common<T: Copy + fmt::Debug + Eq + Hash + Send + Sync>(it: T) -> T {
+    it
+}
 
 #[test]
 fn constants() {
@@ -40,7 +42,7 @@ fn constants() {
     (varints[8], varints[17]) = (0x7f, 0x7f);
     let head = Head::read(&varints).expect("two varints");
     assert_eq!(PARTS_OF_HEAD(&head), (CODE_MAX, CODE_MAX, HEAD_MAX));
-    is_common((head, WRAPPED, Error::Overflow));
+    assert_eq!(common((head, WRAPPED, Error::Overflow)), (head, WRAPPED, Error::Overflow));
 }
 
 #[test]
