@@ -71,6 +71,7 @@ def folders(page: str) -> tuple[str, ...]:
 
 # ---- numbers
 
+WORDS = "zero one two three four five six seven eight nine ten".split()
 # numbers that are in no name, and what compares them or a name
 COMPARES = r"(?:above|at least|at most|below|(?:fewer|less|more) than|over(?! `)|up to) "
 NUMBER = re.compile(
@@ -85,6 +86,37 @@ NO_PROSE = [
     re.compile(r"^\|[^|`]*\| \d+ \|$", re.M),  # counted
     re.compile(r"^\| [\d^ -]+ \| +\|$|\| +\| \d* \|$|^\| `MULTIHASH_\w+` \| \d|^\d\. |\]\([^)]*\)", re.M),
 ]
+
+
+# the sources of limits and versions. header.t compares the header with the crate
+VALUES = {
+    "capacity": ("crates/mh_show/src/show.rt", r"Multihash::<(\d+)>::from_bytes"),
+    "input": ("crates/mh_show/src/run.rt", r"const MOST_INPUT: usize = (\d+);"),
+    "status": ("crates/mh_show/src/run.rt", r"tell\(alloc, err, &e\);\n +(\d+)\n"),
+    "continuation": ("crates/multihash/specs/Varint.antt", r"\nmax_continuation = (\d)\n"),
+    "bits": ("crates/multihash/specs/Varint.antt", r"varint_limit = 2 \^ (\d+)\n"),
+    "digest": (HEADER, r"MULTIHASH_DIGEST_MAX (\d+)\n"),
+    "length": (HEADER, r"MULTIHASH_LENGTH_MAX (\d+)\n"),
+    "scale": (HEADER, r"MULTIHASH_SCALE_LENGTH_MAX (\d+)\n"),
+    "head": (HEADER, r"MULTIHASH_HEAD_MAX (\d+)\n"),
+    "portable": ("bindings/c/src/memory.h", r"BLOCK_BITS (\d+)"),
+    "version": (HEADER, r'MULTIHASH_VERSION "(.*)"'),
+    "python": ("bindings/python/pyproject.toml", r'requires-python = ">=(.*)"'),
+    "upstream": ("bindings/rust/multihash/Cargo.toml", r'version = "(.*)"'),
+    "rust": ("bindings/rust/Cargo.toml", r'rust-version = "(.*)"'),
+    "cmake": ("CMakeLists.txt", r"cmake_minimum_required\(VERSION (.*)\)"),
+}
+
+
+@cache
+def values() -> dict[str, str]:
+    """Returns the limits and the versions that the sources have."""
+    found = {name: re.findall(form, read(file))[0] for name, (file, form) in VALUES.items()}
+    digest, length, continuation = (int(found[name]) for name in ("digest", "length", "continuation"))
+    found |= {"over": str(digest + 1), "seen": str(int(found["head"]) + digest), "most": str(continuation + 1)}
+    found |= {"long": str(length - digest), "short": str(length - digest - 1)}  # a length of one byte less
+    found |= {"eight": WORDS[continuation], "nine": WORDS[continuation + 1]}
+    return found | {"input": f"{int(found['input']):,}"}
 
 
 @cache
@@ -104,6 +136,7 @@ def number_errors(pages: dict[str, str]) -> Iterator[str]:
     spans = []
     for line in Path(__file__).with_name("numbers.txt").read_text("utf-8").splitlines()[1:]:
         times, _, phrase = line.partition(" ")
+        phrase = phrase.format(**values())
         spans += (found := [it.span() for it in re.finditer(whole(phrase), told)])
         if str(len(found)) != times:
             yield f"'{phrase}' is there {len(found)} times"
