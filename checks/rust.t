@@ -23,9 +23,9 @@ tests() {
 rust_binding() {
   local features
   in_crate DOCS_RS=1 MULTIHASH_C_LIB_DIR=none cargo doc --no-deps
-  tests 11 cargo test --no-default-features
-  tests 11 cargo test --no-default-features --features alloc
-  tests 21 cargo test
+  tests 13 cargo test --no-default-features
+  tests 13 cargo test --no-default-features --features alloc
+  tests 23 cargo test
   features=$(in_crate cargo tree -p multihash -e normal,features)
   [[ $features = multihash* && $features != *"multihash_c feature"* ]]
 }
@@ -56,7 +56,7 @@ END
 rust_source() {
   local c=$work/repository/bindings/c file
   mv "$c/prebuilt" "$work/kept"
-  tests 21 cargo test
+  tests 23 cargo test
   [[ $(cat "$work"/target/debug/build/multihash_c-*/output) = *'"-O2"'*'/include" "-std=c11" "-o"'* ]]
   for file in "$c"/src/*.[ch] "$c"/include/*; do
     cp -p "$file" "$work/file"
@@ -102,9 +102,9 @@ rust_packed() {
     >> "$packed/multihash-0.19.5/Cargo.toml"
   [ ! -e "$packed/multihash-0.19.5/src/old.rs" ]
   diff -r bindings/c/prebuilt "$packed/multihash_c-$version/prebuilt"
-  tests 11 CC=none cargo test --manifest-path "$packed/multihash-0.19.5/Cargo.toml" -- --show-output
+  tests 12 CC=none cargo test --manifest-path "$packed/multihash-0.19.5/Cargo.toml" -- --show-output
   rm -r "$packed/multihash_c-$version/prebuilt"
-  tests 11 cargo test --manifest-path "$packed/multihash-0.19.5/Cargo.toml"
+  tests 12 cargo test --manifest-path "$packed/multihash-0.19.5/Cargo.toml"
 }
 
 # Writes a program over a library, both of which name upstream's package; the program has the line of the pages too.
@@ -203,7 +203,7 @@ rust_build() {
   mkdir "$directory" "$plain"
   cp "$archive" "$directory"
   cp "$archive" "$plain"
-  tests 10 MULTIHASH_C_LIB_DIR="$directory" cargo test -p multihash_c
+  tests 11 MULTIHASH_C_LIB_DIR="$directory" cargo test -p multihash_c
   in_crate MULTIHASH_C_LIB_DIR="$plain" cargo build
   rm "$directory"/*
   rejects "libmultihash_c.a: No such file" in_crate MULTIHASH_C_LIB_DIR="$directory" cargo build

@@ -204,6 +204,12 @@ def quote_errors(page: str, text: str) -> Iterator[str]:
         yield from (f"{place} has no {name}" for name in names if files and not is_known(name, files))
 
 
+def list_errors(pages: dict[str, str]) -> Iterator[str]:
+    """Returns the quotes of quotes.txt that no page has."""
+    told = flat("\n".join(pages.values()))
+    yield from (f"no page has {quote}" for quote in sorted(elsewhere()) if quote not in told)
+
+
 # ---- sentences
 
 ALIKE = 0.8  # how much of two sentences' words are the same if they say one thing

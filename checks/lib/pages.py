@@ -175,6 +175,7 @@ CHECKS: dict[str, Callable[[Texts], Iterator[str]]] = {
     "file_errors": file_errors,
     "output_errors": output_errors,
     "number_errors": lambda texts: claims.number_errors(pages_of(texts)),
+    "list_errors": lambda texts: claims.list_errors(pages_of(texts)),
     "command_errors": command_errors,
     **{check.__name__: of_all_pages(check) for check in OF_A_PAGE},
 }

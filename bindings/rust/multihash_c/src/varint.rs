@@ -1,6 +1,18 @@
 //! One varint: an unsigned number below 2^63, in groups of seven bits, the lowest first.
 //!
 //! CIDs and other formats that contain a multihash have varints before it.
+//!
+//! ```
+//! use multihash_c::{Error, varint};
+//!
+//! let mut rest = &b"\x01\xb0\x22rest"[..];
+//! assert_eq!((varint::read(&mut rest), varint::read(&mut rest), rest), (Ok(1), Ok(0x1130), &b"rest"[..]));
+//! assert_eq!(varint::read(&mut &b"\x81\x00"[..]), Err(Error::NotMinimal));
+//!
+//! let mut out = [0; varint::LENGTH];
+//! assert_eq!(varint::encode(0x1130, &mut out), Ok(2));
+//! assert_eq!(out[..2], *b"\xb0\x22");
+//! ```
 use crate::{borrowed, ffi, Error, Result};
 
 /// The maximum length of a varint.
