@@ -90,7 +90,7 @@ def prepare(program: Program, folder: Path) -> dict[str, str]:
 
 
 def run(program: Program, repository: Path, folder: Path) -> tuple[str, str]:
-    """Installs the package in a new folder, and runs the program there. Returns what is wrong.
+    """Installs the package of a clone, $MH, in a new folder, and runs the program there. Returns what is wrong.
 
     The other text is what the program has printed last.
     """
