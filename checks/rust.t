@@ -46,8 +46,8 @@ planted_faults() {
     in_crate MULTIHASH_VERDICTS="$work/vectors" RUST_BACKTRACE=0 cargo $words 2>&1 > "$work/tests" | sed '/^= /!d' |
       cksum | diff - <(echo "${sum/,/ }")
   done << 'END'
-2614442623,32308517 test --features serde -- --nocapture --test-threads=1
-3906763014,30265168 test --no-default-features --features alloc --tests -- --nocapture --test-threads=1
+131281369,32308516 test --no-fail-fast --features serde -- --nocapture --test-threads=1
+772024545,30265167 test --no-fail-fast --no-default-features --features alloc --tests -- --nocapture --test-threads=1
 3570733316,7664 run --example main
 END
 }
