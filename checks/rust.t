@@ -216,7 +216,6 @@ rust_build() {
 }
 
 try "the tests: 8 comparisons" rust_binding
-try "faults: 6 comparisons" planted_faults
 try "the portable source: 19 comparisons" rust_source
 needs=clang try "the portable source for other targets: 15 comparisons" rust_targets
 try "the packed packages: 7 comparisons" rust_packed
@@ -226,3 +225,4 @@ try "serde: 6 comparisons" rust_serde
 needs=cargo-clippy try "lints: 2 comparisons" rust_lints
 needs=cargo-clippy try "a warning of each command: 19 comparisons" planted_warnings
 needs="python3=3.11+ valgrind /lib64/ld-linux-x86-64.so.2" try "instructions: 4 comparisons" rust_counts
+try "faults: 6 comparisons" planted_faults
