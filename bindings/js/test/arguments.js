@@ -97,18 +97,18 @@ const SHARED = new WebAssembly.Memory({ initial: 1, maximum: 1, shared: true }).
 
 /** The same bytes amid others in a larger buffer, of each kind, as views of each kind. */
 function viewsOf(bytes) {
-  const amid = (buffer, kind = Uint8Array, length = bytes.length) => {
+  const amid = (buffer, kind = Uint8Array) => {
     new Uint8Array(buffer).fill(0x81);
-    const view = new kind(buffer, 3, length);
+    const view = new kind(buffer, 3, bytes.length);
     Uint8Array.prototype.set.call(view, bytes);
     return view;
   };
   const [all, maxByteLength] = [bytes.length + 7, 8000];
   const shrunk = new ArrayBuffer(all, { maxByteLength });
-  const tracking = amid(shrunk, Uint8Array, undefined);
+  amid(shrunk);
   shrunk.resize(bytes.length + 3);
   const views = [bytes.slice(), amid(new ArrayBuffer(all)), amid(new ArrayBuffer(all), Lying), amid(SHARED),
-    amid(new ArrayBuffer(all, { maxByteLength })), tracking];
+    amid(new ArrayBuffer(all, { maxByteLength })), new Uint8Array(shrunk, 3)];
   return globalThis.Buffer ? [...views, Buffer.from(amid(new ArrayBuffer(all)).buffer, 3, bytes.length)] : views;
 }
 
