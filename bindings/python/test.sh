@@ -5,7 +5,7 @@
 here=$(dirname "$(readlink -f "${BASH_SOURCE[0]}")")
 # shellcheck source=checks/lib/tap.sh
 . "$here/../../checks/lib/tap.sh"
-plan 18 cc /usr/bin/python3
+plan 19 cc /usr/bin/python3
 archive=$PWD/bindings/c/prebuilt/$(uname -m)/libmultihash_c.a
 clone=$work/clone
 python=$work/venv/bin/python
@@ -74,18 +74,29 @@ imports() {
 
 # The tests of a folder over what is installed, with variables that the other words set.
 unit_tests() {
-  local tests=$1
-  shift
   cd "$work"
-  env "$@" timeout 600 "$python" -m unittest discover -v -s "$tests" 2>&1 | tee "$work/unit.log"
-  grep "^Ran $(cat "$tests"/*.py | command grep -c '^    def test_') tests" "$work/unit.log"
+  prints "Ran 32 tests" env "${@:2}" timeout 600 "$python" -m unittest discover -v -s "$1"
 }
 
-# All tests of the wheel, also that of failing allocations.
+# How many assertions of the tests are right and wrong, with a checksum of what they compare.
+assertions() {
+  cd "$work"
+  PYTHONMALLOC=debug PYTHONHASHSEED=0 PYTHONINTMAXSTRDIGITS=0 prints "$1" timeout 600 "$python" \
+    "$here/tests/assertions.py"
+}
+
+# All tests of the wheel.
 all_tests() {
   grep -F .whl "$work"/venv/lib/python*/site-packages/verified_multihash-*/direct_url.json
-  unit_tests "$here/tests" PYTHONMALLOC=debug
-  grep '^test_failing_allocations .* ok$' "$work/unit.log"
+  assertions "117897 right, 0 wrong, 0 errors, 05dfaa74"
+}
+
+# The module keeps nothing between calls but CPython's version: interpreters and threads share its data.
+keeps_nothing() {
+  nm "$work"/venv/lib/python3*/site-packages/verified_multihash/_core.abi3.so |
+    sed -nE 's/.* [bBdD] ([a-z]\w*).*/\1/p' | sort -u | diff - <(printf '%s\n' completed definition functions \
+      module_slots multihash_{members,methods,slots,spec} names reader_{attributes,members,methods,slots,spec} \
+      slots_of_3_12 version)
 }
 
 # The sdist is all that is needed: what is in the folders above it is not used.
@@ -159,19 +170,20 @@ planted_shift() {
 planted_write() {
   planted '/^static int fill_module/,/{/s/{/{ char *block = PyMem_Malloc(1); block[1] = 1; PyMem_Free(block);/'
   installs "$work/planted"
-  unit_tests "$here/tests" PYTHONMALLOC=debug
+  assertions right
+}
+
+planted_faults() {
+  planted ''
+  sed -i -f "$here/tests/faults.sed" "$work/planted"/{src/*.c,verified_multihash/*.py}
+  installs "$work/planted"
+  assertions "48434 right, 67585 wrong, 58 errors, 878fc837"
+  rejects "< from" keeps_nothing
 }
 
 planted_warning() {
   sed -i "$1" "$clone/bindings/python/$2"
   CC="cc $warnings" "$clone/bindings/python/pack.sh" "$work/warned" "$archive"
-}
-
-# Each argument is kept.
-planted_leak() {
-  planted '/^    Py_DECREF(from->owner);$/d'
-  installs "$work/planted"
-  unit_tests "$here/tests"
 }
 
 # The package is typed, the module has the names of its stub, and wrong arguments are found, two of them in README.md.
@@ -195,7 +207,9 @@ try "the sdist and the wheel, built twice: 1 comparison" builds
 needs="objcopy ar" try "archives: 2 comparisons" looks_at_archive
 try "an environment" /usr/bin/python3 -m venv --clear --system-site-packages "$work/venv"
 try "the wheel, installed" imports "$work"/dist/*.whl
-try "the tests: 3 comparisons" all_tests
+needs=nm try "no state: 1 comparison" keeps_nothing
+numbered=$work/venv/lib/python3.11
+needs=$numbered try "the tests: 2 comparisons" all_tests
 needs="mypy stubtest" try "types: 2 comparisons" types
 try "the times beside plain Python: 6 comparisons" beside_plain
 try "the folder, installed" imports "$here"
@@ -203,10 +217,10 @@ needs="objcopy ar" try "an archive of another version" other_version
 try "an altered archive: 7 comparisons" altered_archive
 try "the sdist, installed, the portable source: 3 comparisons" sdist
 try "sanitizers" under_sanitizers "$work/sdist"
-try "a write after a block" rejects "bad trailing pad byte" planted_write
+needs=$numbered try "a write after a block" rejects "bad trailing pad byte" planted_write
 try "a warning" rejects "conversion]" planted_warning '1s/^/signed char planted(long more) { return more; }\n/' \
   src/core.c
 try "a warning of setuptools" rejects "option: 'more'" planted_warning 's/license=/more=0, &/' setup.py
 try "a read after the end of the input" rejects AddressSanitizer planted_read
 try "a shift that is too large" rejects "runtime error: shift exponent" planted_shift
-try "an argument that is kept" rejects "it is kept" planted_leak
+needs="$numbered nm" try "faults: 3 comparisons" planted_faults

@@ -10,7 +10,7 @@ import unittest
 from unittest.mock import ANY
 
 import verified_multihash as vm
-from test_package import NAMED_CALLS
+from test_package import NAMED_CALLS, Named
 from verified_multihash import Multihash, MultihashError
 
 try:
@@ -22,10 +22,6 @@ VALUE = Multihash(0x810, b"abc")
 OTHER = Multihash(1 << 62, bytes(255))
 LONG = bytes(1 << 10)
 RUNS = 100
-
-
-class Named(Multihash):
-    """A subclass, whose values have dictionaries."""
 
 
 def calls():

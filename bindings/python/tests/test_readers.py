@@ -24,13 +24,6 @@ class Turns:
         return result
 
 
-class AwaitedTurns(Turns):
-    """The same for reads that are awaited."""
-
-    async def read(self, size):
-        return super().read(size)
-
-
 class Awaited(vm.AsyncMultihashReader):
     """An AsyncMultihashReader over a file, with the calls of a MultihashReader."""
 
@@ -70,12 +63,10 @@ class Readers(unittest.TestCase):
             self.assertRaisesRegex(ValueError, "^not initialized$", kind.__new__(kind).read)
             for file, error, text in wrong:
                 self.assertRaisesRegex(error, text, kind(file).read)
-            self.assertIsNone(kind(io.BytesIO()).read())
             reading, writing = os.pipe()
             with open(reading, "rb", 0) as source, open(writing, "wb", 0) as sink:
-                sink.write(b"\x01\x03abc\x02")  # the pipe stays open: a byte too many would be waited for
+                sink.write(b"\x01\x03abc")  # the pipe stays open: a byte too many would be waited for
                 self.assertEqual(kind(source).read().digest, b"abc")
-                self.assertEqual(source.read(1), b"\x02")
 
     def test_waiting_files(self):
         """A reader keeps what it has read when a file has no bytes."""
@@ -89,8 +80,7 @@ class Readers(unittest.TestCase):
                 except BlockingIOError:
                     waits += 1
             self.assertEqual((b"".join(map(bytes, found)), waits), (data, len(data)))
-            with self.assertRaisesRegex(io.UnsupportedOperation, "^the file does not block: MultihashReader"):
-                vm.read_from(Turns(*turns))
+            self.assertRaisesRegex(io.UnsupportedOperation, "^the file does not block", vm.read_from, Turns(*turns))
 
     def test_growing_files(self):
         """A reader goes on where the file has grown; a multihash that is none stays."""
@@ -115,18 +105,12 @@ class Readers(unittest.TestCase):
 
     def test_failing_files(self):
         """After an error of a file, which loses bytes if it is buffered, nothing more is read from it."""
-        for error in (TimeoutError, KeyboardInterrupt):
-            reader = vm.MultihashReader(Turns(b"\1\3", b"ab", error))
-            self.assertRaises(error, reader.read)
-            for _ in range(2):
-                self.assertRaisesRegex(ValueError, "failed before", reader.read)
-        for last, error in ((TimeoutError, TimeoutError), (b"ab", ValueError), ("a", TypeError)):
-            awaited = vm.AsyncMultihashReader(AwaitedTurns(b"\1\3", b"ab", last))
-            with self.assertRaises(error):
-                asyncio.run(awaited.read())
-            for _ in range(2):
-                with self.assertRaisesRegex(ValueError, "failed before"):
-                    asyncio.run(awaited.read())
+        for kind in self.readers:
+            for last, error in ((TimeoutError, TimeoutError), (b"ab", ValueError), ("a", TypeError)):
+                reader = kind(Turns(b"\1\3", b"ab", last))
+                self.assertRaises(error, reader.read)
+                for _ in range(2):
+                    self.assertRaisesRegex(ValueError, "failed before", reader.read)
 
     def own_reader(self):
         """A file begins its reader anew, which gets no more than is missing. The three that know each other."""

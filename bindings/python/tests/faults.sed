@@ -1,0 +1,59 @@
+# Faults in a copy of the package: the number of assertions that see them is in test.sh.
+s/PyBytes_CheckExact/PyBytes_Check/
+s/1) return PyObject_CallMethod.*/1) return PyBytes_FromString("01234567");/
+s/whole < 0 ? NULL/(whole += whole > 300) < 0 ? NULL/
+s/if (view == NULL)/& PyErr_SetNone(PyExc_OSError);\n&/
+s/if (index == NULL)/& PyErr_SetNone(PyExc_ValueError);\n&/
+s/"a %s is not/"no %s is/
+s/count > most)/count > 3)/
+s/(count == 2)/(most == 2 \&\& count > 1)/
+s/^    input from;/    static input from;/
+s/"not the/"no/
+s/MULTIHASH_INSUFFICIENT || s/MULTIHASH_OVERFLOW || s/
+s/statuses, (Py_ssize_t)status/& % 6 + 1/
+s/names, at), values\[at/&  == 1 || at == 2 ? 3 - at : at/
+s/multihash, (Py_ssize_t)found.taken/& + 1/
+s/bytes + found.digest_offset/& - 1/
+/^    Py_DECREF(from->owner);/d
+s/length = found.digest_length/& + from.length/
+s/\(PyBytes_FromStringAndSize(.*out, .*length\));$/\1 - 1);/
+s/encoded(module, m/encoded(module, named ? multihash_scale_encode : m/
+s/PyLong_FromLong(order_of/PyBool_FromLong(order_of/
+s/expected a Multihash, not/no Multihash:/
+s/"O:decode"/"O:decoded"/
+s/limit=255)/limit=256)/
+s/"(ss)", "code", "digest"/"(ss)", "digest", "code"/
+s/Py_CLEAR(its->names);//
+s/>= 0x030c/>= 0x030d/
+s/^int get_input/__attribute__((visibility("default"))) &/
+s/if ((read = .*NULL)/& PyErr_SetNone(PyExc_TypeError);\nif (read == NULL)/
+s/it->limit = limit/& + (limit == 3)/
+s/^    Py_VISIT.*->read);//
+s/return found.taken + (s/return found.digest_length == 64 ? 1 : found.taken + (s/
+s/"not initialized"/"initialized"/
+s/failed before/failed/
+s/"the file has/"it has/
+s/read(%zu)/it (%zu)/
+s/it->rest, (Py_ssize_t)it->length/& % 4/
+s/return \(new_multihash(type, n.*\);/PyObject *made = \1;\nPy_XINCREF(made);\nreturn made;/
+s/^    Py_DECREF(type);//
+s/type)) Py_RETURN_NOTIMPLEMENTED/type)) Py_RETURN_FALSE/
+s/0, operation)/0, operation ^ (Py_TYPE(left) != Py_TYPE(right)))/
+s/PyObject_Hash(it->digest)/PyObject_HasAttrString(self, "__dict__")/
+s/code=%R, d/code=%R; d/
+s/"OO", ((multihash_object \*)self)->code/"KO", ((multihash_object *)self)->number ^ 1/
+s/, "hex")/, "title")/
+s/encode(((multihash_object \*)self)->number/& + 1/
+s/READONLY, "The code/0, "The code/
+s/"read", "read_from"/"read_from"/
+s/"OK is/"It is/
+s/in (Status.IN.*/is Status.NO_ROOM/
+s/(self.status, size, code, taken)/(self.status, size, code)/
+s/not isinstance(error/isinstance(error/
+s/"the file does/"it does/
+s/limit)._next()$/& or False/
+s/MOST_INPUT = 65536/MOST_INPUT = 65535/
+s/limit=64/limit=63/
+s/, text) :/, text) + 1 :/
+s/return 1$/return 2/
+s/argv\[1:\] else/argv[2:] else/
