@@ -165,7 +165,7 @@ try_linter() {
 124 bindings/js/test
 193 bindings/python/tests
 591 crates/*.rt
-218 checks
+220 checks
 68 bindings/*.sh
 7 tools
 END

@@ -9,66 +9,80 @@ unset ALL BUILT
 cp -r .ci checks "$work" || exit 2
 export PYTHONPATH=checks/lib # of the copy
 
-# Runs a text in a copy, and compares the results that it prints, one in a line.
+# Runs a text in a copy, and compares the results that it prints, one in a line. After an edit of tap.sh and tap.py, if
+# one is given, they are others.
+is_printed() { diff <(printf "%b\n" "$1") <(cd "$work" && bash -c "$2" 2> /dev/null); }
 expect() {
-  local wanted=$1 text=$2 result="not ok"
+  local text=$2 result="not ok"
   number=$((number + 1))
-  diff <(printf "%b\n" "$wanted") <(cd "$work" && bash -c "$text" 2> /dev/null) >&2 && result=ok
+  is_printed "$@" >&2 && result=ok
+  if [ $# = 3 ]; then
+    sed -i -- "$3" "$work"/checks/lib/tap.*
+    ! is_printed "$@" > /dev/null || result="not ok"
+    cp -r checks/lib "$work/checks"
+  fi
   text=${text%%$'\n'*}
   echo "$result $number - ${text//'#'/}"
 }
+tries() { expect "$1" ". checks/lib/tap.sh; $2" "${@:3}"; }
 
-echo 1..78
+echo 1..75
 [[ $(expect 1 "echo 2" 2> /dev/null) = "not ok"* ]] || exit 2
-expect "not ok 1 - a\nok 2 - b" ". checks/lib/tap.sh; try a false; try b true"
-expect "not ok 1 - a" ". checks/lib/tap.sh; try a no_such_command"
-expect "not ok 1 - a\n# why" ". checks/lib/tap.sh; try a sh -c 'echo why >&2; exit 1' 2>&1"
-expect "not ok 1 - a: 1 comparison\n# it made 0" ". checks/lib/tap.sh; try 'a: 1 comparison' true 2>&1"
-expect "ok 1 - a" "mkdir t; (export TMPDIR=\$PWD/t; . checks/lib/tap.sh; try a true); ls t"
-expect "ok 1 - a" "cd checks; . lib/tap.sh; [ \$LC_ALL = C.UTF-8 ]; try a ls checks"
-expect "ok 1 - a b" ". checks/lib/tap.sh; try \$'a\\nb#' true"
-expect "not ok 1 - a" ". checks/lib/tap.sh; try a rejects a echo a"
-expect "not ok 1 - a" ". checks/lib/tap.sh; try a rejects 'a text' false"
-expect "not ok 1 - a" ". checks/lib/tap.sh; try a rejects 'a.b' sh -c 'echo axb; exit 1'"
-expect "not ok 1 - a" ". checks/lib/tap.sh; try a rejects a false"
-expect "not ok 1 - a" ". checks/lib/tap.sh; d() { rejects_edits .ci cmp .ci/run \"\$work/planted/run\"; }
-  try a d <<< \$'differ|rm run; echo > run\ndiffer|:'"
-expect "ok 1 - a" ". checks/lib/tap.sh; try a prints b echo abc"
-expect "not ok 1 - a\n# abc\n# status 1, or without the text: b\n# abc" \
-  ". checks/lib/tap.sh; try a prints b sh -c 'echo abc; exit 1' 2>&1"
-expect "not ok 1 - a" ". checks/lib/tap.sh; try a prints a.c echo abc"
-expect "ok 1 - a\nnot ok 2 - a" ". checks/lib/tap.sh; try a true; try a true"
+tries "not ok 1 - a\nok 2 - b" "try a false; try b true" 's/=.not ok. failed=1/=ok/'
+tries "not ok 1 - a\n# why" "try a sh -c 'echo why >&2; exit 1' 2>&1" 's/.ended = 0 . ||/1 ] ||/'
+tries "not ok 1 - a: 1 comparison\n# it made 0" "try 'a: 1 comparison' true 2>&1" 's/comparisons?/comparisons/'
+expect "ok 1 - a" "mkdir t; (export TMPDIR=\$PWD/t; . checks/lib/tap.sh; try a true); ls t" 's/rm -rf/:/'
+expect "ok 1 - a" "cd checks; . lib/tap.sh; [ \$LC_ALL = C.UTF-8 ]; try a ls checks" '/^cd /d'
+tries "ok 1 - a b" "try \$'a\\nb#' true"
+tries "not ok 1 - a" "try a rejects a echo a" 's/.!0./*/'
+tries "not ok 1 - a" "try a rejects 'a text' false" 's/ && .found = 0//'
+tries "not ok 1 - a" "try a rejects 'a.b' sh -c 'echo axb; exit 1'" 's/grep -F/grep/'
+tries "not ok 1 - a" "d() { rejects_edits .ci cmp .ci/run \"\$work/planted/run\"; }
+  try a d <<< \$'differ|rm run; echo > run\ndiffer|:'" 's/rm -rf/:/'
+tries "ok 1 - a" "try a prints b echo abc" 's/ends 0/ends 1/'
+tries "not ok 1 - a\n# abc\n# status 1, or without the text: b\n# abc" \
+  "try a prints b sh -c 'echo abc; exit 1' 2>&1" 's/ends 0/ends \*/'
+tries "ok 1 - a\nnot ok 2 - a" "try a true; try a true" 's/ && .names.*]]/ ]]/'
 # what fails in the middle, where bash by itself goes on
 # shellcheck disable=SC2016 # the check expands it
-for text in 'false; true' 'echo $none' 'a=$(false; echo)' 'false | true' '(false; true); true' \
-  'rejects b echo a; true' 'rejects a c; true'; do
-  expect "not ok 1 - a" ". checks/lib/tap.sh; c() { false; echo a; false; }; d() { $text; }; try a d"
-done
-expect "ok 1 - a\n1" "(. checks/lib/tap.sh; try a true; false; true); echo \$?"
-expect "a\nb" ". checks/lib/tap.sh; block_of <(printf '\`\`\`%s\n' \$'c\nx' '' \$'js\na\nb' '' js) js"
+while IFS='|' read -r edit text; do
+  tries "not ok 1 - a" "c() { false; echo a; false; }; d() { $text; }; try a d" "$edit"
+done << 'END'
+s/set -e; //|false; true
+s/-eu/-e/|echo $none
+/inherit/d|a=$(false; echo)
+s/o pipefail//|false | true
+s/set -e; //|(false; true); true
+s/return 1/:/|rejects b echo a; true
+s/(set -e; "${@:3/("${@:3/|rejects a c; true
+END
+expect "1..1\nok 1 - a\n1" "(. checks/lib/tap.sh; plan 1; try a true; false; true); echo \$?" 's/- name/name/'
+tries "a\nb" "block_of <(printf '\`\`\`%s\n' \$'c\nx' '' \$'js\na\nb' '' js) js" 's/exit } on/} on/'
 text='. checks/lib/tap.sh; all() { cmp .ci/run .ci/run; (diff .ci .ci); rejects none ls none; }
   try b cmp .ci/run .ci/run; try "a: N comparisons" all'
-expect "ok 1 - b\nok 2 - a: 3 comparisons" "${text/N/3}"
-expect "ok 1 - b\nnot ok 2 - a: 2 comparisons" "${text/N/2}"
-expect "ok 1 - b\nnot ok 2 - a: 4 comparisons" "${text/N/4}"
+expect "ok 1 - b\nok 2 - a: 3 comparisons" "${text/N/3}" '/^diff()/d'
+expect "ok 1 - b\nnot ok 2 - a: 2 comparisons" "${text/N/2}" 's/} != /} -gt /'
+expect "ok 1 - b\nnot ok 2 - a: 4 comparisons" "${text/N/4}" 's/} != /} -lt /'
 for text in no_such_tool bash=1.0 bash=10+ /bin/no_such_* all; do
-  expect "ok 1 # SKIP $text is not there\nok 2 - a" ". checks/lib/tap.sh; needs='sh $text' try a true; try a true"
+  tries "ok 1 # SKIP $text is not there\nok 2 - a" "needs='sh $text' try a true; try a true" 's/_need .needs/_need/'
 done
-expect "ok 1 - a" ". checks/lib/tap.sh; ALL=1; needs='bash=1.0+ bash=${BASH_VERSION%%(*} /bin/s* all' try a true"
-expect "1..1\nok 1 # SKIP b is not there\n0" "(. checks/lib/tap.sh; plan 1 b sh; try a true); echo \$?"
-expect "1..2\nok 1 - a\nnot ok 2 - b\n1" "(. checks/lib/tap.sh; plan 2; try a true; try b false); echo \$?"
-expect "1..2\nok 1 - a\n1" "(. checks/lib/tap.sh; plan 2; try a true); echo \$?"
-expect "1..1\nok 1 # SKIP why\n1" "(. checks/lib/tap.sh; plan 1; leave_out why; false); echo \$?"
+tries "ok 1 - a" "ALL=1; needs='bash=1.0+ bash=${BASH_VERSION%%(*} /bin/s* all' try a true" 's/= 1 ]/= 2 ]/'
+expect "1..1\nok 1 # SKIP b is not there\n0" "(. checks/lib/tap.sh; plan 1 b sh; try a true); echo \$?" 's/.all_need//'
+expect "1..2\nok 1 - a\nnot ok 2 - b\n1" \
+  "(. checks/lib/tap.sh; plan 2; try a true; try b false); echo \$?" 's/ || failed//'
+expect "1..2\nok 1 - a\n1" "(. checks/lib/tap.sh; plan 2; try a true); echo \$?" 's/ || number .*))/))/'
+expect "1..1\nok 1 # SKIP why\n1" "(. checks/lib/tap.sh; plan 1; leave_out why; false); echo \$?" 's/ended || //'
 
 # The same of tap.py.
 report() { echo "python3 -c 'import sys, tap; sys.exit(tap.report([$1]))' 2>&1; echo \$?"; }
 expect "not ok 1 - a\n#   why\nok 2 - b\n1" "$(report '("a", "why"), ("b", "")')"
 expect "ok 1 - a\n0" "$(report '("a", "")')"
-expect "ok 1 - a\nnot ok 2 - a\n#   a second result of this name\n1" "$(report '("a", ""), ("a", "")')"
-expect 1 "$(report "")"
-expect "ok 1 - a b\n0" "$(report '("a#\nb", "")')"
+expect "ok 1 - a\nnot ok 2 - a\n#   a second result of this name\n1" "$(report '("a", ""), ("a", "")')" \
+  's/in names/== 0/'
+expect 1 "$(report "")" 's/ or not number//'
+expect "ok 1 - a b\n0" "$(report '("a#\nb", "")')" 's/what.replace/(what + "c").replace/'
 expect "not ok 1 - planted: a\n#   it is not found\nok 2 - planted: b\n1" \
-  "$(report 'tap.planted("a", ""), tap.planted("b", "why")')"
+  "$(report 'tap.planted("a", ""), tap.planted("b", "why")')" 's/if found/if 1/'
 expect "ok 1 - a # SKIP no why\n0" "$(report 'tap.left_out("a", ["why"])')"
 for tool in "" sh "$(awk '/^[Ff].*: fp/ { print $4; exit }' /proc/cpuinfo)"; do
   expect "not ok 1 - a # SKIP no $tool\n#   what it needs is there\n1" \

@@ -164,7 +164,7 @@ READ_BY_OTHERS = {
 @cache
 def elsewhere() -> set[str]:
     """Returns what is quoted and in no source: commands and names of others, and what stands for several texts."""
-    return {*Path(__file__).with_name("quotes.txt").read_text("utf-8").splitlines()}
+    return {*re.split("; |\n", Path(__file__).with_name("quotes.txt").read_text("utf-8"))}
 
 
 @cache
