@@ -163,10 +163,10 @@ try_linter() {
   try "what tests compare: 8 comparisons" compares << 'END'
 135 bindings/c/tests
 124 bindings/js/test
-193 bindings/python/tests
+176 bindings/python/tests
 591 crates/*.rt
-220 checks
-68 bindings/*.sh
+227 checks
+74 bindings/*.sh
 7 tools
 END
   needs=tsc try "each error of names: 22 comparisons" planted_names
