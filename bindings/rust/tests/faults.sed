@@ -53,4 +53,5 @@ s/offset: 0, \.\./offset: (found.digest().len() > 8) as u8, ../
 /ffi::head(bytes)/{n;s/status/& % 3/}
 /Ok(found.digest_length/{n;s/status,/status % 3 + 1,/}
 s/("code", &self.code)/("code", \&self.size())/
+s/count => \(out = .*\),/count => if count == 1 \&\& out[0] == 22 { break } else { \1 },/
 s/count => \(buf = .*\),/count => if count < 999 { \1 } else { break },/

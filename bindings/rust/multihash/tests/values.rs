@@ -36,7 +36,7 @@ fn parts() {
         "Multihash { code: 18, size: 2, digest: [0, 255, 0, 0] }"
     );
     #[allow(deprecated)] // earlier names
-    let _: multihash::Result<multihash::MultihashGeneric<64>> = WRAPPED;
+    let _: multihash::Result<multihash::MultihashGeneric<3>> = Multihash::<3>::wrap(0x12, b"abc");
 }
 
 #[test]
