@@ -46,7 +46,7 @@ planted_faults() {
       cksum | diff - <(echo "${sum/,/ }")
   done << 'END'
 131281369,32308516 test --no-fail-fast --features serde -- --nocapture --test-threads=1
-772024545,30265167 test --no-fail-fast --no-default-features --features alloc --tests -- --nocapture --test-threads=1
+1264549891,30264811 test --no-fail-fast --no-default-features --features alloc --tests -- --nocapture --test-threads=1
 3570733316,7664 run --example main
 END
 }

@@ -207,7 +207,7 @@ try "the sdist and the wheel, built twice: 1 comparison" builds
 needs="objcopy ar" try "archives: 2 comparisons" looks_at_archive
 try "an environment" /usr/bin/python3 -m venv --clear --system-site-packages "$work/venv"
 try "the wheel, installed" imports "$work"/dist/*.whl
-needs=nm try "no state: 1 comparison" keeps_nothing
+needs="nm" try "no state: 1 comparison" keeps_nothing
 numbered=$work/venv/lib/python3.11
 needs=$numbered try "the tests: 2 comparisons" all_tests
 needs="mypy stubtest" try "types: 2 comparisons" types
