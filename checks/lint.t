@@ -3,7 +3,7 @@
 # a planted script.
 # shellcheck source=checks/lib/tap.sh
 . "$(dirname "$0")/lib/tap.sh"
-plan 31
+plan 32
 
 listed() { git ls-files -co --exclude-standard "$@"; }
 # Prints the paths of the scripts in a language, by their first lines.
@@ -122,6 +122,12 @@ compares() {
   done
 }
 
+# Runs a linter over scripts, which are all of a file's language, but for the tests of the package for Python.
+over_all() {
+  listed "*.${1##*.}" ':!bindings/python/tests' | sort | comm -23 - <(printf '%s\n' "${@:2}" | sort) | diff /dev/null -
+  "${@:2}"
+}
+
 # Tries a linter, a command with options, over scripts, and over a planted script between two of them, which it has to
 # reject with a text.
 try_linter() {
@@ -129,7 +135,7 @@ try_linter() {
   printf '%b\n' "$4" > "$planted"
   shift 4
   # shellcheck disable=SC2086
-  try "$name" $linter "$@"
+  try "$name" over_all "$planted" $linter "$@"
   # shellcheck disable=SC2086
   try "$name rejects a planted script" rejects "$text" $linter "$1" "$planted" "$2"
 }
@@ -146,12 +152,13 @@ try_linter() {
     <<< "$python"
   try_linter syntax syntax.sh "unexpected end of file" "if true; then" $shell
   try "a linter of the last script alone" prints "not ok" try_linter last_alone last.sh end "if true; then" $shell
-  try_linter planted compares.sh "no planted case of same other" \
+  try "a linter over too few scripts" rejects "> checks/lib/tap.sh" over_all a.sh true ${shell/tap.sh/}
+  try_linter planted compares.t "no planted case of same other" \
     'same() {\n  cmp a b\n}\ntry "one of two" same a\nother() {\n  diff a b\n}\npart "two" cc other' $tested
   try_linter short long.js long.js:1 "$(printf '%121s' .)" $shell $python $javascript
-  try_linter located folder.sh folder.sh:1 "dirname \"\$0\"" bindings/*/*.sh tools/*
+  try_linter located folder.bash folder.bash:1 "dirname \"\$0\"" bindings/*/*.sh tools/*
   try_linter are_run unused.sh "unused is not run" "unused() { true; } # unused" $shell
-  try_linter chains chain.sh chain.sh:2 'set -e\nfalse && true\ntrue' $ending
+  try_linter chains chain.bash chain.bash:2 'set -e\nfalse && true\ntrue' $ending
   needs=shellcheck try_linter "shellcheck -x -o check-set-e-suppressed" cd.sh SC2310 \
     "#!/bin/bash\nset -e\nf() { cd /tmp; }\nf || exit" $shell
   needs=black try_linter "black --check --line-length 120" layout.py "would reformat" "number  =  1" $python

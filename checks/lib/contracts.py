@@ -90,7 +90,7 @@ def member_lines(owner: Item) -> Iterator[str]:
 
 
 def field_lines(item: Item) -> Iterator[str]:
-    """Returns the cases of an enum, or the fields of a struct that are public, ghost or named by a ghost member."""
+    """Returns the fields of a struct that are public, ghost or named by a ghost member."""
     documentation: list[str] = []
     for line in kept_lines(item.text[item.inner() : item.end]):
         if line.startswith("    ///"):
@@ -98,7 +98,7 @@ def field_lines(item: Item) -> Iterator[str]:
         elif line != "}":
             name = re.escape(line.strip().partition(":")[0])
             is_named = re.search(rf"(?m)^    ghost \w+ = .*\.{name}\b", item.text)
-            if item.kind == "enum" or is_named or line.startswith(("    pub ", "    ghost ")):
+            if is_named or line.startswith(("    pub ", "    ghost ")):
                 yield from (*documentation, line)
             documentation = []
 
@@ -111,7 +111,7 @@ def item_lines(item: Item, private: set[str]) -> Iterator[str]:
     if item.kind == "fn":
         if item.is_public or has_no_body(item):
             yield from function_lines(item, "")
-    elif item.kind in ("struct", "enum", "trait", "impl"):
+    elif item.kind in ("struct", "trait", "impl"):
         is_impl = item.kind == "impl"
         lines = [*(member_lines(item) if is_impl or item.kind == "trait" else field_lines(item))]
         if private.isdisjoint(re.findall(r"\w+", item.head)) if is_impl else item.is_public:
@@ -121,7 +121,7 @@ def item_lines(item: Item, private: set[str]) -> Iterator[str]:
                 yield from (first, *lines, "}")
             else:
                 yield f"{first} .. }}" if first.endswith("{") else first
-    elif item.is_public or item.name in ("laws", "pins"):
+    elif item.is_public or item.name == "pins":
         yield from attribute_lines(item, "")
         yield from kept_lines(item.source)
 
@@ -172,7 +172,7 @@ def with_parameters(name: str, kind: str, rest: str, next_line: str) -> str:
 
 def word_rows(definitions: str) -> Iterator[str]:
     """Returns a row for each of the words that are defined in a file."""
-    form = r"^((?:-- [^\n]*\n)+)(?:abbrev )?pub (?!mod )(record |data |)([\w-]+)([^\n]*)\n([^\n]*)"
+    form = r"^((?:-- [^\n]*\n)+)(?:abbrev )?pub (record |data |)([\w-]+)([^\n]*)\n([^\n]*)"
     for comment, kind, name, *rest in re.findall(form, definitions, re.M):
         text = " ".join(line[3:] for line in comment.splitlines())
         yield f"| `{with_parameters(name, kind, *rest)}` | {text} |"
@@ -192,8 +192,7 @@ def written_page(texts: dict[str, str]) -> str:
         page += "".join(binding_section(path, text, form) for path, text in texts.items() if Path(path).match(files))
     page += "\n## Words\n\nThose of clauses and of other definitions, by the files that define them.\n"
     for path, text in texts.items():
-        is_public = path.endswith(".antt") and not path.endswith("/Private.antt")
-        rows = [*word_rows(text)] if is_public else []
+        rows = [*word_rows(text)] if not path.endswith("/Private.antt") else []
         if rows:
             page += f"\n### [{path}](../{path})\n\n| Word | Meaning |\n|---|---|\n"
             page += "\n".join(rows) + "\n"
