@@ -172,7 +172,7 @@ try_linter() {
 124 bindings/js/test
 176 bindings/python/tests
 591 crates/*.rt
-227 checks
+229 checks
 74 bindings/*.sh
 7 tools
 END
