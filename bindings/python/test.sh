@@ -177,7 +177,7 @@ planted_faults() {
   planted ''
   sed -i -f "$here/tests/faults.sed" "$work/planted"/{src/*.c,verified_multihash/*.py}
   installs "$work/planted"
-  assertions "48434 right, 67585 wrong, 58 errors, 878fc837"
+  assertions "49689 right, 66332 wrong, 57 errors, cfb23625"
   rejects "< from" keeps_nothing
 }
 

@@ -85,7 +85,7 @@ def try_tests(crate: str, bugs: list[Bug]) -> str:
         plant(Path(folder), bugs)
         words = ["rt", "try", "--test", "--seconds", "300"]
         home = Path(folder, "crates", crate)
-        return error_of(bugs, subprocess.run(words, cwd=home, stdout=subprocess.PIPE, text=True).stdout)
+        return error_of(bugs, subprocess.run(words, cwd=home, capture_output=True, text=True).stdout)
 
 
 def planted_errors() -> Iterator[tap.Result]:
