@@ -1,5 +1,11 @@
-//! Finds or makes the C library. The archives and the portable source are in this package, or in the repository that it
-//! is a part of.
+//! Finds or makes the C library. The first of these that there is:
+//!
+//! 1. `libmultihash_c.a` in the directory `MULTIHASH_C_LIB_DIR`, an absolute path;
+//! 2. if `MULTIHASH_C_SYSTEM` is set, what pkg-config finds;
+//! 3. the archive for the target that comes with the source;
+//! 4. the portable source, compiled by what the crate `cc` finds, as `CC`.
+//!
+//! The last two are in this package, or in the repository that it is a part of.
 use std::env;
 use std::ffi::OsString;
 use std::fs;
