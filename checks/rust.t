@@ -45,8 +45,8 @@ planted_faults() {
     in_crate MULTIHASH_VERDICTS="$work/vectors" RUST_BACKTRACE=0 cargo $words 2>&1 > "$work/tests" | sed '/^= /!d' |
       cksum | diff - <(echo "${sum/,/ }")
   done << 'END'
-131281369,32308516 test --no-fail-fast --features serde -- --nocapture --test-threads=1
-1264549891,30264811 test --no-fail-fast --no-default-features --features alloc --tests -- --nocapture --test-threads=1
+2614442623,32308517 test --no-fail-fast --features serde -- --nocapture --test-threads=1
+1475253868,30264812 test --no-fail-fast --no-default-features --features alloc --tests -- --nocapture --test-threads=1
 3570733316,7664 run --example main
 END
 }
