@@ -167,10 +167,11 @@ try_linter() {
     "missing a type annotation" "def same(number): return number" $typed
   needs=tsc try_linter names unused.js TS6133 "export {};\nconst number = 1;" $javascript
   try "scripts without their words: 14 comparisons" without_words
-  try "what tests compare: 7 comparisons" compares << 'END'
+  try "what tests compare: 8 comparisons" compares << 'END'
 135 bindings/c/tests
 124 bindings/js/test
 176 bindings/python/tests
+188 bindings/rust/*.rs
 591 crates/*.rt
 229 checks
 74 bindings/*.sh

@@ -35,6 +35,7 @@ planted_faults() {
   local copy=$work/repository/bindings/rust sum words
   bindings/rust/offline.sh "$work" true
   sed 1s/S/T/ crates/vectors/data/verdicts.tsv > "$work/vectors"
+  rm "$copy/multihash/tests/heads.rs" # each comparison of which would fail
   sed -i -f "$copy/tests/faults.sed" "$copy"/*/src/*.rs
   sed -i 's/1\.0\.0/1.2.3/' "$copy/multihash_c/Cargo.toml"
   cp -r "$copy/speed" "$copy/multihash/examples"
@@ -45,8 +46,8 @@ planted_faults() {
     in_crate MULTIHASH_VERDICTS="$work/vectors" RUST_BACKTRACE=0 cargo $words 2>&1 > "$work/tests" | sed '/^= /!d' |
       cksum | diff - <(echo "${sum/,/ }")
   done << 'END'
-2614442623,32308517 test --no-fail-fast --features serde -- --nocapture --test-threads=1
-1475253868,30264812 test --no-fail-fast --no-default-features --features alloc --tests -- --nocapture --test-threads=1
+2614442623,32308517 test --features serde -- --nocapture --test-threads=1
+1475253868,30264812 test --no-default-features --features alloc --tests -- --nocapture --test-threads=1
 3570733316,7664 run --example main
 END
 }
