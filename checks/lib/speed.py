@@ -33,15 +33,6 @@ OTHERS = "| Other call | instructions |"
 RUST = "| Call | instructions | tuned Rust | share | default Rust | share |"
 FROM_C = "| Call from C | archive | plain C | share | fast C | share | portable source |"
 CAUSES = "| Call | Cause |"
-# other counts than those of results()
-PLANTED = {
-    "3 % more": {"a": [103, 100, 100]},
-    "3 % less": {"a": [100, 97, 100]},
-    "3 % more, the last": {"a": [100, 100, 103]},
-    "2 more": {"b": [10, 12, 10]},
-    "a count less": {"b": [10, 10]},
-    "a row more": {"d": [1]},
-}
 FEWER, MORE, JOBS = 1000, 3000, 2
 Counts = dict[str, list[int]]
 
@@ -123,24 +114,29 @@ def text_errors(page: str, names: list[str]) -> Iterator[str]:
 def text_results(page: str, names: list[str]) -> Iterator[tap.Result]:
     """Compares the page with itself and with the rows of the program; plants other rows and shares."""
     yield "docs/SPEED.md", "\n".join(text_errors(page, names))
-    yield tap.planted("a row of the page alone", [*text_errors(page, names[:-1])])
-    yield tap.planted("a row of the program alone", [*text_errors(page, [*names, "other"])])
+    rows = ["the page has other rows than crates/speed/args"]
+    yield tap.planted("a row of the page alone", [*text_errors(page, names[:-1])] == rows)
+    yield tap.planted("a row of the program alone", [*text_errors(page, [*names, "other"])] == rows)
     for what, head in (("a call", RUST), ("a call from C", FROM_C)):
         text = table(head, rows_of(page, head))
         changed = page.replace(text, re.sub(r"\d\.\d\d", "9.99", text, count=1))
-        yield tap.planted(f"another share of {what}", [*text_errors(changed, names)])
-    yield tap.planted("a cause less", [*text_errors(re.sub(r"(?<=Cause \|\n).*\n.*\n", "", page), names)])
+        error = ["its tables are not what --write makes of their counts"]
+        yield tap.planted(f"another share of {what}", [*text_errors(changed, names)] == error)
+    found = [*text_errors(re.sub(r"(?<=Cause \|\n).*\n.*\n", "", page), names)]
+    yield tap.planted("a cause less", [text[:28] for text in found] == ["the shares above 1.05 are of"])
 
 
 def results(program: str, names: list[str]) -> Iterator[tap.Result]:
     """Compares the counts with those of the page."""
     page = PAGE.read_text("utf-8")
     yield from text_results(page, names)
-    small = {"a": [100, 100, 100], "b": [10, 10, 10], "c": [100, 100, 100]}
-    yield "2 %, and 1", differences(small | {"a": [102, 98, 101], "b": [11, 9, 10]}, small)
-    for what, other in PLANTED.items():
-        yield tap.planted(what, differences(small | other, small))
-    yield tap.planted("a row less", differences({}, small))
+    for number, wanted in ((100, range(98, 103)), (10, range(9, 12))):
+        same = [near for near in range(200) if not differences({"a": [number, near]}, {"a": [number, number]})]
+        yield f"counts near {number}", "" if same == [*wanted] else f"accepted: {same}"
+    one = {"a": [10, 10]}
+    error = "a: [10] instructions, stored [10, 10]\nb: it is there alone"
+    yield tap.planted("a count less, a row more", differences({"a": [10], "b": [1]}, one) == error)
+    yield tap.planted("a row less", differences({}, one) == "a: it is there alone")
     # without AVX2 libc's copies have other counts
     if gone := [it for it in ("valgrind", "avx2") if not tap.is_there(it)]:
         yield tap.left_out("the calls from C", gone)
