@@ -131,7 +131,7 @@ def results(program: str, names: list[str]) -> Iterator[tap.Result]:
     page = PAGE.read_text("utf-8")
     yield from text_results(page, names)
     for number, wanted in ((100, range(98, 103)), (10, range(9, 12))):
-        same = [near for near in range(200) if not differences({"a": [number, near]}, {"a": [number, number]})]
+        same = [near for near in range(200) if not differences({"a": [near, number]}, {"a": [number, number]})]
         yield f"counts near {number}", "" if same == [*wanted] else f"accepted: {same}"
     one = {"a": [10, 10]}
     error = "a: [10] instructions, stored [10, 10]\nb: it is there alone"
