@@ -26,7 +26,7 @@ expect() {
 }
 tries() { expect "$1" ". checks/lib/tap.sh; $2" "${@:3}"; }
 
-echo 1..75
+echo 1..76
 [[ $(expect 1 "echo 2" 2> /dev/null) = "not ok"* ]] || exit 2
 tries "not ok 1 - a\nok 2 - b" "try a false; try b true" 's/=.not ok. failed=1/=ok/'
 tries "not ok 1 - a\n# why" "try a sh -c 'echo why >&2; exit 1' 2>&1" 's/.ended = 0 . ||/1 ] ||/'
@@ -155,6 +155,9 @@ expect 0 "ran '[ \"\${BUILT-}\" ] || echo ok 1' 'export BUILT=\"rt ci\"'"
 # shellcheck disable=SC2016 # the check expands it
 text='case $0:$(($(nice) - base)):${BUILT-} in *rt.t:0: | *lint.t:5:rt?ci) echo ok 1 ;; esac'
 expect 0 "ran '$text' 'cp checks/rt.t checks/lint.t'"
+# what a check printed is there before it ends
+text='for _ in {1..9}; do sleep .2; [ ! -s ../out ] || { echo ok 1; exit; }; done'
+expect "1..1\nok 1" "touch passed; stub checks/rt.t '$text'; KEPT=. .ci/run --check checks/rt.t > out; cat out"
 # only one of two checks is run
 expect "1\ndid not pass: checks/lint.t" \
   "ran 'echo ok 1' 'cp checks/rt.t checks/lint.t; sed -i \"s|timer checks|&/rt.t|\" .ci/run'; grep ^did out"
