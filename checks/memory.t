@@ -41,21 +41,30 @@ TESTS = {
 # inputs of mh_show, the last of which cannot be read, how many allocations it makes, and what it prints then
 SHOWN = {"example": (8, "code 22"), "0041": (5, "mh_show: Invalid"), "0": (4, "mh_show: not hex")}
 SHOWN |= {"a folder": (4, "mh_show: input not read")}
-# programs, by how many allocations each is to make. The first ends as it should, with status 1 if one failed
-ONE = "void *made = malloc(1); "
-THREE = "void *a = malloc(1), *b = malloc(1), *c = malloc(1); free(a); free(b); free(c); "
-PLANTED = {
-    1: (
-        f"{ONE}free(made); return !made;",
-        f"{ONE}_exit(!made);",
-        "return !malloc(1);",
-        "free(malloc(1)); return 0;",
-        f"{ONE}if (made) free(malloc(1)); free(made); return !made;",
-        "return 1;",
-        f'{ONE}if (made) write(1, "0", 1); free(made); return !made;',
-    ),
-    3: (f"{THREE}return !a || !b || !c;", f"{THREE}return !a || !c;", f"{THREE}return !a || !b;"),
-}
+# programs, how many allocations each is to make, and what is found: which one fails, how many there are, how many are
+# not freed, and what it prints. One that is right ends with status 1 if an allocation failed
+GOOD = "void *made = malloc(1); free(made); return !made;"
+THREE = "void *a = malloc(1), *b = malloc(1), *c = malloc(1); free(a); free(b); free(c); return !a"
+AGAIN = "void *none = 0, *a = realloc(none, 1), *b = a ? realloc(a, 2) : 0; free(b ? b : a); return !b;"
+FOUND = "where number {} fails, allocations: {}, not freed: {}, it prints: {}"
+PLANTED = (
+    (GOOD, 0, "1 1 0 1"),
+    (GOOD, 1, ""),
+    (GOOD, 2, "2 1 0 0"),
+    ("void *made = malloc(1); _exit(!made);", 1, "1 0 1 1"),
+    ("return !malloc(1);", 1, "2 1 1 0"),
+    ("free(malloc(1)); return 0;", 1, "1 1 0 0"),
+    ("void *made = malloc(1); if (made) free(malloc(1)); free(made); return !made;", 1, "2 2 0 0"),
+    ("return 1;", 1, "1 0 0 1"),
+    ('void *made = malloc(1); if (made) write(1, "0", 1); free(made); return !made;', 1, "2 1 0 00"),
+    (f"{THREE} || !b || !c;", 2, "3 3 0 1"),
+    (f"{THREE} || !b || !c;", 3, ""),
+    (f"{THREE} || !b || !c;", 4, "4 3 0 0"),
+    (f"{THREE} || !c;", 3, "2 3 0 0"),
+    (f"{THREE} || !b;", 3, "3 3 0 0"),
+    (AGAIN, 2, ""),
+    (AGAIN, 3, "3 2 0 0"),
+)
 
 
 class Counted:
@@ -102,14 +111,11 @@ def others(tests: Iterable[str]) -> str:
 
 def results(work: Path) -> Iterator[tap.Result]:
     counted = Counted(work)
-    for wanted, texts in PLANTED.items():
-        for text in texts:
-            source = f"#include <stdlib.h>\n#include <unistd.h>\nint main(void) {{ {text} }}\n"
-            command = [str(counted.build(source, "planted"))]
-            for number in (wanted - 1, wanted, wanted + 1) if text == texts[0] else (wanted,):
-                error = counted.error_of(command, number, "1", "0")
-                is_right = text == texts[0] and number == wanted
-                yield f"planted, {number}: {text}", "" if is_right != bool(error) else f"found: {error}"
+    for text, number, found in PLANTED:
+        source = f"#include <stdlib.h>\n#include <unistd.h>\nint main(void) {{ {text} }}\n"
+        error = counted.error_of([str(counted.build(source, "planted"))], number, "1", "0")
+        wanted = FOUND.format(*found.split()) if found else ""
+        yield f"planted, {number}: {text}", "" if error == wanted else f"found: {error}"
     program = tap.program("tests_values", "test")
     listed = subprocess.run([program, "--list"], stdout=subprocess.PIPE, text=True).stdout
     tests = {path.rpartition("::")[2]: path for path in re.findall(r"(?m)^(\S+): test$", listed)}
@@ -130,4 +136,4 @@ def results(work: Path) -> Iterator[tap.Result]:
 
 if __name__ == "__main__":
     with tempfile.TemporaryDirectory(prefix="memory-") as folder:
-        sys.exit(tap.report(results(Path(folder)), 34))
+        sys.exit(tap.report(results(Path(folder)), 36))

@@ -22,11 +22,12 @@ LIST
 
 # Another status, and an output that lacks one of the lines with totals.
 planted() {
-  local line
+  local line name
   rejects "> status 1" has_totals 1 "$1"
   while IFS= read -r line; do
     command grep -vxF -- "$line" "$1" > "$work/planted"
-    rejects "< " has_totals 0 "$work/planted"
+    name=${line#rt: }
+    rejects "< ${name%:*}" has_totals 0 "$work/planted"
   done < <(command grep -E '^rt: .*: its tests passed$|passed, 0 failed$' "$1")
 }
 
