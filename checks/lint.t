@@ -9,9 +9,13 @@ listed() { git ls-files -co --exclude-standard "$@"; }
 # Prints the paths of the scripts in a language, by their first lines.
 scripts() { git grep -lIE --untracked "$1" | sort; }
 
-shell=$(scripts '^(#! ?/.*\b(ba)?sh|# shellcheck shell=bash)$')
-python=$({ listed '*.py'; scripts '^#!.*python'; } | sort -u)
-javascript=$(listed '*.js' '*.ts')
+find_scripts() {
+  shell=$(scripts '^(#! ?/.*\b(ba)?sh|# shellcheck shell=bash)$')
+  python=$({ listed '*.py'; scripts '^#!.*python'; } | sort -u)
+  javascript=$(listed '*.js' '*.ts')
+  all=$(printf '%s\n' "$shell" "$python" "$javascript")
+}
+find_scripts
 # those that end at the first command that fails
 ending=$(scripts '^(set -euo pipefail$|\. .*/tap\.sh"$|# Sourced after tap\.sh)')
 # install.t plants what the installed test finds
@@ -22,7 +26,22 @@ typed=$(sed '/^bindings\/python\/tests\//d' <<< "$python")
 # Each script, by its name or as it can be executed, is among these.
 are_known() {
   { listed '*.js' '*.mjs' '*.py' '*.sh' '*.t' '*.ts'; git ls-files -s | awk '$1 == 100755 { print $4 }'; } |
-    sort -u | comm -23 - <(printf '%s\n' bindings/c/debian/rules "$@" | sort) | diff /dev/null -
+    sort -u | comm -23 - <(printf '%s\n' bindings/c/debian/rules "$all" | sort) | diff /dev/null -
+}
+
+# A folder whose scripts are in no list: four remain when its own are found.
+unknown_scripts() {
+  git init -q "$work/new"
+  cd "$work/new"
+  touch a b.js c.mjs d.py e.sh f.t g.ts
+  chmod +x a
+  git add a b.js
+  echo '# shellcheck shell=bash' > h.sh
+  echo "#!/bin/sh" > i.t
+  echo '#!/usr/bin/env python3' > k.t
+  diff <(printf '> %s\n' *) <(are_known | sed 1d)
+  find_scripts
+  diff <(printf '> %s\n' a c.mjs e.sh f.t) <(are_known | sed 1d)
 }
 
 # bash reads one script alone.
@@ -100,16 +119,34 @@ are_run() {
 # Scripts find their folder through links too.
 located() { ! command grep -nE 'dirname "\$[0{]' "$@"; }
 
-# Each script that needs another word, or one, ends with an error; those from link_wasm on print their usage.
-without_words() {
-  local script name status=1
-  for script in bindings/{c/man.py,python/pack.sh,rust/{beside_upstream.py,offline.sh,pack.sh}} checks/lib/packed.py \
-    tools/{sbom.py,link_wasm,{portable_c,release}{,\ -h},generate\ none} bindings/js/build.sh\ none; do
-    name=${script%% *}
-    [ "$script" != tools/link_wasm ] || status=2
-    ends $status "${name##*/}" eval "$script < /dev/null > /dev/null"
-  done
+# Each script that says its words ends with an error without the last that it needs, and with one more. It prints its
+# usage if it ever does, then also for -h.
+wrong_words() {
+  local script usage words
+  while IFS='|' read -r script usage words; do
+    if ! command grep -qE "__doc__|sed -n '[2/]" "$script"; then
+      [ "$words" != -h ] || continue
+      usage=${script##*/}
+    fi
+    # shellcheck disable=SC2086 # words
+    rejects "$usage" timeout 9 "$script" $words < /dev/null
+  done < <(listed .ci bindings tools checks/lib/packed.py | xargs awk "$words_to_try")
 }
+# Prints a script, its usage and words for it, of each usage in its first lines.
+# shellcheck disable=SC2016 # of awk
+words_to_try='
+  FNR == 1 { name = FILENAME; sub(/.*\//, "", name); form = "^(#  |   ) ([.a-z_]+/)*" name "( |$)" }
+  FNR > 30 || $0 !~ form { next }
+  {
+    script = FILENAME "|" substr($0, 5) "|"
+    sub(form, "")
+    sub(/(^ | ) +.*| [<>] .*|^ .*/, "")
+    usages[FILENAME, $0]
+    print script "-h"
+    if (!/\.\./) { words = $0; gsub(/[][]/, "", words); print script words " none" }
+    if (/^[^[]/ && sub(/ ?[^ ]*( \[.*)?$/, "")) fewer[script $0] = FILENAME SUBSEP $0
+  }
+  END { for (it in fewer) if (!(fewer[it] in usages)) print it }'
 
 # The tests in some files, what they compare, and where a status is no error or has to be one, are as many as stated.
 compares() {
@@ -142,8 +179,8 @@ try_linter() {
 
 # shellcheck disable=SC2086 # no path has a blank
 {
-  try "each script is in a list" are_known $shell $python $javascript
-  try "a script that is in none" rejects "> checks/lib/tap.sh" are_known ${shell/tap.sh/} $python $javascript
+  try "each script is in a list: 1 comparison" are_known
+  try "scripts that are in none: 4 comparisons" unknown_scripts
   try "scripts that go on after a failure" diff - <(comm -23 <(echo "$shell") <(echo "$ending")) \
     < <(printf '%s\n' .ci/run bindings/c/examples/test.sh checks/{bugs,js,mutants,pages,python,speed,tap,verdicts}.t)
   try "tests with planted cases" diff - <({ echo "$tested"; echo bindings/c/examples/test.sh; } | sort) \
@@ -155,7 +192,7 @@ try_linter() {
   try "a linter over too few scripts" rejects "> checks/lib/tap.sh" over_all a.sh true ${shell/tap.sh/}
   try_linter planted compares.t "no planted case of same other" \
     'same() {\n  cmp a b\n}\ntry "one of two" same a\nother() {\n  diff a b\n}\npart "two" cc other' $tested
-  try_linter short long.js long.js:1 "$(printf '%121s' .)" $shell $python $javascript
+  try_linter short long.js long.js:1 "$(printf '%121s' .)" $all
   try_linter located folder.bash folder.bash:1 "dirname \"\$0\"" bindings/*/*.sh tools/*
   try_linter are_run unused.sh "unused is not run" "unused() { true; } # unused" $shell
   try_linter chains chain.bash chain.bash:2 'set -e\nfalse && true\ntrue' $ending
@@ -166,14 +203,14 @@ try_linter() {
   needs=mypy try_linter "mypy --strict --scripts-are-modules --cache-dir $work/mypy" untyped.py \
     "missing a type annotation" "def same(number): return number" $typed
   needs=tsc try_linter names unused.js TS6133 "export {};\nconst number = 1;" $javascript
-  try "scripts without their words: 14 comparisons" without_words
+  try "scripts with wrong words: 50 comparisons" wrong_words
   try "what tests compare: 8 comparisons" compares << 'END'
 135 bindings/c/tests
 124 bindings/js/test
 176 bindings/python/tests
 188 bindings/rust/*.rs
 591 crates/*.rt
-229 checks
+232 checks
 74 bindings/*.sh
 7 tools
 END

@@ -6,6 +6,7 @@
 #
 # CC, CXX, CFLAGS, LIB_FUZZING_ENGINE and WORK are as in OSS-Fuzz, which reads the seeds from the .zip.
 set -euo pipefail
+[ $# = 0 ] || { sed -n '2,/^[^#]/s/^# \{0,1\}//p' "${BASH_SOURCE[0]}" >&2; exit 2; }
 here=$(dirname "$(readlink -f "${BASH_SOURCE[0]}")")
 read -r -a flags <<< "${CFLAGS:--g -O1 -fsanitize=fuzzer-no-link,address,undefined -fno-sanitize-recover=all}"
 

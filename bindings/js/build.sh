@@ -87,7 +87,7 @@ build_into() {
   cp "$work/demo.html" "$1"
 }
 
-case ${1-} in
+case $* in
   '') build_into "$here" ;;
   --check)
     mkdir "$work/new"

@@ -83,12 +83,14 @@ def table(found: Dict[Tuple[str, str, str], List[float]]) -> str:
 
 
 def main() -> None:
+    if sys.argv[1:2] in ([], ["-h"]) or sys.argv[2:] not in ([], ["--write"]):
+        sys.exit(__doc__)
     found = shares(Path(sys.argv[1]).resolve())
     for key, values in sorted(found.items(), key=lambda item: -max(item[1])):
         if max(values) > 1:
             print(*key, *(f"{value:.2f}" for value in values))
     print(table(found))
-    if sys.argv[2:] == ["--write"]:
+    if sys.argv[2:]:
         text = PAGE.read_text("utf-8")
         PAGE.write_text(re.sub(r"\| Call \| a code.*\n(?:\|.*\n)+", lambda _: table(found), text), "utf-8")
 

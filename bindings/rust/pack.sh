@@ -4,6 +4,7 @@
 #
 #   bindings/rust/pack.sh WORK
 set -euo pipefail
+[[ $# = 1 && $1 != -* ]] || { sed -n '2,/^[^#]/s/^# \{0,1\}//p' "${BASH_SOURCE[0]}" >&2; exit 2; }
 here=$(dirname "$(readlink -f "$0")")
 packages=$1/repository/bindings/rust
 "$here/offline.sh" "$1" true
