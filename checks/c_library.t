@@ -28,22 +28,25 @@ build_library() {
   fi
 }
 
-# The archives of the repository have the bytes of this library, and of a second build, which makes both anew.
+# The archives in a copy of the repository have the bytes of this library, and of a second build, which makes both anew.
 prebuilt_archives() {
-  cmp "$library" bindings/c/prebuilt/x86_64/libmultihash_c.a
-  STEPS=$work/steps tools/generate --check archives > "$work/same"
+  cmp "$library" "$1/bindings/c/prebuilt/x86_64/libmultihash_c.a"
+  STEPS=$work/steps "$1/tools/generate" --check archives | tee "$work/same"
   sed 's/^the same.*: //' "$work/same" | sort | diff <(git ls-files bindings/c/prebuilt) -
 }
 
-# A copy of the archives in which a byte and its checksum were changed.
+# Copies of the archives in which a byte and its checksum were changed.
 planted_prebuilt() {
-  local copy=$work/bindings/c/prebuilt
+  local machine copy=$work/bindings/c/prebuilt
   mkdir -p "$work/bindings/c"
-  cp -r bindings/c/prebuilt "$copy"
-  printf x | dd bs=1 seek=9999 conv=notrunc of="$copy/aarch64/libmultihash_c.a"
-  (cd "$copy"; sha256sum {x86_64,aarch64}/libmultihash_c.a > SHA256SUMS)
   cp -r tools "$work"
-  STEPS=$work/steps "$work/tools/generate" --check archives
+  for machine in aarch64 x86_64; do
+    cp -r bindings/c/prebuilt "$work/bindings/c"
+    printf x | dd bs=1 seek=9999 conv=notrunc of="$copy/$machine/libmultihash_c.a"
+    (cd "$copy"; sha256sum {x86_64,aarch64}/libmultihash_c.a > SHA256SUMS)
+    rejects "$machine/libmultihash_c.a differ: byte 10000" prebuilt_archives "$work"
+  done
+  rejects "$library $copy/" prebuilt_archives "$work"
 }
 
 # The symbols of an archive that an option of nm selects.
@@ -161,27 +164,26 @@ old_processor() {
   done
 }
 
-# The tests find each difference that is planted in C by hand.
+# The tests find each difference that is planted in C by hand, by a check of it.
 planted_in_c() {
-  local edit
-  while read -r edit; do
-    echo "$edit"
+  local text edit
+  while IFS='|' read -r text edit; do
     sed "$edit" "$c/speed/plain.c" > "$work/planted.c"
     cc -DHEAP -I "$c/include" "$work/planted.c" "${tests[@]}" -o "$work/planted"
-    rejects "not so: " "$work/planted" "$list" 1 20000
+    rejects "not so: $text" "$work/planted" "$list" 1 20000
   done << 'END'
-s/i > 0 && bytes\[i\] == 0/0/
-s/front.digest_length = size/front.digest_length = (uint8_t)size/
-s/length < whole_length ? length : whole_length/length/
-s/whole_length - offset > size/whole_length - offset > size + 1/
-s/size > limit || //
-s/code > INT64_MAX/code > UINT64_MAX/
-s/code > INT64_MAX/code + 1 > (uint64_t)INT64_MAX + 1/
-s/(out, digest, length);/&\nout[length] = 0;/
-s/left_code < right_code ? -1 : 1/-1/
-s/return left_length </return (uint8_t)left_length </
-s/(order > 0) - /(order > 1) - /
-s/_NUMBER;/_NUMBER + 1;/
+strcmp(formatted|s/i > 0 && bytes\[i\] == 0/0/
+head.digest_length|s/front.digest_length = size/front.digest_length = (uint8_t)size/
+same(multihash_from_prefix|s/length < whole_length ? length : whole_length/length/
+same(multihash_from_prefix|s/whole_length - offset > size/whole_length - offset > size + 1/
+strcmp(formatted|s/size > limit || //
+same(multihash_scale_decode|s/code > INT64_MAX/code > UINT64_MAX/
+same(multihash_scale_decode|s/code > INT64_MAX/code + 1 > (uint64_t)INT64_MAX + 1/
+out[i] == MARK|s/(out, digest, length);/&\nout[length] = 0;/
+multihash_compare(|s/left_code < right_code ? -1 : 1/-1/
+multihash_compare(|s/return left_length </return (uint8_t)left_length </
+multihash_compare(|s/(order > 0) - /(order > 1) - /
+number|s/_NUMBER;/_NUMBER + 1;/
 END
 }
 
@@ -197,18 +199,24 @@ stream_example() {
 }
 
 planted_in_stream() {
-  local edit
-  for edit in 's/errno != EINTR/1/' 's/> from->limit/> 255/' 's/= !is_rejected/= 0/' 's/? 2 : 1/? 3 : 1/' \
-    's/: STREAM_CUT/: STREAM_END/' 's/STREAM_FAILED;/STREAM_CUT;/'; do
-    rejects "not so: " stream_example "$edit"
-  done
+  local text edit
+  while IFS='|' read -r text edit; do
+    rejects "not so: $text" stream_example "$edit"
+  done << 'END'
+setitimer|s/errno != EINTR/1/
+next_multihash|s/> from->limit/> 255/
+*at < ITEMS|s/= !is_rejected/= 0/
+close(more[1])|s/? 2 : 1/? 3 : 1/
+read_on(&from, &at) == want|s/: STREAM_CUT/: STREAM_END/
+read_on(&from, &at) == want|s/STREAM_FAILED;/STREAM_CUT;/
+END
 }
 
 # ---- all of it
 
 try "static library" build_library
-try "the prebuilt archives: 2 comparisons" prebuilt_archives
-try "a planted archive of them" rejects "aarch64/libmultihash_c.a differ: byte 10000" planted_prebuilt
+try "the prebuilt archives: 2 comparisons" prebuilt_archives "$top"
+try "planted archives of them: 6 comparisons" planted_prebuilt
 needs="nm objdump ar" look_at_library
 try "tests of the exports" calls_each "$c"/tests/{test,models}.c
 try "tests without one" rejects "> multihash_version" calls_each "$c/tests/models.c"

@@ -240,8 +240,7 @@ def results() -> Iterator[tap.Result]:
     yield "the header and the bindings", error_of(files)
     for name, rows in groupby(edits.rows(LIB / "header.edits"), itemgetter(0)):
         changed = edits.apply(files, [edits.Edit(*row[1:]) for row in rows])
-        found = error_of({**files, **changed}).partition("\n")[0]
-        yield f"planted: {name}", "" if found == name else f"found is: {found}"
+        yield tap.stated(name, error_of({**files, **changed}), name)
     yield from unread()
 
 

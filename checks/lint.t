@@ -165,8 +165,13 @@ over_all() {
   "${@:2}"
 }
 
-# Tries a linter, a command with options, over scripts, and over a planted script between two of them, which it has to
-# reject with a text.
+# Rejects a script with a text, before another and after it.
+rejects_both() {
+  rejects "$1" "${@:4}" "$2" "$3"
+  rejects "$1" "${@:4}" "$3" "$2"
+}
+
+# Tries a linter, a command with options, over scripts, and over a planted script, which it has to reject with a text.
 try_linter() {
   local linter=$1 planted=$work/$2 text=$3 name=${1%% *}
   printf '%b\n' "$4" > "$planted"
@@ -174,7 +179,7 @@ try_linter() {
   # shellcheck disable=SC2086
   try "$name" over_all "$planted" $linter "$@"
   # shellcheck disable=SC2086
-  try "$name rejects a planted script" rejects "$text" $linter "$1" "$planted" "$2"
+  try "$name rejects a planted script" rejects_both "$text" "$planted" "$1" $linter
 }
 
 # shellcheck disable=SC2086 # no path has a blank
@@ -190,8 +195,10 @@ try_linter() {
   try_linter syntax syntax.sh "unexpected end of file" "if true; then" $shell
   try "a linter of the last script alone" prints "not ok" try_linter last_alone last.sh end "if true; then" $shell
   try "a linter over too few scripts" rejects "> checks/lib/tap.sh" over_all a.sh true ${shell/tap.sh/}
-  try_linter planted compares.t "no planted case of same other" \
-    'same() {\n  cmp a b\n}\ntry "one of two" same a\nother() {\n  diff a b\n}\npart "two" cc other' $tested
+  try_linter planted compares.t "no planted case of a b c d" \
+    'e() { cmp 1 2; }\ntry 1 e\nrejects 1 e\nf() { e; }\ntry 1 f\nrejects "1 2" f\ntry "2 comparisons" e
+a() {\n  cmp 1 2\n}\ntry "1 2" a 3\nb() {\n  diff 1 2\n}\npart "1" cc b\nc() { grep 1 2; }\ntry 1 c
+d() {\n  prints 1 2\n}\npart 1 "c c" \\\n  d' $tested
   try_linter short long.js long.js:1 "$(printf '%121s' .)" $all
   try_linter located folder.bash folder.bash:1 "dirname \"\$0\"" bindings/*/*.sh tools/*
   try_linter are_run unused.sh "unused is not run" "unused() { true; } # unused" $shell
@@ -210,7 +217,7 @@ try_linter() {
 176 bindings/python/tests
 188 bindings/rust/*.rs
 591 crates/*.rt
-232 checks
+237 checks
 74 bindings/*.sh
 7 tools
 END

@@ -26,8 +26,8 @@ expect() {
 }
 tries() { expect "$1" ". checks/lib/tap.sh; $2" "${@:3}"; }
 
-echo 1..76
-[[ $(expect 1 "echo 2" 2> /dev/null) = "not ok"* ]] || exit 2
+echo 1..77
+[[ $(expect 1 "echo 2" 2> /dev/null) = "not ok"* && $(tries 1 "echo 1" s/ab/ba/) = "not ok"* ]] || exit 2
 tries "not ok 1 - a\nok 2 - b" "try a false; try b true" 's/=.not ok. failed=1/=ok/'
 tries "not ok 1 - a\n# why" "try a sh -c 'echo why >&2; exit 1' 2>&1" 's/.ended = 0 . ||/1 ] ||/'
 tries "not ok 1 - a: 1 comparison\n# it made 0" "try 'a: 1 comparison' true 2>&1" 's/comparisons?/comparisons/'
@@ -83,6 +83,8 @@ expect 1 "$(report "")" 's/ or not number//'
 expect "ok 1 - a b\n0" "$(report '("a#\nb", "")')" 's/what.replace/(what + "c").replace/'
 expect "not ok 1 - planted: a\n#   it is not found\nok 2 - planted: b\n1" \
   "$(report 'tap.planted("a", ""), tap.planted("b", "why")')" 's/if found/if 1/'
+expect "not ok 1 - a\n#   found is: b\nok 2 - b\n1" \
+  "$(report 'tap.stated("a", "b\nc", "c"), tap.stated("b", "c\nd", "c")')" 's/first == wanted/wanted in found/'
 expect "ok 1 - a # SKIP no why\n0" "$(report 'tap.left_out("a", ["why"])')"
 for tool in "" sh "$(awk '/^[Ff].*: fp/ { print $4; exit }' /proc/cpuinfo)"; do
   expect "not ok 1 - a # SKIP no $tool\n#   what it needs is there\n1" \

@@ -56,32 +56,37 @@ def rejected(bugs: list[Bug], log: str) -> Iterator[tap.Result]:
     for name, (function, *clauses), *_ in bugs:
         state, found = open_clauses(log, function)
         is_so = state != "proved" and sorted(found) == sorted(clauses)
-        yield name, "" if is_so else f"{function}: {state}; open are {sorted(found)}"
+        yield name, "" if is_so else f"{state}: {sorted(found)}"
 
 
 def results() -> Iterator[tap.Result]:
     """Checks the library with mutants that the proof has to reject."""
     bugs = read_bugs()["proof"]
     yield from rejected(bugs, check(bugs))
-    yield from planted_logs()
+    yield from stated_logs()
 
 
-def planted_logs() -> Iterator[tap.Result]:
+def stated_logs() -> Iterator[tap.Result]:
     """Judges a function of which two clauses, and no others, have to have open goals, by what a check prints."""
     bug = Bug("a function whose goals are open", ["c::f::g", "ok", "err"], "", "", "")
     note, error = "note: it is not proved that it holds (`returns-clause-ok`)\n", "proofs/f/g/Answers.antt:1:2: error: "
     goal, state = f"{error}`returns-then-clause-err`: x\n", "fn c::f::g: not proved"
-    yield from rejected([bug], goal + note + state)
-    for name, log in {
-        "proved": goal + note + "fn c::f::g: proved",
-        "one clause": note + state,
-        "another clause": goal + note + note.replace("ok", "front") + state,
-        "notes of another function": goal + note + "fn c::f::gg: not proved\n" + state,
-        "errors of another function": goal.replace("/g/", "/gg/") + note + state,
-        "a name that is gone": f"{goal}{error}`returns`: `x` is not in scope\n{note}{state}",
-        "no state": goal + note,
-    }.items():
-        yield tap.planted(name, all(error for _, error in rejected([bug], log)))
+    for log, wrong in (
+        (goal + note + state, ""),
+        (goal + note + "fn c::f::g: proved", "proved: ['err', 'ok']"),
+        (note + state, "not proved: ['ok']"),
+        (goal + note + note.replace("ok", "front") + state, "not proved: ['err', 'front', 'ok']"),
+        (goal + note.replace("-clause-ok", "-in-x") + state, "not proved: ['err', 'returns']"),
+        (goal + note + "fn c::f::gg: not proved\n" + state, "not proved: ['err']"),
+        (goal.replace("/g/", "/gg/") + note + state, "not proved: ['ok']"),
+        (
+            f"{goal}{error}`returns`: `x` is not in scope\n{note}{state}",
+            "a name that the proof cites is gone: `returns`: `x` is not in scope: []",
+        ),
+        (goal + note, "it has no state: []"),
+    ):
+        for _, found in rejected([bug], log):
+            yield tap.stated(log, found, wrong)
 
 
 if __name__ == "__main__":

@@ -33,7 +33,13 @@ def report(results: Iterable[Result], plan: int = 0) -> int:
     return 1 if failed or not number else 0
 
 
-def planted(what: str, found: object) -> Result:
+def stated(what: str, found: str, wanted: str) -> Result:
+    """Returns the result of what is found: its first line is a text."""
+    first = found.partition("\n")[0]
+    return what, "" if first == wanted else f"found is: {first}"
+
+
+def planted(what: str, found: str | list[str]) -> Result:
     """Returns the result of a planted difference: something has to be found."""
     return f"planted: {what}", "" if found else "it is not found"
 
