@@ -212,12 +212,12 @@ d() {\n  prints 1 2\n}\npart 1 "c c" \\\n  d' $tested
   needs=tsc try_linter names unused.js TS6133 "export {};\nconst number = 1;" $javascript
   try "scripts with wrong words: 50 comparisons" wrong_words
   try "what tests compare: 8 comparisons" compares << 'END'
-135 bindings/c/tests
+137 bindings/c/tests
 124 bindings/js/test
 176 bindings/python/tests
 188 bindings/rust/*.rs
 591 crates/*.rt
-237 checks
+238 checks
 74 bindings/*.sh
 7 tools
 END

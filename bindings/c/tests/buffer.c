@@ -5,7 +5,8 @@
 #endif
 #include "check.h"
 
-unsigned long checks;
+unsigned long checks, wrong;
+uint64_t results;
 
 #if defined(__linux__) && !defined(HEAP)
 #include <sys/mman.h>
@@ -45,7 +46,7 @@ void release(uint8_t *bytes)
 
 uint8_t *buffer(size_t length)
 {
-    uint8_t *bytes = length == 0 ? NULL : (uint8_t *)malloc(length);
+    uint8_t *bytes = length == 0 ? NULL : (uint8_t *)calloc(1, length + SPARE);
     CHECK(length == 0 || bytes != NULL);
     return bytes;
 }
@@ -60,6 +61,9 @@ void release(uint8_t *bytes)
 uint8_t *copy_of(const uint8_t *bytes, size_t length)
 {
     uint8_t *copy = buffer(length);
-    if (length > 0) memcpy(copy, bytes, length);
+    for (size_t i = 0; i < length; i++) {
+        copy[i] = bytes[i];
+        results = 31 * results + bytes[i];
+    }
     return copy;
 }

@@ -105,18 +105,16 @@ static multihash_encoded model_encoding(uint64_t code, size_t length, size_t nee
 
 /* ---- the checks */
 
-uint32_t results;
-
 static int same(multihash_decoded a, multihash_decoded b)
 {
-    results = 31 * results + a.status + (uint32_t)(a.taken + a.digest_length);
+    results = 31 * results + a.status + a.size + a.code + a.digest_length + a.taken;
     return a.status == b.status && a.size == b.size && a.code == b.code && a.digest_offset == b.digest_offset &&
            a.digest_length == b.digest_length && a.taken == b.taken;
 }
 
 static int same_encoded(multihash_encoded a, multihash_encoded b)
 {
-    results = 31 * results + a.status + (uint32_t)a.length;
+    results = 31 * results + a.status + a.length;
     return a.status == b.status && a.size == b.size && a.length == b.length;
 }
 
@@ -166,7 +164,7 @@ void check_length(uint64_t code, size_t length)
 /* Encodes what was decoded: to the bytes that it was decoded from, and with less capacity. */
 static void check_back(encoder encode, const uint8_t *bytes, multihash_decoded found)
 {
-    uint8_t out[MULTIHASH_LENGTH_MAX];
+    uint8_t out[MULTIHASH_LENGTH_MAX + SPARE] = {0};
     if (found.status != MULTIHASH_OK) return;
     uint8_t *digest = copy_of(bytes + found.digest_offset, found.digest_length);
     CHECK(encode(found.code, digest, found.digest_length, out, sizeof out).length == found.taken);

@@ -5,6 +5,8 @@
  *   test VECTORS SEED COUNT */
 #include "check.h"
 
+#include <inttypes.h>
+
 /* Each prefix of the longest encoding whose code and digest's length have that many bytes. */
 static void check_cuts(size_t code_bytes, size_t size_bytes)
 {
@@ -63,12 +65,13 @@ static void check_version(void)
     char text[32];
     unsigned number = multihash_version();
     snprintf(text, sizeof text, "%u.%u.%u", number / 10000, number / 100 % 100, number % 100);
-    CHECK(number == MULTIHASH_VERSION_NUMBER && strcmp(text, MULTIHASH_VERSION) == 0);
+    CHECK(number == MULTIHASH_VERSION_NUMBER);
+    CHECK(strcmp(text, MULTIHASH_VERSION) == 0);
 }
 
 int main(int argc, char **argv)
 {
-    CHECK(argc == 4);
+    CHECK(argc == 4 && buffer(0) == NULL);
     for (size_t code_bytes = 1; code_bytes <= 9; code_bytes++) {
         check_cuts(code_bytes, 1);
         check_cuts(code_bytes, 2);
@@ -79,6 +82,6 @@ int main(int argc, char **argv)
     check_version();
     replay(argv[1]);
     draw_inputs(strtoul(argv[2], NULL, 10), strtoul(argv[3], NULL, 10));
-    printf("drawn: %s, checks: %lu, results: %08x\n", argv[3], checks, (unsigned)results);
+    printf("drawn: %s, checks: %lu, wrong: %lu, results: %016" PRIx64 "\n", argv[3], checks, wrong, results);
     return 0;
 }
