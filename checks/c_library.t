@@ -4,7 +4,7 @@
 # valgrind, with all warnings as errors; and runs the examples.
 # shellcheck source=checks/lib/tap.sh
 . "$(dirname "$0")/lib/tap.sh"
-plan 38 cc python3 rt
+plan 39 cc python3 rt
 # shellcheck source=checks/lib/proved.sh
 . checks/lib/proved.sh
 # shellcheck source=checks/lib/warnings.sh
@@ -168,7 +168,8 @@ old_processor() {
 wrong_results() {
   sed -f "$c/tests/faults.sed" "$c/src/multihash.c" > "$work/multihash.c"
   cc -DFAULTS -DHEAP -I "$c/include" -I "$c/src" "$work/multihash.c" "${tests[@]}" -o "$work/faults"
-  prints "$1" "$work/faults" "$list" 1 2000
+  sed '1s/S/T/; 2s/$/\tmore/' "$list" > "$work/wrong.tsv"
+  prints "$1" "$work/faults" "$work/wrong.tsv" 1 2000
 }
 
 # C by hand, with the header of a later version.
@@ -180,18 +181,25 @@ by_hand() {
 # The example of the page is the one that is installed.
 example_in() { block_of "$1" c | diff bindings/c/examples/show.c -; }
 
-# The reader of a stream that is installed, after an edit, over pipes that are cut at each byte.
+# The reader of a stream that is installed, after an edit, over pipes that are cut at each byte; further words are
+# options of the compiler.
 stream_example() {
   sed "$1" bindings/c/examples/stream.c > "$work/stream.c"
-  cc "${c_flags[@]}" "${sanitize[@]}" -I "$c/include" -I "$work" "$c/tests/stream.c" "$library" -o "$work/stream"
+  cc "${c_flags[@]}" "${sanitize[@]}" -I "$c/include" -I "$work" "${@:3}" "$c/tests/stream.c" "$library" \
+    -o "$work/stream"
   is_sanitized stream
-  prints "checks: 22229" "$work/stream"
+  prints "$2, results: 2c9fec322b3b0f2c" "$work/stream"
 }
+
+# By turns one field of its results is wrong.
+wrong_fields='s/^static stream_result/static unsigned turn;\n&/
+  s/from->is_whole = !.*/&\n    if (++turn % 8 < 6) ((uint64_t *)found)[turn % 8] ^= 1;/
+  s/^ *return is_rejected/    if (turn % 8 > 5) (turn % 2 == 0 ? from->have-- : from->bytes[0]++);\n&/'
 
 planted_in_stream() {
   local text edit
   while IFS='|' read -r text edit; do
-    rejects "not so: $text" stream_example "$edit"
+    rejects "not so: $text" stream_example "$edit" ""
   done << 'END'
 setitimer|s/errno != EINTR/1/
 next_multihash|s/> from->limit/> 255/
@@ -216,8 +224,8 @@ try "warnings: 9 comparisons" warns "strict-prototypes missing-prototypes" cc "$
 needs=c++ try "warnings of C++: 7 comparisons" warns "" c++ "${cpp_flags[@]}" -x c++
 try "a read after an input" rejects heap-buffer-overflow faulty "" "$overread" "${sanitize[@]}"
 try "a sum that is too large" rejects "signed integer overflow" faulty "" most++ "${sanitize[@]}"
-try "each check of the tests" prints "checks: 5898145, wrong: 0, results: c1176437f5a4b9ab" "$work/cc" "$list" 1 2000
-try "wrong results: 1 comparison" wrong_results "checks: 5858987, wrong: 680503, results: e724cc78709f251f"
+try "each check of the tests" prints "checks: 5850175, wrong: 0, results: 15d214b5913fd1ee" "$work/cc" "$list" 1 2000
+try "wrong results: 1 comparison" wrong_results "checks: 5811016, wrong: 680495, results: e05d2bff1ac9961d"
 try "a wrong vector" rejects "verdicts.c:29: not so: strcmp(" wrong_vector
 # each access of the library, which the compilers' sanitizers do not see
 needs=valgrind try valgrind build_and_run valgrind "${valgrind[*]}" cc "${c_flags[@]}" "${heap[@]}" "${tests[@]}" \
@@ -230,5 +238,6 @@ try "fast C by hand" by_hand fast
 try "the example of the page" example_in bindings/c/README.md
 sed 's/int main(void)/int main()/' bindings/c/README.md > "$work/page.md"
 try "another example" rejects "> int main()" example_in "$work/page.md"
-try "the reader of a stream: 3 comparisons" stream_example ""
+try "the reader of a stream: 3 comparisons" stream_example "" "checks: 22229, wrong: 0"
+try "wrong results of it: 3 comparisons" stream_example "$wrong_fields" "wrong: 2825" -DFAULTS
 try "what is planted in it: 24 comparisons" planted_in_stream

@@ -89,7 +89,8 @@ rust_targets() {
 rust_packed() {
   local packed=$work/packed clone=$work/clone package
   touch "$work/repository/bindings/rust/multihash/src/old.rs"
-  mkdir "$packed" "$clone"
+  mkdir -p "$packed" "$clone" "$work"/c/{include,src,prebuilt/"$(uname -m)"} # nothing above a package is used
+  touch "$work/c/src/multihash.c" "$work/c/prebuilt/$(uname -m)/libmultihash_c.a"
   cp -r LICENSE bindings "$clone"
   echo planted | tee "$clone"/bindings/rust/{Cargo.lock,target}
   (cd "$work"; clone/bindings/rust/pack.sh .)

@@ -25,7 +25,7 @@ import pathlib, sys
 
 for number, line in enumerate(pathlib.Path(sys.argv[1]).read_text("ascii").splitlines()[1:]):
     size, data = line.split("\t")[:2]
-    seed = bytes([min(int(size), 255)]) + bytes.fromhex(data.strip("-"))
+    seed = bytes([min(int(size), 255), 18]) + bytes(7) + bytes.fromhex(data.strip("-"))
     pathlib.Path(sys.argv[2], str(number)).write_bytes(seed)
 END
   (cd "$work/seeds"; python3 -m zipfile -c "$(readlink -f "$out")/multihash_fuzzer_seed_corpus.zip" .)

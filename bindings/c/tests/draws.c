@@ -1,22 +1,23 @@
 /* Inputs that are drawn: the same ones on every machine, or with FUZZ by libFuzzer. */
 #include "check.h"
 
-#ifdef FUZZ
+#define HEAD 9
 
 int LLVMFuzzerTestOneInput(const uint8_t *data, size_t size);
 
-/* The first byte is a limit. The others are what is decoded, and a digest, with the code that the first eight are. */
+/* The first byte is a limit, and the next eight are a code. The others are what is decoded, and a digest. */
 int LLVMFuzzerTestOneInput(const uint8_t *data, size_t size)
 {
-    uint64_t code = 0;
-    if (size == 0) return 0;
-    if (size > 8) memcpy(&code, data + 1, 8);
-    check_input(code, data + 1, size - 1, data[0]);
+    uint64_t code;
+    if (size < HEAD) return 0;
+    memcpy(&code, data + 1, sizeof code);
+    uint8_t *input = copy_of(data + HEAD, size - HEAD);
+    check_input(code, input, size - HEAD, data[0]);
+    release(input);
     return 0;
 }
 
-#else
-
+#ifndef FUZZ
 #define LONGEST 300
 
 static uint64_t state;
@@ -74,12 +75,12 @@ void draw_inputs(uint64_t seed, unsigned long count)
 {
     state = seed + 1;
     for (unsigned long i = 0; i < count; i++) {
-        uint8_t bytes[2 * LONGEST];
-        size_t length = draw_input(bytes);
-        uint8_t *input = copy_of(bytes, length);
+        uint8_t bytes[HEAD + 2 * LONGEST];
+        size_t length = draw_input(bytes + HEAD);
         uint64_t code = number();
-        check_input(code, input, length, below(LONGEST));
-        release(input);
+        memcpy(bytes + 1, &code, sizeof code);
+        bytes[0] = (uint8_t)below(256);
+        LLVMFuzzerTestOneInput(bytes, HEAD + length);
     }
 }
 

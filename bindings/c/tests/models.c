@@ -139,6 +139,7 @@ static void check_encoding(encoder encode, uint64_t code, const uint8_t *digest,
     multihash_encoded wanted = model_encoding(code, length, need, room);
     size_t written = wanted.status == MULTIHASH_OK ? need : 0;
     uint8_t *out = marked(room);
+    results += code;
     CHECK(same_encoded(encode(code, digest, length, out, room), wanted));
     if (written > 0) {
         multihash_decoded back = is_scale ? model_scale(out, written) : model_whole(out, written, written);
@@ -177,6 +178,7 @@ static void check_back(encoder encode, const uint8_t *bytes, multihash_decoded f
 void check_decodings(const uint8_t *bytes, size_t length, size_t limit)
 {
     multihash_front head = multihash_head(bytes, length), wanted = model_head(bytes, length);
+    results += limit;
     CHECK(head.status == wanted.status && head.code == wanted.code);
     CHECK(head.digest_length == wanted.digest_length && head.taken == wanted.taken);
     CHECK(same(multihash_from_bytes(bytes, length), model_whole(bytes, length, length)));

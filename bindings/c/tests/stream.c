@@ -15,7 +15,8 @@ int example_main(void);
 
 #define LIMIT MULTIHASH_DIGEST_MAX
 
-unsigned long checks;
+unsigned long checks, wrong;
+uint64_t results;
 
 /* The items of the stream. */
 static const struct item {
@@ -142,6 +143,7 @@ int main(void)
     check_rejected("\x12\xff\xff\xff\xff\xff\xff\xff\xff\x7f\x07", 11, MULTIHASH_INVALID_SIZE, INT64_MAX, 1);
     check_rejected("\x80\x00\x07", 3, MULTIHASH_NOT_MINIMAL, 0, 1);
     check_rejected("\xff\xff\xff\xff\xff\xff\xff\xff\xff\x01", 10, MULTIHASH_OVERFLOW, 0, 1);
-    printf("checks: %lu\n", checks);
+    for (size_t i = 0; i < whole_length; i++) results = 31 * results + whole[i];
+    printf("checks: %lu, wrong: %lu, results: %016" PRIx64 "\n", checks, wrong, results);
     return 0;
 }
