@@ -47,7 +47,7 @@ fuzz() {
 }
 
 # The test allocates its inputs, and the library is built with both sanitizers.
-nm -u "$work/plain/objects/buffer.o" | grep -w malloc
+nm -u "$work/plain/objects/buffer.o" | grep -w calloc
 nm -u "$work/plain/objects/multihash.o" | grep __asan_report_load
 nm -u "$work/plain/objects/multihash.o" | grep '__ubsan_handle.*_abort'
 python3 -m zipfile -l "$work/plain/multihash_fuzzer_seed_corpus.zip" | sed 1d | wc -l |
