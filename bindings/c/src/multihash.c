@@ -10,17 +10,22 @@ static inline void need_block_length(size_t length)
     if ((uint64_t)length >> BLOCK_BITS != 0) abort();
 }
 
-/* Starts a call with its own memory, two inputs and an output buffer: null and 0 if the function has none. */
-static inline void begin(memory *call, u8 *own, const uint8_t *input, size_t input_length, const uint8_t *other,
-                         size_t other_length, uint8_t *out, size_t out_length)
+/* Starts a call with its own memory and an input, or null and 0. It has no other blocks yet. */
+static inline void begin(memory *call, u8 *own, const uint8_t *input, size_t input_length)
 {
     call->w2c___stack_pointer = STACK_SIZE;
     call->w2c_in_call = 0;
     call->own = own;
     call->input = input;
     call->input_length = input_length;
-    call->other = other;
-    call->other_length = other_length;
+    call->other = NULL;
+    call->other_length = 0;
+    call->out = NULL;
+    call->out_length = 0;
+}
+
+static inline void add_output(memory *call, uint8_t *out, size_t out_length)
+{
     call->out = out;
     call->out_length = out_length;
 }
@@ -71,7 +76,7 @@ multihash_decoded multihash_from_bytes(const uint8_t *bytes, size_t bytes_length
 {
     memory call;
     u8 own[OWN_SIZE];
-    begin(&call, own, bytes, bytes_length, NULL, 0, NULL, 0);
+    begin(&call, own, bytes, bytes_length);
     call.reads = ANY_INPUT;
     w2c_multihash_from_bytes(&call, RESULT, ADDRESS(INPUT), bytes_length);
     return decoded(&call);
@@ -81,7 +86,7 @@ multihash_decoded multihash_from_prefix(const uint8_t *prefix, size_t prefix_len
 {
     memory call;
     u8 own[OWN_SIZE];
-    begin(&call, own, prefix, prefix_length, NULL, 0, NULL, 0);
+    begin(&call, own, prefix, prefix_length);
     w2c_multihash_from_prefix(&call, RESULT, ADDRESS(INPUT), prefix_length, whole_length);
     return decoded(&call);
 }
@@ -90,7 +95,7 @@ multihash_decoded multihash_read(const uint8_t *bytes, size_t bytes_length)
 {
     memory call;
     u8 own[OWN_SIZE];
-    begin(&call, own, bytes, bytes_length, NULL, 0, NULL, 0);
+    begin(&call, own, bytes, bytes_length);
     w2c_multihash_read(&call, RESULT, ADDRESS(INPUT), bytes_length);
     return decoded(&call);
 }
@@ -99,7 +104,7 @@ multihash_decoded multihash_read_limit(const uint8_t *bytes, size_t bytes_length
 {
     memory call;
     u8 own[OWN_SIZE];
-    begin(&call, own, bytes, bytes_length, NULL, 0, NULL, 0);
+    begin(&call, own, bytes, bytes_length);
     w2c_multihash_read_limit(&call, RESULT, ADDRESS(INPUT), bytes_length, limit);
     return decoded(&call);
 }
@@ -109,7 +114,7 @@ OUT_OF_LINE multihash_front head_of_longer(const uint8_t *bytes, size_t bytes_le
 {
     memory call;
     u8 own[OWN_SIZE];
-    begin(&call, own, bytes, bytes_length, NULL, 0, NULL, 0);
+    begin(&call, own, bytes, bytes_length);
     call.reads = ANY_INPUT;
     w2c_multihash_head(&call, RESULT, ADDRESS(INPUT), bytes_length);
     return front(&call);
@@ -119,7 +124,7 @@ multihash_front multihash_head(const uint8_t *bytes, size_t bytes_length)
 {
     memory call;
     u8 own[OWN_SIZE];
-    begin(&call, own, bytes, bytes_length, NULL, 0, NULL, 0);
+    begin(&call, own, bytes, bytes_length);
     call.reads = SHORT_INPUT;
     w2c_multihash_head(&call, RESULT, ADDRESS(INPUT), bytes_length);
     return call.reads == LONGER_INPUT ? head_of_longer(bytes, bytes_length) : front(&call);
@@ -129,7 +134,7 @@ multihash_decoded multihash_scale_decode(const uint8_t *bytes, size_t bytes_leng
 {
     memory call;
     u8 own[OWN_SIZE];
-    begin(&call, own, bytes, bytes_length, NULL, 0, NULL, 0);
+    begin(&call, own, bytes, bytes_length);
     w2c_multihash_scale_decode(&call, RESULT, ADDRESS(INPUT), bytes_length);
     return decoded(&call);
 }
@@ -138,7 +143,7 @@ multihash_encoded multihash_encoded_len(uint64_t code, size_t digest_length)
 {
     memory call;
     u8 own[OWN_SIZE];
-    begin(&call, own, NULL, 0, NULL, 0, NULL, 0);
+    begin(&call, own, NULL, 0);
     w2c_multihash_encoded_len(&call, RESULT, code, digest_length);
     return encoded(&call);
 }
@@ -149,7 +154,8 @@ multihash_encoded multihash_encode(uint64_t code, const uint8_t *digest, size_t 
     memory call;
     u8 own[OWN_SIZE];
     need_block_length(out_length);
-    begin(&call, own, digest, digest_length, NULL, 0, out, out_length);
+    begin(&call, own, digest, digest_length);
+    add_output(&call, out, out_length);
     w2c_multihash_encode(&call, RESULT, code, ADDRESS(INPUT), digest_length, ADDRESS(OUT), out_length);
     return encoded(&call);
 }
@@ -159,7 +165,8 @@ multihash_encoded multihash_scale_encode(uint64_t code, const uint8_t *digest, s
 {
     memory call;
     u8 own[OWN_SIZE];
-    begin(&call, own, digest, digest_length, NULL, 0, out, out_length);
+    begin(&call, own, digest, digest_length);
+    add_output(&call, out, out_length);
     w2c_multihash_scale_encode(&call, RESULT, code, ADDRESS(INPUT), digest_length, ADDRESS(OUT), out_length);
     return encoded(&call);
 }
@@ -170,7 +177,9 @@ int32_t multihash_compare(uint64_t left_code, const uint8_t *left_digest, size_t
     memory call;
     u8 own[OWN_SIZE];
     need_block_length(left_digest_length); /* bytes are compared if the other length is the same */
-    begin(&call, own, left_digest, left_digest_length, right_digest, right_digest_length, NULL, 0);
+    begin(&call, own, left_digest, left_digest_length);
+    call.other = right_digest;
+    call.other_length = right_digest_length;
     uint32_t order = w2c_multihash_compare(&call, left_code, ADDRESS(INPUT), left_digest_length, right_code,
                                            ADDRESS(OTHER), right_digest_length);
     return order == 0 ? 0 : order == 1 ? 1 : -1;
@@ -180,7 +189,7 @@ uint32_t multihash_version(void)
 {
     memory call;
     u8 own[OWN_SIZE];
-    begin(&call, own, NULL, 0, NULL, 0, NULL, 0);
+    begin(&call, own, NULL, 0);
     return w2c_multihash_version(&call);
 }
 
@@ -188,7 +197,8 @@ multihash_encoded multihash_put_status_text(multihash_status of, uint8_t *out, s
 {
     memory call;
     u8 own[OWN_SIZE];
-    begin(&call, own, NULL, 0, NULL, 0, out, out_length);
+    begin(&call, own, NULL, 0);
+    add_output(&call, out, out_length);
     w2c_multihash_put_status_text(&call, RESULT, of, ADDRESS(OUT), out_length);
     return encoded(&call);
 }
