@@ -214,7 +214,7 @@ d() {\n  prints 1 2\n}\npart 1 "c c" \\\n  d' $tested
   try "what tests compare: 8 comparisons" compares << 'END'
 136 bindings/c/tests
 124 bindings/js/test
-176 bindings/python/tests
+179 bindings/python/tests
 188 bindings/rust/*.rs
 591 crates/*.rt
 238 checks
