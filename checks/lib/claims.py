@@ -21,7 +21,7 @@ VECTORS, DIFFERENCES, DECISIONS = "crates/vectors/data/README.md", "docs/DIFFERE
 HEADER, TYPES, MAN = "bindings/c/include/multihash.h", "bindings/js/index.d.ts", "crates/mh_show/mh_show.1"
 FENCE = re.compile(r"^ *```(\S*)[^\n]*\n(.*?)^ *```$", re.M | re.S)
 HEX = r"`((?:[0-9a-f]{2} )*[0-9a-f]{2})`"
-COMMENT = re.compile(r"(?:^|(?<=\s))(?:#|//)(?= )([^\n]*)", re.M)
+COMMENT = re.compile(r"(?:^|(?<=\s))(?:#|//|;)(?= )([^\n]*)", re.M)
 NO_SOURCES = (".edits", ".md", "quotes.txt")
 
 
@@ -134,10 +134,10 @@ def number_errors(pages: dict[str, str]) -> Iterator[str]:
     """Returns the phrases of numbers.txt that the pages do not have as often, and the numbers that are in none."""
     told = "\n".join(prose(page, text) for page, text in pages.items() if page != CONTRACTS)
     spans = []
-    for line in Path(__file__).with_name("numbers.txt").read_text("utf-8").splitlines()[1:]:
+    for line in Path(__file__).with_name("numbers.txt").read_text("utf-8").splitlines()[2:]:
         times, _, phrase = line.partition(" ")
         phrase = phrase.format(**values())
-        spans += (found := [it.span() for it in re.finditer(whole(phrase), told)])
+        spans += (found := [it.span() for it in re.finditer(whole(phrase), told, re.I)])
         if str(len(found)) != times:
             yield f"'{phrase}' is there {len(found)} times"
     for match in NUMBER.finditer(told):

@@ -68,7 +68,7 @@ def is_named(words: str, link: str, text: str) -> bool:
     """Returns whether the beginning of a word of a link begins one of its address or of the page's first lines."""
     found = re.findall(r"[a-z0-9]+", words.lower())
     return any(
-        re.search(rf"(?:\b|_){it[:5]}", f"{link} {text[:200]}".lower()) for it in found if it not in ("of", "the")
+        re.search(rf"(?:\b|_){it[:5]}", f"{link} {text[:200]}".lower()) for it in found if it not in ("md", "of", "the")
     )
 
 

@@ -17,7 +17,7 @@ from claims import (
     MAN,
     PACKAGING,
 )
-from claims import PYTHON, README, RUST, RUST_C, SPEED, TYPES, flat, read, sources
+from claims import PYTHON, README, RUST, RUST_C, SPEED, TYPES, elsewhere, flat, read, sources
 
 
 class Source(NamedTuple):
@@ -123,27 +123,34 @@ def row_errors(page: str, text: str) -> Iterator[str]:
 
 
 def time_errors(page: str, text: str) -> Iterator[str]:
-    """Returns the rows of measured times whose last cell is not the share of the first time in the second."""
+    """Returns the rows of measured times whose last cell is not the share of the first time in the second, and empty
+    ranges."""
     form = r"^\| (.*) \| ([\d.]+) [nµ]s \| ([\d.]+) [nµ]s \| (\d\.\d\d) \|$"
     for name, left, right, share in re.findall(form, text, re.M):
         half = 0.5 / 10 ** len(left.partition(".")[2])
         least, most = ((float(left) + sign * half) / (float(right) - sign * half) for sign in (-1, 1))
         if not least - 0.005 <= float(share) <= most + 0.005:
             yield f"the share of {name} is {least:.2f} to {most:.2f}"
+    yield from (f"{its} is empty" for its in re.findall(r"\d\.\d+ to \d\.\d+", text) if its[:4] > its[-4:])
 
 
 def difference_errors(page: str, text: str) -> Iterator[str]:
-    """Returns the public names of the library that neither DIFFERENCES.md nor Cargo's package has, and the methods of
-    the error that FORMAT.md does not have."""
+    """Returns the public names of the library that neither DIFFERENCES.md nor Cargo's package has, its rows with a name
+    in the other one's column, and the methods of the error that FORMAT.md does not have."""
     if page == FORMAT:
         methods = re.findall(r"pub fn (\w+)\(&self\)", read("crates/multihash/src/error.rt"))
         yield from (f"it does not have {name}()" for name in methods if f"{name}()" not in text)
     if page == DIFFERENCES:
         files = sources(("crates/multihash/src",)).items()
         here = "".join(its for path, its in files if not path.endswith(("laws.rt", "pins.rt")))
-        known = text + "".join(sources(("bindings/rust/multihash/src",)).values())
+        upstream = "".join(sources(("bindings/rust/multihash/src",)).values())
         names = re.findall(r"(?m)^ *pub (?:fn|struct|enum|trait|type|mod|const) (\w+)", here)
-        yield from (f"it does not have {name}" for name in sorted({*names} - {*re.findall(r"\w+", known)}))
+        only = {*names} - {*re.findall(r"\w+", upstream)}
+        yield from (f"it does not have {name}" for name in sorted(only - {*re.findall(r"\w+", text)}))
+        for row in (row for _, rows in tables(text) for row in rows):
+            theirs, its = ({*re.findall(form, row[at])} for at, form in enumerate((r"`(\w+)", "`([^`]+)`")))
+            if only & theirs or elsewhere() & its:
+                yield f"a name is in the other column: {row}"
 
 
 def status_errors(page: str, text: str) -> Iterator[str]:
