@@ -72,11 +72,10 @@ def folders(page: str) -> tuple[str, ...]:
 # ---- numbers
 
 WORDS = "zero one two three four five six seven eight nine ten".split()
-# numbers that are in no name, and what compares them or a name
-COMPARES = r"(?:above|at least|at most|below|(?:fewer|less|more) than|over(?! `)|up to) "
+# numbers that are in no name
 NUMBER = re.compile(
-    rf"(?:{COMPARES})?(?<![\w.\-/^#+\\])(?:2\^\d+|\d(?:[\d,.]*\d)?|(?:three|four|five|six|seven|eight|nine|ten"
-    rf"|sixteen|hundred|thousand))(?![\w-]|\.\w)|{COMPARES}`[^`]*`|MULTIHASH_\w+_MAX|or (?:fewer|less|more)\b"
+    r"(?<![\w.\-/^#+\\])(?:2\^\d+|\d(?:[\d,.]*\d)?|(?:three|four|five|six|seven|eight|nine|ten"
+    r"|sixteen|hundred|thousand))(?![\w-]|\.\w)|MULTIHASH_\w+_MAX"
 )
 # bytes and rows that other functions compare, an example and a date of the man page, numbers of lists, links
 NO_PROSE = [
@@ -134,7 +133,7 @@ def number_errors(pages: dict[str, str]) -> Iterator[str]:
     """Returns the phrases of numbers.txt that the pages do not have as often, and the numbers that are in none."""
     told = "\n".join(prose(page, text) for page, text in pages.items() if page != CONTRACTS)
     spans = []
-    for line in Path(__file__).with_name("numbers.txt").read_text("utf-8").splitlines()[2:]:
+    for line in Path(__file__).with_name("numbers.txt").read_text("utf-8").splitlines()[1:]:
         times, _, phrase = line.partition(" ")
         phrase = phrase.format(**values())
         spans += (found := [it.span() for it in re.finditer(whole(phrase), told, re.I)])
@@ -175,13 +174,15 @@ def is_known(quote: str, below: tuple[str, ...]) -> bool:
 
 
 def lines_of_blocks(page: str, text: str) -> Iterator[str]:
-    """Returns the lines of blocks that no other check reads, without comments, and names in comments."""
+    """Returns the paragraphs or commands of blocks that no other check reads, and names in comments."""
     others, number = READ_BY_OTHERS.get(page, ((), 0))
     for block in FENCE.finditer(text):
         if f"{block[1]}\n{block[2]}".startswith(others):
             number -= 1
         elif page == ARCHITECTURE:  # a picture
             yield from re.findall(r"(?<![\w.-])-{0,2}([A-Za-z_][\w-]+(?:\.\w+)?)", block[2])
+        elif block[1] in ("rust", "text"):
+            yield from map(flat, block[2].split("\n\n"))
         else:
             yield from (flat(COMMENT.sub("", line)) for line in re.split(r"(?<!\\)\n", block[2]))
         comments = " ".join(COMMENT.findall(block[2])) if page != README else ""  # start.py reads them

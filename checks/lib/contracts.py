@@ -43,7 +43,7 @@ INTRODUCTION = """\
 Written by `checks/lib/contracts.py`, and compared with the sources in CI: the main theorems, then
 the public items of these crates and of the bindings, as they stand in their files, without bodies, and
 the usage and errors of scripts. A difference here is a changed promise.
-[CALLING.md](../crates/multihash/CALLING.md#what-contracts-see) says how to read a clause; its
+[What contracts see](../crates/multihash/CALLING.md#what-contracts-see) says how to read a clause; its
 [words](#words) are at the end.
 
 The functions of `laws.rt` and `pins.rt` do nothing: their clauses are laws of the definitions, and

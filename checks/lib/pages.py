@@ -88,7 +88,7 @@ def link_errors(texts: Texts) -> Iterator[str]:
                 yield f"{page}: it is installed without {target}"
             if not (TOP / to).exists() or anchor and anchor not in anchors(texts.get(to, "")):
                 yield f"{page}: a link leads nowhere: {link}"
-            if not is_named(words, f"{to} {anchor}", texts.get(to, "")):
+            if not (is_named(words, anchor, "") if anchor else is_named(words, to, texts.get(to, ""))):
                 yield f"{page}: {link} is not about {words}"
 
 
@@ -186,10 +186,8 @@ def found(name: str, texts: Texts) -> str:
     return "\n".join(CHECKS[name](texts))
 
 
-# numbers, and what compares numbers or names
-PHRASES = """2^7; 7.5; 7,500; 7; three; four; five; six; seven; eight; nine; ten; sixteen; hundred; thousand; up to 255
-MULTIHASH_A_MAX; or fewer; or less; or more; above `S`; at least `S`; at most `S`; below `S`; fewer than `S`
-less than `S`; more than `S`; up to `S`"""
+PHRASES = """2^7; 7.5; 7,500; 7; three; four; five; six; seven; eight; nine; ten; sixteen; hundred; thousand
+MULTIHASH_A_MAX; Not; over"""
 
 
 def planted(texts: Texts) -> Iterator[tap.Result]:
