@@ -15,7 +15,7 @@ status 0
 mh_show 6
 tests_streams 26
 tests_sweeps 21
-tests_values 24
+tests_values 23
 vectors 1
 LIST
 }

@@ -2,20 +2,16 @@
 //! turn: the test then checks what is left, and fails with `FAILED`.
 ghost use Rattle.std.specs.Prelude.{◌<◌, ◌^◌, length};
 
-use crate::values::hash_of;
 use examples::any_reader::read_up_to;
 use examples::forms::{json, scale, there_and_back};
 use examples::merkle::through;
-use fakes::expect::{ErrorKind, LARGEST_CODE, is_failed, is_rejected};
-use fakes::streams::Cuts;
+use fakes::expect::{ErrorKind, LARGEST_CODE, is_rejected};
 use fakes::{check, check_eq, expect_bytes, expect_ok};
 use headline::{list_through, same};
 use multihash::list::{read_list, write_list};
-use multihash::no_std_io::{self, Read, Write};
-use multihash::{Error, Multihash, laws};
-use serde_json::Value;
+use multihash::no_std_io::{self, Write};
+use multihash::{Error, Multihash};
 use std::alloc::Global;
-use std::cmp::Ordering;
 use std::process::Abort;
 use std::test::Fail;
 use storage::content;
@@ -330,64 +326,4 @@ fn too_many_places_are_rejected(rt: HostRuntime) {
         check!(&rt; is_rejected(&failed, ErrorKind::OutOfMemory));
         expect_bytes!(&rt; left, &STREAM);
     }
-}
-
-fn expect_parts(rt: &impl Abort, m: &Multihash<200>) {
-    check_eq!(rt; (m.code(), m.size(), m.encoded_len(), m.into_inner()), (300, 200, 204, (300, [65; 200], 200)));
-    expect_bytes!(rt; m.digest(), &[65; 200]);
-    let cut = m.truncate(31);
-    check_eq!(rt; (cut == *m, cut.cmp(m), hash_of(&cut) == hash_of(m)), (false, Ordering::Less, false));
-    check!(rt; expect_ok!(rt; m.resize::<300>()).same_as(m) && *m != Multihash::default());
-}
-
-fn expect_forms(rt: &impl Abort, alloc: Global, m: &Multihash<200>) {
-    let mut buffer = [0u8; 617];
-    let mut left = buffer.as_mut_slice();
-    check_eq!(rt; expect_ok!(rt; m.write(&mut left)), 204);
-    check_eq!(rt; expect_ok!(rt; m.scale_encode(&mut left)), 209);
-    expect_ok!(rt; write_list(&[*m], &mut left));
-    let bytes = buffer.get(..204).unwrap_or(&[]);
-    check_eq!(rt; &expect_ok!(rt; Multihash::from_bytes(bytes)), m);
-    let (mut slice, mut cuts) = (buffer.as_slice(), Cuts::new(&buffer, 7));
-    check_eq!(rt; &expect_ok!(rt; Multihash::read(&mut slice)), m);
-    check_eq!(rt; &expect_ok!(rt; Multihash::scale_decode(&mut slice)), m);
-    check_eq!(rt; &expect_ok!(rt; Multihash::read(&mut cuts)), m);
-    check_eq!(rt; &expect_ok!(rt; Multihash::scale_decode(&mut cuts)), m);
-    check!(rt; expect_ok!(rt; read_list::<200, _>(alloc, &mut slice, 0)).is_empty());
-}
-
-fn expect_slices(rt: &impl Abort) {
-    let (mut left, mut buf) = ([7u8; 4].as_slice(), [0u8; 3]);
-    check_eq!(rt; (left.read(&mut buf).is_ok(), left.read_exact(&mut buf[..1]).is_ok()), (true, true));
-    check!(rt; is_failed(&left.read_exact(&mut buf), ErrorKind::UnexpectedEof));
-    let mut room = buf.as_mut_slice();
-    check_eq!(rt; (room.write(&[1]).is_ok(), room.write_all(&[2]).is_ok()), (true, true));
-    check!(rt; is_failed(&room.write_all(&[3, 4]), ErrorKind::WriteZero));
-}
-
-fn expect_errors(rt: &impl Abort, alloc: Global) {
-    let e = no_std_io::Error::other("x");
-    check_eq!(rt; (e.text(), e.is_other()), ("x", true));
-    check!(rt; !e.is_unexpected_eof() && !e.is_write_zero() && !e.is_out_of_memory());
-    expect_memory_error(rt, &Error::from(no_std_io::Error::out_of_memory()));
-    let wrapped = Multihash::<4>::wrap(u64::MAX, &[]);
-    check!(rt; is_rejected(&wrapped, ErrorKind::InvalidCode(u64::MAX)));
-    let empty = Value::Array(Vec::new(alloc));
-    check!(rt; is_rejected(&Multihash::<4>::from_value(&empty), ErrorKind::Insufficient));
-    check!(rt; is_rejected(&Multihash::<4>::from_value(&Value::Null), ErrorKind::NotBytes));
-}
-
-// Passes also if each allocation fails, since none of these calls makes one.
-#[test]
-fn calls_need_no_memory(rt: HostRuntime) {
-    expect_parts(&rt, &long(&rt));
-    expect_forms(&rt, rt.alloc(), &long(&rt));
-    expect_slices(&rt);
-    expect_errors(&rt, rt.alloc());
-    laws::one_verdict();
-    laws::settles();
-    laws::prefix_free();
-    laws::split_unique();
-    laws::scale_unique();
-    laws::json_unique();
 }

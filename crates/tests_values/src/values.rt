@@ -191,7 +191,7 @@ fn other_values_are_no_bytes(rt: HostRuntime) {
     expect_none_are_bytes(&rt, &expect_ok!(&rt; Value::from_str(rt.alloc(), NO_BYTES)));
 }
 
-pub(crate) fn hash_of<T: Hash>(x: &T) -> u64 {
+fn hash_of<T: Hash>(x: &T) -> u64 {
     let mut state = DefaultHasher::new();
     x.hash(&mut state);
     state.finish()
