@@ -183,27 +183,31 @@ from_source() {
 with_flags() {
   CFLAGS="-fvisibility=hidden -fno-pie -g3" LDFLAGS=-Wl,--build-id=0x01234567 cmake -S "$top" -B "$work/flags" \
     -DMULTIHASH_C_ARCHIVE=OFF -DBUILD_TESTING=OFF -DCMAKE_DISABLE_FIND_PACKAGE_Python3=ON
-  prints '-fno-pie -g3 -O3 -DNDEBUG -fPIC -fvisibility=default -std=c11 ' cmake --build "$work/flags" --verbose
+  prints '-fvisibility=hidden -fno-pie -g3 -O3 -DNDEBUG -fPIC -fvisibility=default -std=c11 ' \
+    cmake --build "$work/flags" --verbose
   exports_exactly "$work/flags/libmultihash_c.so" bindings/c/src/multihash_c.map
   prints 'Build ID: 01234567' readelf -n "$work/flags/libmultihash_c.so"
   rejects 'No tests were found' build flags
+  rejects "> multihash_more" exports_exactly "$work/flags/libmultihash_c.so" \
+    <(sed s/_head/_more/ bindings/c/src/multihash_c.map)
   install_built flags --prefix "$work/no pages"
+  [ ! -e "$work/no pages/$man" ]
 }
 
 test_installation() {
   try "building: 1 comparison" build built -DCMAKE_INSTALL_PREFIX="$prefix"
   try "installing: 11 comparisons" installs
   try "after edits: 5 comparisons" after_edits
-  try "the installed test" installed_test "$prefix"
-  try "installing below a folder" installs_below
-  try "the portable source" from_source
+  try "the installed test: 1 comparison" installed_test "$prefix"
+  try "installing below a folder: 11 comparisons" installs_below
+  try "the portable source: 11 comparisons" from_source
   try "packing: 23 comparisons" packs
   try "planted differences: 90 comparisons" planted_prefix
   try "the installed test of planted files: 8 comparisons" planted_test
   try "the installed test of nothing" rejects "no multihash_c.pc" bindings/c/examples/test.sh "$work/none"
   needs=clang try "other machines: 7 comparisons" machines
   needs=/lib64/ld-linux-x86-64.so.2 try "x86-64 with 32 bits: 1 comparison" gets Linux x86_64 -m32 OFF ON
-  try "flags of a distribution: 6 comparisons" with_flags
+  try "flags of a distribution: 8 comparisons" with_flags
 }
 
 # ---- programs
@@ -258,7 +262,7 @@ by_find_package() {
   # a later minor version
   find "$work/un packed built" -name '*-version.cmake' -exec sed -i "s/\"$version\"/\"$major.7.0\"/" {} +
   sed -i "s/(multihash_c [0-9.]*/(multihash_c ${version%.*}/" "$to/CMakeLists.txt"
-  cmake -S "$to" -B "$to/built"
+  prints "Configuring done" cmake -S "$to" -B "$to/built"
 }
 
 # The example of bindings/c/README.md for Go, in a module of its own. cgo takes no prefix with a blank.
@@ -318,6 +322,7 @@ END
 
 # Runs a command of Cargo for the packages for Rust; what is set comes first.
 in_crate() {
+  printf . >> "$work/compared"
   env -u MULTIHASH_C_LIB_DIR MULTIHASH_C_SYSTEM=1 RUSTFLAGS="-D warnings" bindings/rust/offline.sh "$work" "$@"
 }
 
@@ -330,11 +335,11 @@ rust_crate() {
 }
 
 test_programs() {
-  try "a project of CMake: 15 comparisons" by_find_package
+  try "a project of CMake: 16 comparisons" by_find_package
   try "a folder of a project of CMake: 6 comparisons" by_subdirectory
   needs=go try "Go: 1 comparison" in_go
   needs=mandoc try "man pages: 25 comparisons" pages
-  needs="cargo $crates" try "the packages for Rust, as installed" rust_crate
+  needs="cargo $crates" try "the packages for Rust, as installed: 3 comparisons" rust_crate
 }
 
 test_installation

@@ -180,7 +180,7 @@ END
 test_release() {
   local emulator="qemu-aarch64 -L /usr/aarch64-linux-gnu"
   try "a release: 43 comparisons" releases
-  CC=aarch64-linux-gnu-gcc RUN=$emulator try "the installed test of that for aarch64" \
+  CC=aarch64-linux-gnu-gcc RUN=$emulator try "the installed test of that for aarch64: 1 comparison" \
     installed_test "$work/multihash_c-$version-aarch64"
   try "packages for arm64: 9 comparisons" has_packages "$work/release" arm64 aarch64-linux-gnu
   # shellcheck disable=SC2086

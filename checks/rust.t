@@ -15,18 +15,21 @@ in_crate() {
 
 # Runs a number of tests. None is left out, and neither Cargo nor a build script warns.
 tests() {
-  in_crate "${@:2}" 2>&1 | tee "$work/tests"
+  in_crate "${@:2}" -- --show-output 2>&1 | tee "$work/tests"
   awk '/^(warning|left out)/; /^test result: ok/ { n += $4 } END { print n }' "$work/tests" | diff - <(echo "$1")
 }
 
+# A command of Cargo prints this and nothing else, but for versions.
+prints_all() { in_crate "${@:2}" | sed 's/ v[0-9].*//' | diff - <(printf '%b\n' "$1"); }
+
 # The tests pass with and without features, the pages have no warnings, and need no library on docs.rs.
 rust_binding() {
-  local features
-  in_crate DOCS_RS=1 MULTIHASH_C_LIB_DIR=none cargo doc --no-deps
+  local docs=(MULTIHASH_C_LIB_DIR=none cargo doc --no-deps)
+  in_crate DOCS_RS=1 "${docs[@]}"
+  rejects "not an absolute path" in_crate "${docs[@]}"
   tests 13 cargo test --no-default-features
   tests 23 cargo test
-  features=$(in_crate cargo tree -p multihash -e normal,features)
-  [[ $features = multihash* && $features != *"multihash_c feature"* ]]
+  prints_all "multihash\n└── multihash_c" cargo tree -p multihash -e normal,features
 }
 
 # Over faults, which change each of them, the comparisons of the tests, the pages and speed/main.rs print both sides and
@@ -103,7 +106,7 @@ rust_packed() {
     >> "$packed/multihash-0.19.5/Cargo.toml"
   [ ! -e "$packed/multihash-0.19.5/src/old.rs" ]
   diff -r bindings/c/prebuilt "$packed/multihash_c-$version/prebuilt"
-  tests 12 CC=none cargo test --manifest-path "$packed/multihash-0.19.5/Cargo.toml" -- --show-output
+  tests 12 CC=none cargo test --manifest-path "$packed/multihash-0.19.5/Cargo.toml"
   rm -r "$packed/multihash_c-$version/prebuilt"
   tests 12 cargo test --manifest-path "$packed/multihash-0.19.5/Cargo.toml"
 }
@@ -134,7 +137,9 @@ END
 rust_switch() {
   local feature
   (write_program)
-  in_crate cargo run --manifest-path program/Cargo.toml | diff <(echo input bytes exceed maximum) -
+  prints_all "input bytes exceed maximum" cargo run --manifest-path program/Cargo.toml
+  rejects "< input" prints_all "" cargo run --manifest-path program/Cargo.toml
+  rejects "> more" prints_all "input bytes exceed maximum\nmore" cargo run --manifest-path program/Cargo.toml
   in_crate cargo build --manifest-path program/library/Cargo.toml --no-default-features
   for feature in scale-codec arb; do
     rejects "features scale-codec and arb are absent" in_crate cargo build -p multihash --features "$feature"
@@ -156,7 +161,8 @@ fn main() {
 END
   prints "got a byte array" in_crate cargo run --features serde --example bytes
   rm -r "$example"
-  [[ $(in_crate cargo tree -p multihash -e normal,features --features serde-codec) = *$'\n└── serde v'* ]]
+  prints_all "multihash\n├── multihash_c\n└── serde" \
+    cargo tree -p multihash -e normal,features --features serde-codec
   tests 13 cargo test --features serde --test values
   in_crate cargo build -p multihash --no-default-features --features serde-codec
 }
@@ -191,6 +197,7 @@ multihash/src/lib.rs,build,never used,fn planted() {}
 multihash/src/lib.rs,build,missing documentation,pub mod planted {}
 multihash/src/lib.rs,build,incompatible with previous forbid,#[allow(unsafe_code)] mod planted {}
 multihash/src/lib.rs,doc --no-deps,unresolved link,/** [gone] */ pub mod planted {}
+multihash/tests/values.rs,tests 1 cargo test --test values,< left out,#[test] fn planted() { println!("left out") }
 multihash/tests/values.rs,clippy --all-targets,needless-return,pub fn planted() -> u8 { return 1; }
 multihash_c/src/lib.rs,build,missing documentation,pub mod planted {}
 multihash_c/src/lib.rs,build,usage of an `unsafe` block,const _: () = unsafe {};
@@ -217,14 +224,14 @@ rust_build() {
   rejects "not an absolute path" in_crate MULTIHASH_C_SYSTEM=1 MULTIHASH_C_LIB_DIR=prebuilt cargo build
 }
 
-try "the tests: 6 comparisons" rust_binding
+try "the tests: 9 comparisons" rust_binding
 try "the portable source: 19 comparisons" rust_source
 needs=clang try "the portable source for other targets: 15 comparisons" rust_targets
 try "the packed packages: 7 comparisons" rust_packed
 needs=$archive try "the build script: 13 comparisons" rust_build
-try "the switch from upstream's package: 7 comparisons" rust_switch
-try "serde: 6 comparisons" rust_serde
+try "the switch from upstream's package: 13 comparisons" rust_switch
+try "serde: 7 comparisons" rust_serde
 needs=cargo-clippy try "lints: 2 comparisons" rust_lints
-needs=cargo-clippy try "a warning of each command: 19 comparisons" planted_warnings
+needs=cargo-clippy try "a warning of each command: 22 comparisons" planted_warnings
 needs="python3=3.11+ valgrind /lib64/ld-linux-x86-64.so.2" try "instructions: 4 comparisons" rust_counts
 try "faults: 6 comparisons" planted_faults

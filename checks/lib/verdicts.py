@@ -133,10 +133,8 @@ def main() -> int:
         ("another capacity", stored.replace("\n1\t88f5bac6a53b03", "\n2\t88f5bac6a53b03", 1), others),
         ("another first input", stored.replace("88f5bac6a53b03", "88f5bac6a53b04", 1), others),
         ("one of the first inputs that is lost", stored.replace(last, ""), others),
-        ("another input in its place", stored.replace(last, new), others),
         ("an input that is there twice", stored + last, "an input is there twice with one capacity"),
         ("no end of the last line", stored[:-1], "@@ -6001,0 +6002 @@"),
-        ("an empty list", "", others),
     ):
         results.append(tap.stated(what, error_of(text), error))
     return tap.report(results)
