@@ -34,6 +34,8 @@ TYPES = {"u32": "uint32_t", "u64": "uint64_t", "i32": "int32_t", "usize": "size_
 # Sources in no known form.
 UNREAD = (
     "what\n",
+    "const A = (\n",
+    "const A = [\n",
     "fn a() {\n",
     "struct A { a: u8 }\n",
     "struct A {\n    =\n}\n",
@@ -220,7 +222,7 @@ def make_edit(text: str) -> object:
 
 def read_source(text: str) -> object:
     fields = [[*item.parts()] for item in items(text) if item.kind == "struct"]
-    return fields, [[*item.clauses()] for item in items(text) if item.kind == "fn"]
+    return fields, [item.contract_end() for item in items(text) if item.kind == "fn"]
 
 
 def unread() -> Iterator[tap.Result]:

@@ -4,7 +4,7 @@
 They are in bugs.edits, each with what has to see it; mutants.py tries those of the proof:
 
     CRATE MODULE::TEST[=TEXT]..            these tests of the crate fail, and print a text
-    proof CRATE::FUNCTION CLAUSE..         goals of exactly these clauses of the function stay open
+    proof CRATE::FUNCTION GOAL..           exactly these goals of the function stay open
 
 A bug replaces whole lines, and keeps their words, of which one may differ. The bugs of one crate are planted in one
 copy.
@@ -27,7 +27,7 @@ BUGS = Path(__file__).with_name("bugs.edits")
 
 
 class Bug(NamedTuple):
-    """A bug, and what sees it: tests, or a function and its clauses."""
+    """A bug, and what sees it: tests, or a function and its goals."""
 
     name: str
     seen_by: list[str]

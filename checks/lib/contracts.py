@@ -69,10 +69,8 @@ def attribute_lines(item: Item, indent: str) -> Iterator[str]:
 
 def function_lines(function: Item, indent: str) -> Iterator[str]:
     """Returns a function's signature and contract."""
-    clauses = [*function.clauses()]
-    end = clauses[-1].end + 1 if clauses else function.signature_end()
     yield from attribute_lines(function, indent)
-    yield from kept_lines(indent + function.text[function.start : end])
+    yield from kept_lines(indent + function.text[function.start : function.contract_end()])
 
 
 def has_no_body(function: Item) -> bool:

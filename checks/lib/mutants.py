@@ -32,8 +32,8 @@ def check(bugs: list[Bug]) -> str:
         return subprocess.run(["rt", "check"], cwd=home, text=True, stdout=out, stderr=subprocess.STDOUT).stdout
 
 
-def open_clauses(log: str, function: str) -> tuple[str, set[str]]:
-    """Returns the state of a function, and the clauses of which a goal is open: 'returns' of one without a name.
+def open_goals(log: str, function: str) -> tuple[str, list[str]]:
+    """Returns the state of a function, and its open goals, without 'returns-' and 'clause-'.
 
     Lines with goals are before that with the state, or name a file of the function's proof.
     """
@@ -41,22 +41,22 @@ def open_clauses(log: str, function: str) -> tuple[str, set[str]]:
     proof = rf"(?m)^(?:\./)?proofs/{path.replace('::', '/')}/\w+\.antt:\S+: error: (.*)"
     state = re.search(rf"(?m)^((?:note: .*\n|  .*\n)*)fn {crate}::{path}: (.*)$", log)
     if not state:
-        return "it has no state", set()
+        return "it has no state", []
     errors = re.findall(proof, log)
     gone = [error for error in errors if NAMES.search(error)]
     if gone:
-        return f"a name that the proof cites is gone: {gone[0]}", set()
+        return f"a name that the proof cites is gone: {gone[0]}", []
     goals = re.findall(r"it is not proved that .*\(`([^`]*)`\)", state[1])
     goals += [found[1] for error in errors if (found := re.match("`([^`]*)`", error))]
-    return state[2], {re.sub("^returns.*-clause-|(?<=^returns)-.*", "", goal) for goal in goals}
+    return state[2], sorted(re.sub("returns-|clause-", "", goal) for goal in goals)
 
 
 def rejected(bugs: list[Bug], log: str) -> Iterator[tap.Result]:
-    """Compares the clauses with open goals with those that see bugs."""
-    for name, (function, *clauses), *_ in bugs:
-        state, found = open_clauses(log, function)
-        is_so = state != "proved" and sorted(found) == sorted(clauses)
-        yield name, "" if is_so else f"{state}: {sorted(found)}"
+    """Compares the open goals with those that see bugs."""
+    for name, (function, *goals), *_ in bugs:
+        state, found = open_goals(log, function)
+        is_so = state != "proved" and found == goals
+        yield name, "" if is_so else f"{state}: {found}"
 
 
 def results() -> Iterator[tap.Result]:
@@ -67,17 +67,17 @@ def results() -> Iterator[tap.Result]:
 
 
 def stated_logs() -> Iterator[tap.Result]:
-    """Judges a function of which two clauses, and no others, have to have open goals, by what a check prints."""
-    bug = Bug("a function whose goals are open", ["c::f::g", "ok", "err"], "", "", "")
+    """Judges a function of which two goals, and no others, have to be open, by what a check prints."""
+    bug = Bug("a function whose goals are open", ["c::f::g", "ok", "then-err"], "", "", "")
     note, error = "note: it is not proved that it holds (`returns-clause-ok`)\n", "proofs/f/g/Answers.antt:1:2: error: "
     goal, state = f"{error}`returns-then-clause-err`: x\n", "fn c::f::g: not proved"
     for log, wrong in (
         (goal + note + state, ""),
-        (goal + note + "fn c::f::g: proved", "proved: ['err', 'ok']"),
+        (goal + note + "fn c::f::g: proved", "proved: ['ok', 'then-err']"),
         (note + state, "not proved: ['ok']"),
-        (goal + note + note.replace("ok", "front") + state, "not proved: ['err', 'front', 'ok']"),
-        (goal + note.replace("-clause-ok", "-in-x") + state, "not proved: ['err', 'returns']"),
-        (goal + note + "fn c::f::gg: not proved\n" + state, "not proved: ['err']"),
+        (goal + note + note.replace("ok", "front") + state, "not proved: ['front', 'ok', 'then-err']"),
+        (goal + note.replace("-clause-ok", "-in-x") + state, "not proved: ['in-x', 'then-err']"),
+        (goal + note + "fn c::f::gg: not proved\n" + state, "not proved: ['then-err']"),
         (goal.replace("/g/", "/gg/") + note + state, "not proved: ['ok']"),
         (
             f"{goal}{error}`returns`: `x` is not in scope\n{note}{state}",

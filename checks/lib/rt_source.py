@@ -12,21 +12,12 @@ HEAD = re.compile(
 )
 PART = re.compile(r"(?:pub )?(?:pub\(\w+\) )?((?:ghost )?\w+)(?:: ([^\n]*),|[,(:\n])")
 CLAUSE = re.compile(
-    r"\s*(requires|ensures)\*?(?: (\w+))? ?\{(.*?)\}(?=\s*\n\s*(?:requires|ensures|ghost|\{)|;\n)", re.S
+    r"\s*(?:requires|ensures)\*?(?: \w+)? ?\{(.*?)\}(?=\s*\n\s*(?:requires|ensures|ghost|\{)|;\n)", re.S
 )
 
 
 class Unread(ValueError):
     """A text in no known form."""
-
-
-class Clause(NamedTuple):
-    """A clause of a contract, and where its text is."""
-
-    kind: str
-    name: str
-    start: int
-    end: int
 
 
 class Item(NamedTuple):
@@ -82,14 +73,14 @@ class Item(NamedTuple):
         text = " ".join(self.text[self.after : self.signature_end()].split())
         return text.replace("( ", "(").replace(", )", ")")
 
-    def clauses(self) -> Iterator[Clause]:
-        """Returns the clauses of a function's contract."""
+    def contract_end(self) -> int:
+        """Returns where a function's contract ends, its signature if there is none."""
         at = self.signature_end()
         while found := CLAUSE.match(self.code, at, self.end):
             at = found.end()
-            if found[3].count("{") != found[3].count("}"):
+            if found[1].count("{") != found[1].count("}"):
                 raise Unread(f"its braces are not closed: {found[0][:90]}")
-            yield Clause(found[1], found[2] or "", *found.span(3))
+        return at
 
 
 def chunks(code: str, start: int, end: int, depth: int) -> Iterator[tuple[int, int]]:
