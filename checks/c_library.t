@@ -15,7 +15,6 @@ library=$PROVED/crates/multihash_c/out/libmultihash_c.a
 list=$top/crates/vectors/data/verdicts.tsv
 tests=("$c"/tests/{test,verdicts,models,draws,buffer}.c)
 valgrind=(valgrind --error-exitcode=9)
-cpp_flags=(-std=c++17 "${warnings[@]}")
 
 # ---- the library
 
@@ -37,16 +36,15 @@ prebuilt_archives() {
 
 # Copies of the archives in which a byte and its checksum were changed.
 planted_prebuilt() {
-  local machine copy=$work/bindings/c/prebuilt
+  local archive copy=$work/bindings/c/prebuilt
   mkdir -p "$work/bindings/c"
   cp -r tools "$work"
-  for machine in aarch64 x86_64; do
+  for archive in prebuilt/aarch64/libmultihash_c.a "$copy/x86_64/libmultihash_c.a"; do
     cp -r bindings/c/prebuilt "$work/bindings/c"
-    printf x | dd bs=1 seek=9999 conv=notrunc of="$copy/$machine/libmultihash_c.a"
+    printf x | dd bs=1 seek=9999 conv=notrunc of="$copy/${archive#*prebuilt/}"
     (cd "$copy"; sha256sum {x86_64,aarch64}/libmultihash_c.a > SHA256SUMS)
-    rejects "$machine/libmultihash_c.a differ: byte 10000" prebuilt_archives "$work"
+    rejects "$archive differ: byte 10000" prebuilt_archives "$work"
   done
-  rejects "$library $copy/" prebuilt_archives "$work"
 }
 
 # The symbols of an archive that an option of nm selects.
@@ -138,19 +136,29 @@ wrong_vector() {
   build_and_run wrong "" cc "${tests[@]}" "$library"
 }
 
-# What a compiler has to pass: its command, with the flags for the language.
-test_compiler() {
-  local name=$1 from=("${@:2}")
-  try "$name, header alone" stands_alone "$c/include" "${from[@]}"
-  try "$name, plain" build_and_run "$name" "" "${from[@]}" -O2 "${tests[@]}" -x none "$library"
-  try "$name, address and undefined-behaviour sanitizers: 3 comparisons" sanitized "$name-san" "${from[@]}"
+# Sets the command of a compiler, with the flags for its language.
+set_compile() {
+  case $1 in
+    *++) compile=("$1" -std=c++17 "${warnings[@]}" -x c++) ;;
+    *) compile=("$1" "${c_flags[@]}") ;;
+  esac
 }
 
 test_compilers() {
-  test_compiler cc cc "${c_flags[@]}"
-  needs=c++ test_compiler c++ c++ "${cpp_flags[@]}" -x c++
-  needs=clang test_compiler clang clang "${c_flags[@]}"
-  needs=clang++ test_compiler clang++ clang++ "${cpp_flags[@]}" -x c++
+  local name needs
+  for name in cc c++ clang clang++; do
+    set_compile "$name"
+    needs=$name
+    try "$name, header alone" stands_alone "$c/include" "${compile[@]}"
+    try "$name, plain" build_and_run "$name" "" "${compile[@]}" -O2 "${tests[@]}" -x none "$library"
+    try "$name, address and undefined-behaviour sanitizers: 3 comparisons" sanitized "$name-san" "${compile[@]}"
+  done
+}
+
+# The warnings of a compiler and its flags, and others of C.
+warns_of() {
+  set_compile "$1"
+  warns "$2" "${compile[@]}"
 }
 
 # A processor without what x86-64-v2 adds, each of whose instructions it rejects.
@@ -214,14 +222,14 @@ END
 
 try "static library" build_library
 try "the prebuilt archives: 2 comparisons" prebuilt_archives "$top"
-try "planted archives of them: 6 comparisons" planted_prebuilt
+try "planted archives of them: 4 comparisons" planted_prebuilt
 needs="nm objdump ar" look_at_library
 try "tests of the exports" calls_each "$c"/tests/{test,models}.c
 try "tests without one" rejects "> multihash_version" calls_each "$c/tests/models.c"
 test_compilers
 try "planted headers: 2 comparisons" planted_header
-try "warnings: 9 comparisons" warns "strict-prototypes missing-prototypes" cc "${c_flags[@]}"
-needs=c++ try "warnings of C++: 7 comparisons" warns "" c++ "${cpp_flags[@]}" -x c++
+try "warnings: 9 comparisons" warns_of cc "strict-prototypes missing-prototypes"
+needs=c++ try "warnings of C++: 7 comparisons" warns_of c++ ""
 try "a read after an input" rejects heap-buffer-overflow faulty "" "$overread" "${sanitize[@]}"
 try "a sum that is too large" rejects "signed integer overflow" faulty "" most++ "${sanitize[@]}"
 try "each check of the tests" prints "checks: 5850175, wrong: 0, results: 15d214b5913fd1ee" "$work/cc" "$list" 1 2000

@@ -3,7 +3,7 @@
 # a planted script.
 # shellcheck source=checks/lib/tap.sh
 . "$(dirname "$0")/lib/tap.sh"
-plan 32
+plan 31
 
 listed() { git ls-files -co --exclude-standard "$@"; }
 # Prints the paths of the scripts in a language, by their first lines.
@@ -29,7 +29,7 @@ are_known() {
     sort -u | comm -23 - <(printf '%s\n' bindings/c/debian/rules "$all" | sort) | diff /dev/null -
 }
 
-# A folder whose scripts are in no list: four remain when its own are found.
+# Scripts of a new folder that are in no list, before its own are found and after that.
 unknown_scripts() {
   git init -q "$work/new"
   cd "$work/new"
@@ -46,7 +46,6 @@ unknown_scripts() {
 
 # bash reads one script alone.
 syntax() { for script in "$@"; do bash -n "$script"; done; }
-last_alone() { bash -n "${!#}"; }
 
 # No line is longer than 120 columns, but of bytes.js, which build.sh makes.
 short() {
@@ -119,18 +118,13 @@ are_run() {
 # Scripts find their folder through links too.
 located() { ! command grep -nE 'dirname "\$[0{]' "$@"; }
 
-# Each script that says its words ends with an error without the last that it needs, and with one more. It prints its
-# usage if it ever does, then also for -h.
+# Each script that says its words prints its usage, and fails, without the last that it needs, with one more and for -h.
 wrong_words() {
   local script usage words
   while IFS='|' read -r script usage words; do
-    if ! command grep -qE "__doc__|sed -n '[2/]" "$script"; then
-      [ "$words" != -h ] || continue
-      usage=${script##*/}
-    fi
     # shellcheck disable=SC2086 # words
     rejects "$usage" timeout 9 "$script" $words < /dev/null
-  done < <(listed .ci bindings tools checks/lib/packed.py | xargs awk "$words_to_try")
+  done < <(listed .ci bindings tools checks/lib/packed.py ':!*/examples/test.sh' | xargs awk "$words_to_try")
 }
 # Prints a script, its usage and words for it, of each usage in its first lines.
 # shellcheck disable=SC2016 # of awk
@@ -193,7 +187,6 @@ try_linter() {
   try "Python with types" diff - <({ echo "$typed"; listed 'bindings/python/tests/*.py'; } | sort) \
     <<< "$python"
   try_linter syntax syntax.sh "unexpected end of file" "if true; then" $shell
-  try "a linter of the last script alone" prints "not ok" try_linter last_alone last.sh end "if true; then" $shell
   try "a linter over too few scripts" rejects "> checks/lib/tap.sh" over_all a.sh true ${shell/tap.sh/}
   try_linter planted compares.t "no planted case of a b c d" \
     'e() { cmp 1 2; }\ntry 1 e\nrejects 1 e\nf() { e; }\ntry 1 f\nrejects "1 2" f\ntry "2 comparisons" e
@@ -210,7 +203,7 @@ d() {\n  prints 1 2\n}\npart 1 "c c" \\\n  d' $tested
   needs=mypy try_linter "mypy --strict --scripts-are-modules --cache-dir $work/mypy" untyped.py \
     "missing a type annotation" "def same(number): return number" $typed
   needs=tsc try_linter names unused.js TS6133 "export {};\nconst number = 1;" $javascript
-  try "scripts with wrong words: 50 comparisons" wrong_words
+  try "scripts with wrong words: 53 comparisons" wrong_words
   try "what tests compare: 8 comparisons" compares << 'END'
 136 bindings/c/tests
 124 bindings/js/test

@@ -15,6 +15,8 @@ import sys
 from pathlib import Path
 from typing import Any, Optional
 
+if len(sys.argv) < 3:
+    sys.exit(__doc__)
 SOURCE, *FILES = map(Path, sys.argv[1:])
 VERSION = SOURCE.name.rpartition("-")[2]
 

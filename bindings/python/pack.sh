@@ -6,6 +6,7 @@
 # The wheels are for distributions with glibc 2.17 or later. /usr/bin/python3 has build, setuptools and wheel. CC is
 # the compiler; for another machine it is aarch64-linux-gnu-gcc or x86_64-linux-gnu-gcc.
 set -euo pipefail
+[[ $# -gt 0 && $1 != -* ]] || { sed -n '2,/^[^#]/s/^# \{0,1\}//p' "${BASH_SOURCE[0]}" >&2; exit 2; }
 umask 022
 here=$(dirname "$(readlink -f "$0")")
 out=$1

@@ -7,6 +7,7 @@
 # WORK is a folder for the copy, WORK/repository/bindings/rust. Beside it is what the build script takes from the
 # repository: the archives and the portable source. An earlier copy is used only with KEEP=1.
 set -euo pipefail
+[[ $# -gt 0 && $1 != -* ]] || { sed -n '2,/^[^#]/s/^# \{0,1\}//p' "${BASH_SOURCE[0]}" >&2; exit 2; }
 top=$(dirname "$(readlink -f "$0")")/../..
 work=$(readlink -f "$1")
 copy=$work/repository

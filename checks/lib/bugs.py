@@ -107,7 +107,6 @@ def stated_errors() -> Iterator[tap.Result]:
         ("test a", "test d ... FAILED\ntest a", "['d']"),
         ("test a", "test d", "['a', 'd']"),
         ("test a", "test a ... FAILED\ntest a", "[]"),
-        ("b ... FAILED", "b ... ok", "['b']"),
         ("(8", "(9", "['b', 'b prints   is\\n  (9, 9)\\n']"),
         ("c ... FAILED", "c ... FAILED\n    no-answer", "[]"),
     ):

@@ -74,7 +74,6 @@ def stated_logs() -> Iterator[tap.Result]:
     for log, wrong in (
         (goal + note + state, ""),
         (goal + note + "fn c::f::g: proved", "proved: ['ok', 'then-err']"),
-        (note + state, "not proved: ['ok']"),
         (goal + note + note.replace("ok", "front") + state, "not proved: ['front', 'ok', 'then-err']"),
         (goal + note.replace("-clause-ok", "-in-x") + state, "not proved: ['in-x', 'then-err']"),
         (goal + note + "fn c::f::gg: not proved\n" + state, "not proved: ['then-err']"),

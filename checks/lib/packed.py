@@ -18,6 +18,8 @@ from collections.abc import Iterator
 from pathlib import Path
 from typing import Any
 
+if len(sys.argv) != 3:
+    sys.exit(__doc__)
 RELEASE, SOURCE = map(Path, sys.argv[1:])
 Fields = dict[str, Any]
 

@@ -40,7 +40,7 @@ class Item(NamedTuple):
     @property
     def head(self) -> str:
         """Returns what comes after the item's first words, up to a brace or the line's end."""
-        return self.code[self.after : self.end].partition("{")[0].partition("\n")[0].strip(" ;")
+        return self.code[self.after : self.end].partition("{")[0].partition("\n")[0]
 
     def inner(self) -> int:
         """Returns where what the item has in braces begins, or its end."""
@@ -70,8 +70,7 @@ class Item(NamedTuple):
 
     def signature(self) -> str:
         """Returns a function's name, parameters and result, in one line."""
-        text = " ".join(self.text[self.after : self.signature_end()].split())
-        return text.replace("( ", "(").replace(", )", ")")
+        return " ".join(self.text[self.after : self.signature_end()].split())
 
     def contract_end(self) -> int:
         """Returns where a function's contract ends, its signature if there is none."""
