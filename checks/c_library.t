@@ -4,7 +4,7 @@
 # valgrind, with all warnings as errors; and runs the examples.
 # shellcheck source=checks/lib/tap.sh
 . "$(dirname "$0")/lib/tap.sh"
-plan 39 cc python3 rt
+plan 36 cc python3 rt
 # shellcheck source=checks/lib/proved.sh
 . checks/lib/proved.sh
 # shellcheck source=checks/lib/warnings.sh
@@ -129,13 +129,6 @@ sanitized() {
   is_sanitized "$1"
 }
 
-# The tests over vectors of which one in the middle is wrong.
-wrong_vector() {
-  local list=$work/wrong.tsv
-  sed '3000s/invalid_size/overflow/' crates/vectors/data/verdicts.tsv > "$list"
-  build_and_run wrong "" cc "${tests[@]}" "$library"
-}
-
 # Sets the command of a compiler, with the flags for its language.
 set_compile() {
   case $1 in
@@ -172,11 +165,11 @@ old_processor() {
   done
 }
 
-# The tests go on over the portable source, whose results are wrong by turns, and count what they find.
+# The tests count what is wrong, over the portable source with wrong results, and over wrong vectors.
 wrong_results() {
   sed -f "$c/tests/faults.sed" "$c/src/multihash.c" > "$work/multihash.c"
-  cc -DFAULTS -DHEAP -I "$c/include" -I "$c/src" "$work/multihash.c" "${tests[@]}" -o "$work/faults"
-  sed '1s/S/T/; 2s/$/\tmore/' "$list" > "$work/wrong.tsv"
+  cc -DFAULTS=300 -DHEAP -I "$c/include" -I "$c/src" "$work/multihash.c" "${tests[@]}" -o "$work/faults"
+  sed '1s/S/T/; 2s/$/\tmore/; 3000s/invalid_size/overflow/' "$list" > "$work/wrong.tsv"
   prints "$1" "$work/faults" "$work/wrong.tsv" 1 2000
 }
 
@@ -187,10 +180,9 @@ by_hand() {
 }
 
 # The example of the page is the one that is installed.
-example_in() { block_of "$1" c | diff bindings/c/examples/show.c -; }
+example_in() { block_of bindings/c/README.md c | diff bindings/c/examples/show.c -; }
 
-# The reader of a stream that is installed, after an edit, over pipes that are cut at each byte; further words are
-# options of the compiler.
+# The reader of a stream that is installed, after an edit, over pipes that are cut at each byte.
 stream_example() {
   sed "$1" bindings/c/examples/stream.c > "$work/stream.c"
   cc "${c_flags[@]}" "${sanitize[@]}" -I "$c/include" -I "$work" "${@:3}" "$c/tests/stream.c" "$library" \
@@ -199,24 +191,10 @@ stream_example() {
   prints "$2, results: 2c9fec322b3b0f2c" "$work/stream"
 }
 
-# By turns one field of its results is wrong.
-wrong_fields='s/^static stream_result/static unsigned turn;\n&/
+# By turns a field of its results is wrong; it has another limit, and ends at a signal.
+wrong_fields='s/^static stream_result/static unsigned turn;\n&/; s/> from->limit/> 255/; s/errno != EINTR/1/
   s/from->is_whole = !.*/&\n    if (++turn % 8 < 6) ((uint64_t *)found)[turn % 8] ^= 1;/
   s/^ *return is_rejected/    if (turn % 8 > 5) (turn % 2 == 0 ? from->have-- : from->bytes[0]++);\n&/'
-
-planted_in_stream() {
-  local text edit
-  while IFS='|' read -r text edit; do
-    rejects "not so: $text" stream_example "$edit" ""
-  done << 'END'
-setitimer|s/errno != EINTR/1/
-next_multihash|s/> from->limit/> 255/
-*at < ITEMS|s/= !is_rejected/= 0/
-close(more[1])|s/? 2 : 1/? 3 : 1/
-read_on(&from, &at) == want|s/: STREAM_CUT/: STREAM_END/
-read_on(&from, &at) == want|s/STREAM_FAILED;/STREAM_CUT;/
-END
-}
 
 # ---- all of it
 
@@ -232,9 +210,8 @@ try "warnings: 9 comparisons" warns_of cc "strict-prototypes missing-prototypes"
 needs=c++ try "warnings of C++: 7 comparisons" warns_of c++ ""
 try "a read after an input" rejects heap-buffer-overflow faulty "" "$overread" "${sanitize[@]}"
 try "a sum that is too large" rejects "signed integer overflow" faulty "" most++ "${sanitize[@]}"
-try "each check of the tests" prints "checks: 5850175, wrong: 0, results: 15d214b5913fd1ee" "$work/cc" "$list" 1 2000
-try "wrong results: 1 comparison" wrong_results "checks: 5811016, wrong: 680495, results: e05d2bff1ac9961d"
-try "a wrong vector" rejects "verdicts.c:29: not so: strcmp(" wrong_vector
+try "each check of the tests" prints "checks: 5840979, wrong: 0, results: 15d214b5913fd1ee" "$work/cc" "$list" 1 2000
+try "wrong results: 1 comparison" wrong_results "checks: 5806435, wrong: 680689, results: 42b1a27f6e0c1358"
 # each access of the library, which the compilers' sanitizers do not see
 needs=valgrind try valgrind build_and_run valgrind "${valgrind[*]}" cc "${c_flags[@]}" "${heap[@]}" "${tests[@]}" \
   "$library"
@@ -243,9 +220,6 @@ needs=qemu-x86_64 try "a processor of the baseline: 7 comparisons" old_processor
 # what is counted beside the library
 try "C by hand" by_hand plain
 try "fast C by hand" by_hand fast
-try "the example of the page" example_in bindings/c/README.md
-sed 's/int main(void)/int main()/' bindings/c/README.md > "$work/page.md"
-try "another example" rejects "> int main()" example_in "$work/page.md"
+try "the example of the page: 1 comparison" example_in
 try "the reader of a stream: 3 comparisons" stream_example "" "checks: 22229, wrong: 0"
-try "wrong results of it: 3 comparisons" stream_example "$wrong_fields" "wrong: 2825" -DFAULTS
-try "what is planted in it: 24 comparisons" planted_in_stream
+try "wrong results of it: 3 comparisons" stream_example "$wrong_fields" "checks: 22211, wrong: 2825" -DFAULTS=1

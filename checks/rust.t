@@ -92,8 +92,8 @@ rust_targets() {
 rust_packed() {
   local packed=$work/packed clone=$work/clone package
   touch "$work/repository/bindings/rust/multihash/src/old.rs"
-  mkdir -p "$packed" "$clone" "$work"/c/{include,src,prebuilt/"$(uname -m)"} # nothing above a package is used
-  touch "$work/c/src/multihash.c" "$work/c/prebuilt/$(uname -m)/libmultihash_c.a"
+  mkdir -p "$packed" "$clone" "$work"/c/{src,prebuilt/"$(uname -m)"} # which no package uses
+  touch "$work"/c/{src/multihash.c,prebuilt/"$(uname -m)"/libmultihash_c.a}
   cp -r LICENSE bindings "$clone"
   echo planted | tee "$clone"/bindings/rust/{Cargo.lock,target}
   (cd "$work"; clone/bindings/rust/pack.sh .)

@@ -1,5 +1,6 @@
 /* Makes many calls of one operation, to be counted. The arguments are the number of calls and its name; with
- * none it prints the names. Inputs and results are in memory that the compiler cannot see through. */
+ * none it prints the names. Inputs and results are in memory that the compiler cannot see through. Exits with status 1
+ * if the sum of the results is another. */
 #include "multihash.h"
 
 #include <stdio.h>
@@ -83,14 +84,22 @@ COMPARE(64)
 static const struct {
     const char *name;
     uint64_t (*call)(void);
+    uint64_t result;
 } operations[] = {
-    {"from_bytes_34", from_bytes_34},     {"from_bytes_long_code", from_bytes_long_code},
-    {"read_34", read_34},                 {"read_long_code", read_long_code},
-    {"head_34", head_34},                 {"encoded_len_32", encoded_len_32},
-    {"encode_32", encode_32},             {"compare_8", compare_8},
-    {"compare_16", compare_16},           {"compare_32", compare_32},
-    {"compare_33", compare_33},           {"compare_64", compare_64},
-    {"scale_encode_32", scale_encode_32}, {"scale_decode_32", scale_decode_32},
+    {"from_bytes_34", from_bytes_34, 18 + 34},
+    {"from_bytes_long_code", from_bytes_long_code, (uint64_t)INT64_MAX + 74},
+    {"read_34", read_34, 18 + 34},
+    {"read_long_code", read_long_code, (uint64_t)INT64_MAX + 74},
+    {"head_34", head_34, 18 + 2},
+    {"encoded_len_32", encoded_len_32, 34},
+    {"encode_32", encode_32, 34},
+    {"compare_8", compare_8, 0},
+    {"compare_16", compare_16, 0},
+    {"compare_32", compare_32, 0},
+    {"compare_33", compare_33, 0},
+    {"compare_64", compare_64, 0},
+    {"scale_encode_32", scale_encode_32, 41},
+    {"scale_decode_32", scale_decode_32, 18 + 41},
 };
 
 static void fill(void)
@@ -109,9 +118,9 @@ int main(int argc, char **argv)
         if (argc != 3) {
             printf("%s\n", operations[i].name);
         } else if (strcmp(argv[2], operations[i].name) == 0) {
-            long calls = strtol(argv[1], NULL, 10);
-            for (long k = 0; k < calls; k++) sum += operations[i].call();
-            printf("%llu\n", (unsigned long long)sum);
+            uint64_t calls = strtoul(argv[1], NULL, 10);
+            for (uint64_t k = 0; k < calls; k++) sum += operations[i].call();
+            return sum != calls * operations[i].result;
         }
     }
     return 0;

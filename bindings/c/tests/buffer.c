@@ -46,7 +46,7 @@ void release(uint8_t *bytes)
 
 uint8_t *buffer(size_t length)
 {
-    uint8_t *bytes = length == 0 ? NULL : (uint8_t *)calloc(1, length + SPARE);
+    uint8_t *bytes = length == 0 ? NULL : (uint8_t *)calloc(1, length + FAULTS);
     CHECK(length == 0 || bytes != NULL);
     return bytes;
 }
@@ -61,9 +61,6 @@ void release(uint8_t *bytes)
 uint8_t *copy_of(const uint8_t *bytes, size_t length)
 {
     uint8_t *copy = buffer(length);
-    for (size_t i = 0; i < length; i++) {
-        copy[i] = bytes[i];
-        results = 31 * results + bytes[i];
-    }
+    for (size_t i = 0; i < length; i++) results = 31 * results + (copy[i] = bytes[i]);
     return copy;
 }

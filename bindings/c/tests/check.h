@@ -11,21 +11,19 @@
 extern unsigned long checks, wrong;
 extern uint64_t results; /* a checksum of what was compared */
 
-/* Counts it, and ends the program if the condition is false. With FAULTS, wrong results, it counts that and goes on. */
-#ifdef FAULTS
-#define SPARE 300 /* a wrong length reaches no further */
-#define CHECK(fact) (checks++, wrong += !(fact))
-#else
-#define SPARE 0
+#ifndef FAULTS
+#define FAULTS 0 /* over wrong results: the bytes after a buffer that they may reach */
+#endif
+
+/* Counts it. If the condition is false the program ends, but for FAULTS. */
 #define CHECK(fact)                                                             \
     do {                                                                        \
         checks++;                                                               \
-        if (!(fact)) {                                                          \
-            fprintf(stderr, "%s:%d: not so: %s\n", __FILE__, __LINE__, #fact); \
+        if (!(fact) && ++wrong > 0 && FAULTS == 0) {                            \
+            fprintf(stderr, "%s:%d: not so: %s\n", __FILE__, __LINE__, #fact);  \
             exit(1);                                                            \
         }                                                                       \
     } while (0)
-#endif
 
 typedef multihash_encoded (*encoder)(uint64_t, const uint8_t *, size_t, uint8_t *, size_t);
 

@@ -165,7 +165,7 @@ void check_length(uint64_t code, size_t length)
 /* Encodes what was decoded: to the bytes that it was decoded from, and with less capacity. */
 static void check_back(encoder encode, const uint8_t *bytes, multihash_decoded found)
 {
-    uint8_t out[MULTIHASH_LENGTH_MAX + SPARE] = {0};
+    uint8_t out[MULTIHASH_LENGTH_MAX + FAULTS] = {0};
     if (found.status != MULTIHASH_OK) return;
     uint8_t *digest = copy_of(bytes + found.digest_offset, found.digest_length);
     CHECK(encode(found.code, digest, found.digest_length, out, sizeof out).length == found.taken);
