@@ -194,7 +194,8 @@ stream_example() {
 # By turns a field of its results is wrong; it has another limit, and ends at a signal.
 wrong_fields='s/^static stream_result/static unsigned turn;\n&/; s/> from->limit/> 255/; s/errno != EINTR/1/
   s/from->is_whole = !.*/&\n    if (++turn % 8 < 6) ((uint64_t *)found)[turn % 8] ^= 1;/
-  s/^ *return is_rejected/    if (turn % 8 > 5) (turn % 2 == 0 ? from->have-- : from->bytes[0]++);\n&/'
+  s/^ *return is_/    if (turn % 8 > 5) (turn % 2 == 0 ? from->have-- : from->bytes[0]++);\n&/
+  s/return is_/return turn % 9 == 0 ? STREAM_END : is_/'
 
 # ---- all of it
 
@@ -222,4 +223,4 @@ try "C by hand" by_hand plain
 try "fast C by hand" by_hand fast
 try "the example of the page: 1 comparison" example_in
 try "the reader of a stream: 3 comparisons" stream_example "" "checks: 22229, wrong: 0"
-try "wrong results of it: 3 comparisons" stream_example "$wrong_fields" "checks: 22211, wrong: 2825" -DFAULTS=1
+try "wrong results of it: 3 comparisons" stream_example "$wrong_fields" "checks: 20387, wrong: 4895" -DFAULTS=1
