@@ -205,7 +205,7 @@ d() {\n  prints 1 2\n}\npart 1 "c c" \\\n  d' $tested
   needs=tsc try_linter names unused.js TS6133 "export {};\nconst number = 1;" $javascript
   try "scripts with wrong words: 53 comparisons" wrong_words
   try "what tests compare: 8 comparisons" compares << 'END'
-134 bindings/c/tests
+133 bindings/c/tests
 124 bindings/js/test
 179 bindings/python/tests
 188 bindings/rust/*.rs

@@ -88,11 +88,11 @@ rust_targets() {
   done
 }
 
-# What is packed is not of an earlier copy or build, and needs no repository: it has archives, else the portable source.
+# What is packed is not of an earlier copy or build, and uses no repository: it has archives, else the portable source.
 rust_packed() {
   local packed=$work/packed clone=$work/clone package
   touch "$work/repository/bindings/rust/multihash/src/old.rs"
-  mkdir -p "$packed" "$clone" "$work"/c/{src,prebuilt/"$(uname -m)"} # which no package uses
+  mkdir -p "$packed" "$clone" "$work"/c/{src,prebuilt/"$(uname -m)"}
   touch "$work"/c/{src/multihash.c,prebuilt/"$(uname -m)"/libmultihash_c.a}
   cp -r LICENSE bindings "$clone"
   echo planted | tee "$clone"/bindings/rust/{Cargo.lock,target}

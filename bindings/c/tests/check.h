@@ -12,7 +12,7 @@ extern unsigned long checks, wrong;
 extern uint64_t results; /* a checksum of what was compared */
 
 #ifndef FAULTS
-#define FAULTS 0 /* over wrong results: the bytes after a buffer that they may reach */
+#define FAULTS 0 /* bytes after a buffer, which wrong results may reach */
 #endif
 
 /* Counts it. If the condition is false the program ends, but for FAULTS. */

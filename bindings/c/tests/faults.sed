@@ -1,4 +1,4 @@
-# For tests with FAULTS: by turns one field of each result of ../src/multihash.c is wrong, or one byte of the buffer.
+# With FAULTS: by turns one field of a result of ../src/multihash.c is wrong, or one byte of the buffer.
 /^\/\* A field of the result/i\
 static uint32_t turn;\
 static void spoil(const memory *call, uint64_t *field, size_t fields)\

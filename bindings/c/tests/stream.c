@@ -139,10 +139,12 @@ int main(void)
         check_cut(cut, 1);
     }
     check_interrupted();
-    check_rejected("\x12\x41\x07\x07", 4, MULTIHASH_INVALID_SIZE, 65, 2);
-    check_rejected("\x12\xff\xff\xff\xff\xff\xff\xff\xff\x7f\x07", 11, MULTIHASH_INVALID_SIZE, INT64_MAX, 1);
-    check_rejected("\x80\x00\x07", 3, MULTIHASH_NOT_MINIMAL, 0, 1);
-    check_rejected("\xff\xff\xff\xff\xff\xff\xff\xff\xff\x01", 10, MULTIHASH_OVERFLOW, 0, 1);
+    for (int again = 0; again < 9; again++) {
+        check_rejected("\x12\x41\x07\x07", 4, MULTIHASH_INVALID_SIZE, 65, 2);
+        check_rejected("\x12\xff\xff\xff\xff\xff\xff\xff\xff\x7f\x07", 11, MULTIHASH_INVALID_SIZE, INT64_MAX, 1);
+        check_rejected("\x80\x00\x07", 3, MULTIHASH_NOT_MINIMAL, 0, 1);
+        check_rejected("\xff\xff\xff\xff\xff\xff\xff\xff\xff\x01", 10, MULTIHASH_OVERFLOW, 0, 1);
+    }
     for (size_t i = 0; i < whole_length; i++) results = 31 * results + whole[i];
     printf("checks: %lu, wrong: %lu, results: %016" PRIx64 "\n", checks, wrong, results);
     return 0;

@@ -65,8 +65,7 @@ void replay(const char *name)
     static char text[LINE_MAX_BYTES];
     size_t lines = 0;
     FILE *list = fopen(name, "r");
-    CHECK(list != NULL);
-    CHECK(fgets(text, sizeof text, list) != NULL);
+    CHECK(list != NULL && fgets(text, sizeof text, list) != NULL);
     CHECK(strcmp(text, "S\tinput\tread\tread_taken\tfrom_bytes\tscale_decode\tscale_taken\n") == 0);
     for (; fgets(text, sizeof text, list) != NULL; lines++) check_line(text);
     CHECK(fclose(list) == 0);
