@@ -209,7 +209,7 @@ d() {\n  prints 1 2\n}\npart 1 "c c" \\\n  d' $tested
 124 bindings/js/test
 179 bindings/python/tests
 188 bindings/rust/*.rs
-591 crates/*.rt
+550 crates/*.rt
 238 checks
 74 bindings/*.sh
 7 tools

@@ -114,16 +114,16 @@ def text_errors(page: str, names: list[str]) -> Iterator[str]:
 def text_results(page: str, names: list[str]) -> Iterator[tap.Result]:
     """Compares the page with itself and with the rows of the program; plants other rows and shares."""
     yield "docs/SPEED.md", "\n".join(text_errors(page, names))
-    rows = ["the page has other rows than crates/speed/args"]
-    yield tap.planted("a row of the page alone", [*text_errors(page, names[:-1])] == rows)
-    yield tap.planted("a row of the program alone", [*text_errors(page, [*names, "other"])] == rows)
+    rows = "the page has other rows than crates/speed/args"
+    yield tap.stated("a row of the page alone", "; ".join(text_errors(page, names[:-1])), rows)
+    yield tap.stated("a row of the program alone", "; ".join(text_errors(page, [*names, "other"])), rows)
     for what, head in (("a call", RUST), ("a call from C", FROM_C)):
         text = table(head, rows_of(page, head))
         changed = page.replace(text, re.sub(r"\d\.\d\d", "9.99", text, count=1))
-        error = ["its tables are not what --write makes of their counts"]
-        yield tap.planted(f"another share of {what}", [*text_errors(changed, names)] == error)
-    found = [*text_errors(re.sub(r"(?<=Cause \|\n).*\n.*\n", "", page), names)]
-    yield tap.planted("a cause less", [text[:28] for text in found] == ["the shares above 1.05 are of"])
+        tables = "its tables are not what --write makes of their counts"
+        yield tap.stated(f"another share of {what}", "; ".join(text_errors(changed, names)), tables)
+    found = "; ".join(text_errors(re.sub(r"(?<=Cause \|\n).*\n.*\n", "", page), names))
+    yield tap.stated("a cause less", found.partition(" [")[0], "the shares above 1.05 are of")
 
 
 def results(program: str, names: list[str]) -> Iterator[tap.Result]:
@@ -134,9 +134,9 @@ def results(program: str, names: list[str]) -> Iterator[tap.Result]:
         same = [near for near in range(200) if not differences({"a": [near, number]}, {"a": [number, number]})]
         yield f"counts near {number}", "" if same == [*wanted] else f"accepted: {same}"
     one = {"a": [10, 10]}
-    error = "a: [10] instructions, stored [10, 10]\nb: it is there alone"
-    yield tap.planted("a count less, a row more", differences({"a": [10], "b": [1]}, one) == error)
-    yield tap.planted("a row less", differences({}, one) == "a: it is there alone")
+    lines = differences({"a": [10], "b": [1]}, one).replace("\n", "; ")
+    yield tap.stated("a count less, a row more", lines, "a: [10] instructions, stored [10, 10]; b: it is there alone")
+    yield tap.stated("a row less", differences({}, one), "a: it is there alone")
     # without AVX2 libc's copies have other counts
     if gone := [it for it in ("valgrind", "avx2") if not tap.is_there(it)]:
         yield tap.left_out("the calls from C", gone)
