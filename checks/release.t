@@ -98,11 +98,13 @@ SHA256SUMS|echo >> SHA256SUMS
 1 2 ab600 1970|tar --owner=a:1 --group=b:2 --mode=600 --mtime=@0 -czf multihash_c-*-source.tar.gz SHA256SUMS
 0 0 700|mkdir d; tar --numeric-owner --owner=0 --group=0 --mode=700 -czf multihash_c-*-source.tar.gz d; rmdir d
 order|tar -czf multihash_c-*-source.tar.gz --transform=s,^,d/, *.json SHA256SUMS
+5.crate: order|tar xf m*.5.crate; tar czf m*.5.crate m*.5/README.md m*.5/*.toml m*.5/*.orig; rm -r m*.5
 more is there, or is not|mkdir d; touch d/more; tar -czf multihash_c-*-source.tar.gz d; rm -r d
 whl: more is|python3 -c 'import sys, zipfile; zipfile.ZipFile(sys.argv[1], "a").writestr("more", "")' *x86_64.whl
 {'default'|tar xf *.tgz; sed -Ei 's/("t.*), (.*) }/\2, \1 }/' package/*.json; tar czf *.tgz package; rm -r package
 checksumValue|echo >> libmultihash-c-dev_*_amd64.deb
 what the kit made|sed -i s/GENERATED_FROM/DEPENDS_ON/ multihash-*.spdx.json
+what made the WebAssembly|sed -i 's/"name": "wasm-opt"/"name": "more"/' multihash-*.spdx.json
 tools ['|sed -i 's/"name": "ld"/"name": "more"/' multihash-*.spdx.json
 ld: ''|sed -i '/"name": "ld"/{n;s/: ".*"/: ""/}' multihash-*.spdx.json
 CONTAINED_BY|sed -i s/CONTAINS/CONTAINED_BY/ multihash-*.spdx.json
@@ -123,9 +125,9 @@ exports_source() {
   diff -r -x .git "$1" "$work/bin/cmake.source"
 }
 
-# Each field of a release is compared: here all differ.
+# Each field of a release is compared: here all differ, and one package is not described.
 altered_fields() {
-  python3 - "$@" << 'END' | wc -l | diff <(echo 144) -
+  python3 - "$@" << 'END' | wc -l | diff <(echo 145) -
 import sys
 sys.path.append("checks/lib")
 import packed
@@ -133,6 +135,7 @@ def altered(of_it):
     return {name: altered(each) for name, each in of_it.items()} if isinstance(of_it, dict) else "?"
 for module, name in (packed, "headers"), (packed.json, "loads"), (packed.tomllib, "loads"):
     setattr(module, name, lambda text, old=getattr(module, name): altered(old(text)))
+packed.fields = lambda old=packed.fields: [*old()][1:]
 packed.material_errors = list
 packed.main()
 END
@@ -179,7 +182,7 @@ END
 
 test_release() {
   local emulator="qemu-aarch64 -L /usr/aarch64-linux-gnu"
-  try "a release: 43 comparisons" releases
+  try "a release: 45 comparisons" releases
   CC=aarch64-linux-gnu-gcc RUN=$emulator try "the installed test of that for aarch64: 1 comparison" \
     installed_test "$work/multihash_c-$version-aarch64"
   try "packages for arm64: 9 comparisons" has_packages "$work/release" arm64 aarch64-linux-gnu
