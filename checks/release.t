@@ -127,7 +127,7 @@ exports_source() {
 
 # Each field of a release is compared: here all differ, and one package is not described.
 altered_fields() {
-  python3 - "$@" << 'END' | wc -l | diff <(echo 145) -
+  python3 - "$@" << 'END' | wc -l | diff <(echo 150) -
 import sys
 sys.path.append("checks/lib")
 import packed

@@ -23,6 +23,7 @@ OF_BODIES = re.compile(r"#(?:\[(cold|inline|tactic)\b|!/)")
 TO_BODY = r"\A(?s:.+?)(?=\n\{|\s*\Z)"
 BINDINGS = {
     "bindings/c/include/*.h": TO_BODY,
+    "bindings/c/examples/*.c": r"(?s:/\*.+?\*/)",
     "bindings/js/*.d.ts": TO_BODY,
     "bindings/js/demo.html": r"^<(?:title|h\d|p|label|dt|thead|noscript)\b.*(?:\n[^<\n].*)*",
     "bindings/python/src/*.c": r'^ *(?:\{(?:"(?!_[a-z])\w+"|Py_tp_doc)|static const char ).*(?:\n +".*)*',
@@ -35,8 +36,8 @@ BINDINGS = {
 # of scripts the usage and the errors
 ERRORS = r"\b(?:CACHE|assert|exit|fail|message|panic|raise|throw)\b|\b(?:need|option)\(|>&2"
 SCRIPT = rf'\A(?:(?:#|//).*\n)*(?:"""(?s:.+?)""")?|^.*(?:{ERRORS}).*'
-SCRIPTS = ".ci/run CMakeLists.txt tools/* bindings/*/*.py bindings/*/*.sh bindings/*/b*.js bindings/*/*/*.sh"
-BINDINGS |= dict.fromkeys([*SCRIPTS.split(), "bindings/*/*/build.rs"], SCRIPT)
+SCRIPTS = ".ci/run CMakeLists.txt tools/* bindings/*/*.cmake bindings/*/*.py bindings/*/*.sh bindings/*/b*.js"
+BINDINGS |= dict.fromkeys([*SCRIPTS.split(), "bindings/*/*/*.sh", "bindings/*/*/build.rs"], SCRIPT)
 INTRODUCTION = """\
 # Contracts
 

@@ -144,7 +144,7 @@ def npm() -> Fields:
 
 
 def crate(name: str, version: str) -> Fields:
-    """The description of a crate: its tests cover features and dependencies."""
+    """The description of a crate: its tests cover features."""
     fields: Fields = {"name": name, "version": version, "edition": "2021", "rust-version": RUST, "license": LICENCE}
     words = ("cid", "ipfs") if name == "multihash" else ("varint",)
     fields |= {"repository": REPOSITORY, "readme": "README.md"}
@@ -194,9 +194,15 @@ def fields() -> Iterator[tuple[str, Fields, Fields]]:
     yield "CMakeLists.txt", {"version": required}, {"version": CMAKE}
     name = f"verified-multihash-{VERSION}.tgz"
     yield name, json.loads(content(name, "package/package.json")), npm()
+    tested = dict(re.findall(r"([\w-]+)-(\d[.\d]*)[,}]", (SOURCE / "checks/rust.t").read_text("utf-8")))
+    tested |= {"multihash_c": VERSION, "serde": tested["serde_json"]}
     for package, version in (("multihash", UPSTREAM), ("multihash_c", VERSION)):
         name = f"{package}-{version}"
-        yield name, tomllib.loads(content(f"{name}.crate", f"{name}/Cargo.toml"))["package"], crate(package, version)
+        manifest = tomllib.loads(content(f"{name}.crate", f"{name}/Cargo.toml"))
+        yield name, manifest["package"], crate(package, version)
+        tables = [table for kind, table in manifest.items() if kind.endswith("dependencies")]
+        found = {it: each["version"] for table in tables for it, each in table.items()}
+        yield name, found, {it: tested.get(it) for it in found}
     name = f"verified_multihash-{VERSION}"
     yield name, headers(content(f"{name}.tar.gz", f"{name}/PKG-INFO")), python()
     build = {"requires": ["setuptools >= 61"], "build-backend": "setuptools.build_meta"}
