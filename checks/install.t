@@ -3,7 +3,7 @@
 # pages and the packages for Rust, of the archives, in emulators for aarch64 and Windows, and of the portable source.
 # shellcheck source=checks/lib/tap.sh
 . "$(dirname "$0")/lib/tap.sh"
-plan 20 cc cmake python3 readelf pkg-config
+plan 19 cc cmake python3 readelf pkg-config
 # shellcheck source=checks/lib/installed.sh
 . checks/lib/installed.sh
 # shellcheck source=checks/lib/warnings.sh
@@ -198,7 +198,6 @@ test_installation() {
   try "building: 1 comparison" build built -DCMAKE_INSTALL_PREFIX="$prefix"
   try "installing: 11 comparisons" installs
   try "after edits: 5 comparisons" after_edits
-  try "the installed test: 1 comparison" installed_test "$prefix"
   try "installing below a folder: 11 comparisons" installs_below
   try "the portable source: 11 comparisons" from_source
   try "packing: 23 comparisons" packs

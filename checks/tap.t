@@ -158,8 +158,8 @@ expect 0 "ran '[ \"\${BUILT-}\" ] || echo ok 1' 'export BUILT=\"rt ci\"'"
 text='case $0:$(($(nice) - base)):${BUILT-} in *rt.t:0: | *lint.t:5:rt?ci) echo ok 1 ;; esac'
 expect 0 "ran '$text' 'cp checks/rt.t checks/lint.t'"
 # what a check printed is there before it ends
-text='for _ in {1..9}; do sleep .2; [ ! -s ../out ] || { echo ok 1; exit; }; done'
-expect "1..1\nok 1" "touch passed; stub checks/rt.t '$text'; KEPT=. .ci/run --check checks/rt.t > out; cat out"
+expect "1..1\nok 1" "touch passed; stub checks/rt.t 'until [ -s ../out ]; do sleep .1; done; echo ok 1'
+  KEPT=. timeout 9 .ci/run --check checks/rt.t > out; cat out"
 # only one of two checks is run
 expect "1\ndid not pass: checks/lint.t" \
   "ran 'echo ok 1' 'cp checks/rt.t checks/lint.t; sed -i \"s|timer checks|&/rt.t|\" .ci/run'; grep ^did out"

@@ -128,13 +128,11 @@ def main() -> int:
     results = [("the results of the stored inputs", error_of(stored)), ("an appended input", error_of(stored + new))]
     others = f"the first {FIRST} inputs are others"
     for what, text, error in (
-        ("another result of the first line", stored.replace("invalid_size 3", "invalid_size 4", 1), "@@ -2 +2 @@"),
-        ("another result of the last line", stored + new.replace("invalid", "valid"), "@@ -6002 +6002 @@"),
+        ("the first result", stored.replace("invalid_size 3", "invalid_size 4", 1), "@@ -2 +2 @@"),
+        ("the last result", stored + new.replace("invalid", "valid"), "@@ -6002 +6002 @@"),
         ("another capacity", stored.replace("\n1\t88f5bac6a53b03", "\n2\t88f5bac6a53b03", 1), others),
-        ("another first input", stored.replace("88f5bac6a53b03", "88f5bac6a53b04", 1), others),
-        ("one of the first inputs that is lost", stored.replace(last, ""), others),
-        ("an input that is there twice", stored + last, "an input is there twice with one capacity"),
-        ("no end of the last line", stored[:-1], "@@ -6001,0 +6002 @@"),
+        ("an input twice", stored + last, "an input is there twice with one capacity"),
+        ("no last newline", stored[:-1], "@@ -6001,0 +6002 @@"),
     ):
         results.append(tap.stated(what, error_of(text), error))
     return tap.report(results)

@@ -182,6 +182,15 @@ async function iterables(module, stream, wanted) {
   same(`${broken.error?.message} ${hex(reader.rest)}`, `broken ${hex(stream.subarray(0, 20))}`, 'a source that fails');
 }
 
+/** The time of many multihashes in a chunk grows with their number. With its square it would be minutes. */
+async function many(module, encoding) {
+  const chunk = new Uint8Array(100000 * encoding.length);
+  for (let at = 0; at < chunk.length; at += encoding.length) chunk.set(encoding, at);
+  const start = performance.now();
+  const { found } = await drained(new module.MultihashReader(chunks(chunk)));
+  same(`${found.length} ${performance.now() - start < 9000}`, '100000 true', 'many in a chunk');
+}
+
 export async function streams(module) {
   const digests = [new Uint8Array(32).fill(7), new Uint8Array(), new Uint8Array(255).fill(9)];
   const encodings = digests.map((digest, index) => module.encode([0x12, 0, 2n ** 62n][index], digest));
@@ -195,6 +204,7 @@ export async function streams(module) {
   await cancellations(module, stream);
   await waiting(module, stream);
   await iterables(module, stream, wanted);
+  await many(module, encodings[0]);
   const reader = new module.MultihashReader(chunks(stream));
   const together = await Promise.all([reader.read(), reader.read(), reader.read(), reader.read()]);
   same(listed(together.slice(0, 3)) + together[3], `${wanted}null`, 'calls that overlap');
