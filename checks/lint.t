@@ -115,8 +115,8 @@ are_run() {
     END { for (own in file) if (!(own in named)) { print file[own] ": " own " is not run"; all = 1 } exit all }' "$@"
 }
 
-# Scripts find their folder through links too.
-located() { ! command grep -nE 'dirname "\$[0{]' "$@"; }
+# Scripts find their folder through links, and compare whole texts.
+located() { ! command grep -nE 'dirname "\$[0{]|(diff|cmp) (-[^ ]+ )*-[a-z]*[wbBiEZn]' "$@"; }
 
 # Each script that says its words prints its usage, and fails, without the last that it needs, with one more and for -h.
 wrong_words() {
@@ -142,13 +142,13 @@ words_to_try='
   }
   END { for (it in fewer) if (!(fewer[it] in usages)) print it }'
 
-# The tests in some files, what they compare, and where a status is no error or has to be one, are as many as stated.
+# How many tests, results, comparisons and statuses that are no error or have to be one are in some files is stated.
 compares() {
   local number folder
   while read -r number folder; do
     listed "$folder" | xargs cat |
       command grep -oE -e 'def test_|test\]|(assert\w*|CHECK|check\w*|expect_\w+|same|fails|told|planted)!?\(' \
-        -e '\<(cmp|diff|grep|prints|rejects) [^a-z ]|check=|\|\| true|pipefail' | wc -l |
+        -e '\<(cmp|diff|grep|prints|rejects) [^a-z ]|\<try "|check=|\|\| true|pipefail' | wc -l |
       diff <(echo "$number") -
   done
 }
@@ -206,12 +206,12 @@ d() {\n  prints 1 2\n}\npart 1 "c c" \\\n  d' $tested
   try "scripts with wrong words: 53 comparisons" wrong_words
   try "what tests compare: 8 comparisons" compares << 'END'
 133 bindings/c/tests
-124 bindings/js/test
-179 bindings/python/tests
+125 bindings/js/test
+177 bindings/python/tests
 188 bindings/rust/*.rs
 550 crates/*.rt
-227 checks
-74 bindings/*.sh
+317 checks
+112 bindings/*.sh
 7 tools
 END
   needs=tsc try "each error of names: 22 comparisons" planted_names

@@ -88,7 +88,7 @@ assertions() {
 # All tests of the wheel.
 all_tests() {
   grep -F .whl "$work"/venv/lib/python*/site-packages/verified_multihash-*/direct_url.json
-  assertions "133665 right, 0 wrong, 0 errors, 715a328c"
+  assertions "133648 right, 0 wrong, 0 errors, 32581019"
 }
 
 # The module keeps nothing between calls but CPython's version: interpreters and threads share its data.
@@ -177,7 +177,7 @@ planted_faults() {
   planted ''
   sed -i -f "$here/tests/faults.sed" "$work/planted"/{src/*.c,verified_multihash/*.py}
   installs "$work/planted"
-  assertions "58621 right, 73168 wrong, 57 errors, eee09e83"
+  assertions "58609 right, 73163 wrong, 57 errors, 1cd68a48"
   rejects "< from" keeps_nothing
 }
 

@@ -8,7 +8,7 @@ import verdicts
 from claims import FORMAT, HEX, README, VECTORS, flat
 from rows import tables
 
-RULES = verdicts.rules_of_crate()
+RULES = verdicts.rules_of()
 
 
 def varint(number: int) -> bytes:

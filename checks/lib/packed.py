@@ -201,7 +201,7 @@ def fields() -> Iterator[tuple[str, Fields, Fields]]:
         manifest = tomllib.loads(content(f"{name}.crate", f"{name}/Cargo.toml"))
         yield name, manifest["package"], crate(package, version)
         tables = [table for kind, table in manifest.items() if kind.endswith("dependencies")]
-        found = {it: each["version"] for table in tables for it, each in table.items()}
+        found = {it: of["version"] for table in tables for it, of in table.items()}
         yield name, found, {it: tested.get(it) for it in found}
     name = f"verified_multihash-{VERSION}"
     yield name, headers(content(f"{name}.tar.gz", f"{name}/PKG-INFO")), python()

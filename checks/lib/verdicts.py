@@ -18,7 +18,7 @@ from pathlib import Path
 import tap
 
 TOP = Path(__file__).resolve().parents[2]
-BOUND = TOP / "crates/multihash/specs/Varint.antt"
+BOUND = (TOP / "crates/multihash/specs/Varint.antt").read_text("utf-8")
 STORED = TOP / "crates/vectors/data/verdicts.tsv"
 COLUMNS = ("S", "input", "read", "read_taken", "from_bytes", "scale_decode", "scale_taken")
 
@@ -93,12 +93,12 @@ def result(call: Callable[[int, bytes], tuple[int, bytes, int]], size: int, data
         return error, consumed
 
 
-def rules_of_crate() -> Rules:
-    [bits] = re.findall(r"(?m)^varint_limit = 2 \^ (\d+)$", BOUND.read_text("utf-8"))
+def rules_of(definitions: str = BOUND) -> Rules:
+    [bits] = re.findall(r"(?m)^varint_limit = 2 \^ (\d+)$", definitions)
     return Rules(int(bits))
 
 
-def made_of(stored: str) -> str:
+def made_of(stored: str, definitions: str = BOUND) -> str:
     """Makes the list of the stored inputs, by the bound on numbers that the definitions state."""
     inputs = [tuple(line.split("\t")[:2]) for line in stored.splitlines()[1:]]
     first = "".join("\t".join(line) + "\n" for line in inputs[:FIRST])
@@ -106,15 +106,15 @@ def made_of(stored: str) -> str:
         raise ValueError(f"the first {FIRST} inputs are others")
     if len({*inputs}) < len(inputs):
         raise ValueError("an input is there twice with one capacity")
-    rules = rules_of_crate()
+    rules = rules_of(definitions)
     lines = (rules.line(int(size), bytes.fromhex(data.removeprefix("-"))) for size, data in inputs)
     return "\n".join(["\t".join(COLUMNS), *lines, ""])
 
 
-def error_of(stored: str) -> str:
+def error_of(stored: str, definitions: str = BOUND) -> str:
     """Returns how the stored lines differ from those that are made."""
     try:
-        lines, made = stored.split("\n"), made_of(stored).split("\n")
+        lines, made = stored.split("\n"), made_of(stored, definitions).split("\n")
         return "\n".join([*difflib.unified_diff(lines, made, lineterm="", n=0)][2:])
     except ValueError as error:
         return str(error)
@@ -124,7 +124,7 @@ def main() -> int:
     stored = STORED.read_text("utf-8")
     if sys.argv[1:] == ["--write"]:
         return STORED.write_text(made_of(stored), "utf-8") == 0
-    last, new = stored.splitlines(True)[FIRST], f"{rules_of_crate().line(0, bytes(77))}\n"
+    last, new = stored.splitlines(True)[FIRST], f"{rules_of().line(0, bytes(77))}\n"
     results = [("the results of the stored inputs", error_of(stored)), ("an appended input", error_of(stored + new))]
     others = f"the first {FIRST} inputs are others"
     for what, text, error in (
@@ -135,6 +135,7 @@ def main() -> int:
         ("no last newline", stored[:-1], "@@ -6001,0 +6002 @@"),
     ):
         results.append(tap.stated(what, error_of(text), error))
+    results.append(tap.stated("another bound", error_of(stored, BOUND.replace("2 ^ 63", "2 ^ 62")), "@@ -7 +7 @@"))
     return tap.report(results)
 
 

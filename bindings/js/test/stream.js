@@ -182,7 +182,7 @@ async function iterables(module, stream, wanted) {
   same(`${broken.error?.message} ${hex(reader.rest)}`, `broken ${hex(stream.subarray(0, 20))}`, 'a source that fails');
 }
 
-/** The time of many multihashes in a chunk grows with their number. With its square it would be minutes. */
+/** The time of a chunk grows with its multihashes. With their square it would be minutes. */
 async function many(module, encoding) {
   const chunk = new Uint8Array(100000 * encoding.length);
   for (let at = 0; at < chunk.length; at += encoding.length) chunk.set(encoding, at);

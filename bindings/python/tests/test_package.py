@@ -118,14 +118,11 @@ class Arguments(unittest.TestCase):
             self.assertEqual(vm.decode(buffer), Multihash(1, b"abc"))
             digest = Multihash(2, buffer).digest
             self.assertEqual((digest, type(digest)), (data, bytes))
-        self.assertEqual(vm.decode(array.array("H", [0x0201, 0x4241])).digest, b"AB")
-        for long, size in ((matrix, 400), (array.array("Q", bytes(800)), 800), ((ctypes.c_ubyte * 999)(), 999)):
+        for long, size in ((matrix, 400), ((ctypes.c_ubyte * 999)(), 999)):
             self.assertEqual(self.error_of(vm.decode, long)[:2], (Status.INVALID_SIZE, size - 2))
         self.assertEqual([vm.encode(0, empty) for empty in (b"", bytearray(), array.array("I"))], [b"\0\0"] * 3)
         for kind in (ctypes.c_uint8, ctypes.c_uint16, ctypes.c_uint64):  # buffers of no dimension
             self.assertEqual(vm.encode(0, kind(7)), vm.encode(0, bytes(kind(7))))
-        for call in BYTES_CALLS[:3]:
-            self.assertEqual(self.error_of(call, memoryview(b""))[0], Status.INSUFFICIENT)
 
     def test_views(self):
         """Each buffer gives the result of its bytes, also where these end within an item that a call reads."""
