@@ -207,7 +207,7 @@ d() {\n  prints 1 2\n}\npart 1 "c c" \\\n  d' $tested
   try "what tests compare: 8 comparisons" compares << 'END'
 133 bindings/c/tests
 125 bindings/js/test
-177 bindings/python/tests
+176 bindings/python/tests
 188 bindings/rust/*.rs
 550 crates/*.rt
 317 checks

@@ -228,7 +228,7 @@ try "the portable source: 19 comparisons" rust_source
 needs=clang try "the portable source for other targets: 15 comparisons" rust_targets
 try "the packed packages: 7 comparisons" rust_packed
 needs=$archive try "the build script: 13 comparisons" rust_build
-try "the switch from upstream's package: 11 comparisons" rust_switch
+try "the switch from upstream's package: 10 comparisons" rust_switch
 try "serde: 7 comparisons" rust_serde
 needs=cargo-clippy try "lints: 2 comparisons" rust_lints
 needs=cargo-clippy try "a warning of each command: 22 comparisons" planted_warnings

@@ -21,7 +21,6 @@ s/encoded(module, m/encoded(module, named ? multihash_scale_encode : m/
 s/PyLong_FromLong(order_of/PyBool_FromLong(order_of/
 s/expected a Multihash, not/no Multihash:/
 s/"O:decode"/"O:decoded"/
-s/PyBool_FromLong(kept/PyLong_FromLong(kept/
 s/limit=255)/limit=256)/
 s/"(ss)", "code", "digest"/"(ss)", "digest", "code"/
 s/Py_CLEAR(its->names);//

@@ -3,7 +3,6 @@ import array
 import copy
 import ctypes
 import doctest
-import functools
 import importlib
 import inspect
 import io
@@ -11,7 +10,6 @@ import itertools
 import mmap
 import os
 import pickle
-import re
 import resource
 import subprocess
 import sys
@@ -24,7 +22,6 @@ from pathlib import Path
 
 import verified_multihash as vm
 from test_readers import Awaited
-from test_vectors import KINDS
 from verified_multihash import Multihash, MultihashError, Status
 
 README = Path(__file__).resolve().parents[1] / "README.md"
@@ -112,33 +109,25 @@ class Arguments(unittest.TestCase):
 
     def test_all_buffers(self):
         data = b"\x01\x03abc"
+        spread = memoryview(bytes(byte for pair in zip(data, data) for byte in pair))[::2]
         matrix = memoryview(bytes(400)).cast("B", [20, 20])
         same = type("Text", (bytes,), {})(data), bytearray(data), array.array("B", data), (ctypes.c_ubyte * 5)(*data)
-        for buffer in same:
+        for buffer in (spread, *same):
             self.assertEqual(vm.decode(buffer), Multihash(1, b"abc"))
             digest = Multihash(2, buffer).digest
             self.assertEqual((digest, type(digest)), (data, bytes))
-        for long, size in ((matrix, 400), ((ctypes.c_ubyte * 999)(), 999)):
+        self.assertEqual(vm.decode(array.array("H", [0x0201, 0x4241])).digest, b"AB")
+        for long, size in ((matrix, 400), (array.array("Q", bytes(800)), 800), ((ctypes.c_ubyte * 999)(), 999)):
             self.assertEqual(self.error_of(vm.decode, long)[:2], (Status.INVALID_SIZE, size - 2))
         self.assertEqual([vm.encode(0, empty) for empty in (b"", bytearray(), array.array("I"))], [b"\0\0"] * 3)
         for kind in (ctypes.c_uint8, ctypes.c_uint16, ctypes.c_uint64):  # buffers of no dimension
             self.assertEqual(vm.encode(0, kind(7)), vm.encode(0, bytes(kind(7))))
-
-    def test_views(self):
-        """Each buffer gives the result of its bytes, also where these end within an item that a call reads."""
-
-        def result(call, data):
-            try:
-                return call(data)
-            except MultihashError as error:
-                return attributes_of(error)
-
         longest = b"\xff" * 8 + b"\x7f"
-        kinds = (*KINDS, *(functools.partial(array.array, item) for item in "HIQ"))
-        for front, size in itertools.product((b"", b"\1\3", longest * 2, longest + b"\xff\1"), range(0, 321, 8)):
-            data = (front + bytes(320))[:size]
-            for call, kind in itertools.product(BYTES_CALLS, kinds):
-                self.assertEqual(result(call, kind(data)), result(call, data))
+        for kind in "HIQ":  # what a call reads ends within an item
+            for call, front in ((vm.head, longest * 2), (vm.read, longest + b"\xff\1" + bytes(255))):
+                self.assertEqual(call(array.array(kind, front + bytes(6))), call(front))
+        for call in BYTES_CALLS[:3]:
+            self.assertEqual(self.error_of(call, memoryview(b""))[0], Status.INSUFFICIENT)
 
     def test_numbers(self):
         for call in CODE_CALLS:
@@ -320,23 +309,6 @@ class Module(unittest.TestCase):
             for lacking in required if call is not MultihashError else ():
                 others = {name: it for name, it in zip(names, arguments) if name != lacking}
                 self.assertRaisesRegex(TypeError, r"^%s\(\)" % call.__name__, call, **others)
-
-    def test_stub(self):
-        """Results have the types of the stub."""
-
-        def kind(it):
-            return "Tuple[%s]" % ", ".join(map(kind, it)) if type(it) is tuple else type(it).__name__
-
-        data = b"\1\7" + bytes(7)  # what both forms decode
-        given = {"Any": bytes(2), "Buffer": data, "Multihash": VALUE, "int": 7}
-        reader, found, kinds = vm._core.Reader(io.BytesIO()), [], []
-        reader._keep(bytes(2))
-        stub = Path(vm.__file__).with_name("_core.pyi").read_text("utf-8")
-        for name, parameters, result in re.findall(r"def (\w+)\((.*)\) -> (?!None|Self|Any)(.*): \.\.\.$", stub, re.M):
-            it = next(getattr(of, name) for of in (VALUE, reader, vm._core) if hasattr(of, name))
-            kinds.append(kind(it(*map(given.get, re.findall(r": (\w+)", parameters))) if callable(it) else it))
-            found.append(re.sub(r"Optional\[(.*)\]", r"\1", result))
-        self.assertEqual(kinds, found)
 
     def test_examples(self):
         text = "\n".join("" if line.startswith("```") else line for line in README.read_text("utf-8").splitlines())

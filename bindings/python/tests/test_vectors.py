@@ -10,16 +10,7 @@ from verified_multihash import MultihashError
 BESIDE = Path(__file__).parent / "verdicts.tsv"
 COLUMNS = "S\tinput\tread\tread_taken\tfrom_bytes\tscale_decode\tscale_taken"
 MORE = bytes(400)
-
-
-def spread(data):
-    """A view of every second byte."""
-    twice = bytearray(2 * len(data))
-    twice[::2] = data
-    return memoryview(twice)[::2]
-
-
-KINDS = (bytes, bytearray, memoryview, spread)
+KINDS = (bytes, bytearray, memoryview)
 
 
 class Counts:
@@ -111,7 +102,7 @@ class Vectors(unittest.TestCase):
         self.check_file(data, size, read, len(data) if read_taken == "-" else int(read_taken))
         self.check_long(data, size, read, taken)
         if is_for_all(read, size):
-            self.assertEqual([shown(vm.decode, kind(data))[0] for kind in KINDS], [whole] * len(KINDS))
+            self.assertEqual(shown(vm.decode, data)[:2], (whole, len(data)))
         if is_for_all(scale, size):
             result, scale_count, form = shown(vm.scale_decode, data)
             self.assertEqual(result, scale)
