@@ -29,6 +29,7 @@ installs() {
   readelf -d "$work"/built/*_test | command grep -cF "[libmultihash_c.so.$major]" | diff - <(echo 1)
   install_built built
   is_installed "$prefix" lib
+  PKG_CONFIG_PATH=$prefix/lib/pkgconfig pkg-config --variable=prefix multihash_c | diff - <(echo "${prefix// /\\ }")
 }
 
 # Below DESTDIR, from where pkg-config has to find it, in other folders, each named from the root; with the program,
@@ -196,7 +197,7 @@ with_flags() {
 
 test_installation() {
   try "building: 1 comparison" build built -DCMAKE_INSTALL_PREFIX="$prefix"
-  try "installing: 11 comparisons" installs
+  try "installing: 12 comparisons" installs
   try "after edits: 5 comparisons" after_edits
   try "installing below a folder: 11 comparisons" installs_below
   try "the portable source: 11 comparisons" from_source

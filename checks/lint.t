@@ -210,7 +210,7 @@ d() {\n  prints 1 2\n}\npart 1 "c c" \\\n  d' $tested
 176 bindings/python/tests
 188 bindings/rust/*.rs
 550 crates/*.rt
-317 checks
+318 checks
 112 bindings/*.sh
 7 tools
 END
