@@ -47,7 +47,7 @@ export class MultihashError extends Error implements Details {
    * `scaleDecode` and `MultihashReader` only then can more input change the result.
    */
   readonly isIncomplete: boolean;
-  /** The same fields as a plain object, which `structuredClone` keeps in most engines. */
+  /** The same fields as a plain object, which `structuredClone` and `postMessage` keep in most engines. */
   readonly cause: Details & { readonly status: Status };
   /**
    * The error of which `value` is a clone, by its `cause`; `value` itself if it is a `MultihashError`; undefined for a

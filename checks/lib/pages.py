@@ -1,9 +1,9 @@
 #!/usr/bin/env python3
-"""Compares what the pages say with the sources.
+"""Compares the pages with the sources: docs/CONTRACTS.md, links, paths, names, versions and limits, what blocks and
+tables show; and runs README.md's commands and programs: mh_show as 'rt ci' built it, if BUILT says so, otherwise
+'rt run' builds it.
 
-It compares CONTRACTS.md with the sources, files, links, and what claims.py, rows.py and examples.py compare, and runs
-README's commands and programs: mh_show as 'rt ci' built it, if BUILT says so, otherwise 'rt run' builds it. The
-differences of pages.edits are planted.
+What a page says in its own words is not compared. Of each comparison one difference, of pages.edits, is planted.
 """
 import difflib
 import os
@@ -15,43 +15,85 @@ from collections.abc import Callable, Iterator
 from functools import cache
 from pathlib import Path
 
-import claims
 import contracts
 import edits
-import examples
-import rows
 import start
 import tap
-from claims import CONTRACTS, FENCE, HEADER, MAN, README, C, read
+import verdicts
 from rt_source import Unread
+from start import FENCE, TOP
 
-TOP = Path(__file__).resolve().parents[2]
-ENDS = (".md", MAN, HEADER)
-BELOW = re.compile(r"(?<![\w./-])(?:\.ci|checks|docs|tools)/[\w./-]*\w")
+README, FORMAT, DIFFERENCES = "README.md", "docs/FORMAT.md", "docs/DIFFERENCES.md"
+CONTRACTS, C, HEADER = "docs/CONTRACTS.md", "bindings/c/README.md", "bindings/c/include/multihash.h"
+MAN, RUST, RULES = "crates/mh_show/mh_show.1", "bindings/rust/multihash", verdicts.rules_of()
+# what a source declares is named on a page
+DECLARED = (
+    (HEADER, r"^(?:static inline )?(?:const char \*|\w+ )(multihash_\w+)\(", C),
+    ("CMakeLists.txt", r"^#   ([A-Z_]+) ", "bindings/c/PACKAGING.md"),
+    ("bindings/js/index.d.ts", r"^export (?:function|class) (\w+)", "bindings/js/README.md"),
+    ("bindings/python/verified_multihash/__init__.py", r"^    ([A-Z_]+) = [1-6]\b", "bindings/python/README.md"),
+    (f"{RUST}/Cargo.toml", r"^([\w-]+) = \[(?:\]|\"\w+\??/|\"dep:)", f"{RUST}/README.md"),
+    ("crates/multihash/src/error.rt", r"pub fn (\w+)\(&self\)", FORMAT),
+    ("crates.txt", r"^(\w+)[: ]", "docs/ARCHITECTURE.md"),
+)
+# a version or a limit as pages state it, and where it is from
+STATED = (
+    (r"Rust (\d[\d.]*\d)", "bindings/rust/Cargo.toml", r'rust-version = "(.*)"'),
+    (r"CMake (\d[\d.]*\d)", "CMakeLists.txt", r"cmake_minimum_required\(VERSION (.*)\)"),
+    (r"CPython (\d\.\d+)\b(?! on)", "bindings/python/pyproject.toml", r'requires-python = ">=(.*)"'),
+    (r"Node\.js (\d+\.\d+)", "bindings/js/package.json", r'"node": ">=(.*)"'),
+    (r"Version (\d[\d.]*\d)", HEADER, r'MULTIHASH_VERSION "(.*)"'),
+    (r"`multihash` (\d[\d.]*\d)", f"{RUST}/Cargo.toml", r'\nversion = "(.*)"'),
+    (r"\| a digest \| 0 to `min\(S, (\d+)\)", HEADER, r"MULTIHASH_DIGEST_MAX (\d+)"),
+    (r"\| an encoding \| 2 to (\d+)", HEADER, r"MULTIHASH_LENGTH_MAX (\d+)"),
+    (r"\| both varints together \| 2 to (\d+)", HEADER, r"MULTIHASH_HEAD_MAX (\d+)"),
+    (r"\| a SCALE form \| 9 to (\d+)", HEADER, r"MULTIHASH_SCALE_LENGTH_MAX (\d+)"),
+)
 Texts = dict[str, str]
+
+
+@cache
+def paths() -> list[str]:
+    """Returns the paths of the repository's files."""
+    command = ["git", "ls-files", "-co", "--exclude-standard"]
+    names = subprocess.run(command, cwd=TOP, capture_output=True, text=True, check=True).stdout
+    return [name for name in names.splitlines() if (TOP / name).exists()]
+
+
+@cache
+def read(path: str) -> str:
+    return (TOP / path).read_bytes().decode("utf-8", "replace")
+
+
+@cache
+def sources() -> str:
+    """Returns what all files have but pages and planted differences, and the paths of all."""
+    return "\n".join([*(read(path) for path in paths() if not path.endswith((".md", ".edits"))), *paths()])
+
+
+def flat(text: str) -> str:
+    return " ".join(text.split())
 
 
 def read_texts() -> Texts:
     """Returns the pages, and the sources that CONTRACTS.md is about."""
-    return {path: read(path) for path in claims.paths() if path.endswith(ENDS)} | contracts.sources()
+    return {path: read(path) for path in paths() if path.endswith(".md") or path == MAN} | contracts.sources()
 
 
 def pages_of(texts: Texts) -> Texts:
-    return {path: text for path, text in texts.items() if path.endswith(ENDS)}
+    return {path: text for path, text in texts.items() if path.endswith(".md") and path != CONTRACTS}
 
 
 def contract_errors(texts: Texts) -> Iterator[str]:
     """Compares CONTRACTS.md with the sources."""
-    sources = {path: texts[path] for path in contracts.sources()}
     try:
-        page = contracts.written_page(sources)
+        page = contracts.written_page({path: texts[path] for path in contracts.sources()})
     except Unread as error:
         yield str(error)
         return
     if texts[CONTRACTS] != page:
         yield "checks/lib/contracts.py writes, if it is meant:"
-        stored, made = texts[CONTRACTS].splitlines(), page.splitlines()
-        yield from difflib.unified_diff(stored, made, lineterm="", n=0)
+        yield from difflib.unified_diff(texts[CONTRACTS].splitlines(), page.splitlines(), lineterm="", n=0)
 
 
 def anchors(text: str) -> set[str]:
@@ -64,57 +106,116 @@ def anchors(text: str) -> set[str]:
     return {*found}
 
 
-def is_named(words: str, link: str, text: str) -> bool:
-    """Returns whether the beginning of a word of a link begins one of its address or of the page's first lines."""
-    found = re.findall(r"[a-z0-9]+", words.lower())
-    return any(
-        re.search(rf"(?:\b|_){it[:5]}", f"{link} {text[:200]}".lower()) for it in found if it not in ("md", "of", "the")
-    )
-
-
 def link_errors(texts: Texts) -> Iterator[str]:
-    """Returns the links that lead to no file, folder or heading of the repository, or to one of another name."""
-    form = re.compile(r"\[([^\]]*)\](?:\(<?|: +)([^\s)>]+)")
-    for page, text in pages_of(texts).items():
-        text = FENCE.sub("", text)
+    """Returns the links that lead to no file, folder or heading of the repository; other addresses are not followed."""
+    for page in [*pages_of(texts), CONTRACTS]:
+        text = FENCE.sub("", texts[page])
         if "```" in text:
             yield f"{page}: a block has no end"
-        for words, link in form.findall(text):
+        for link in re.findall(r"\[[^\]]*\](?:\(<?|: +)([^\s)>]+)", text):
             target, _, anchor = link.partition("#")
-            if re.match(r"[a-z]+:", target):  # other addresses are not followed
+            if re.match(r"[a-z]+:", target):
                 continue
             to = os.path.normpath(os.path.join(os.path.dirname(page), target)) if target else page
             if page == C and target:
                 yield f"{page}: it is installed without {target}"
             if not (TOP / to).exists() or anchor and anchor not in anchors(texts.get(to, "")):
                 yield f"{page}: a link leads nowhere: {link}"
-            if not (is_named(words, anchor, "") if anchor else is_named(words, to, texts.get(to, ""))):
-                yield f"{page}: {link} is not about {words}"
 
 
-def file_errors(texts: Texts, top: Path = TOP) -> Iterator[str]:
-    """Returns the names of files below some folders, in all files, that are gone."""
-    for path in claims.paths():
-        words = {*BELOW.findall(texts.get(path) or read(path))} if not path.endswith(".edits") else set()
-        yield from (f"{path}: there is no {it}" for it in sorted(words) if "NAME" not in it and not (top / it).exists())
+def path_errors(texts: Texts) -> Iterator[str]:
+    """Returns the paths below some folders that a file names, and that are gone; NAME stands for any name."""
+    form = re.compile(r"(?<![\w./-])(?:\.ci|checks|docs|tools)/[\w./-]*\w")
+    for path in paths():
+        for name in {*form.findall(texts.get(path) or read(path))} if not path.endswith(".edits") else ():
+            if "NAME" not in name and not (TOP / name).exists():
+                yield f"{path}: there is no {name}"
 
 
-def output_errors(texts: Texts) -> Iterator[str]:
-    """Compares the output of mh_show that pages show."""
+def name_errors(texts: Texts) -> Iterator[str]:
+    """Returns the calls, and the names of two words or more, in backquotes or in blocks of JavaScript, that no source
+    has. A name after a dot may be another library's."""
+    known = {*re.findall(r"\w+\(?", sources())} | {*re.findall(r"\w+", sources())}
+    for page, text in pages_of(texts).items():
+        blocks = [body for language, body in FENCE.findall(text) if language == "js"]
+        for quote in [*re.findall(r"`([^`]+)`", FENCE.sub("", text)), *blocks]:
+            names = {*re.findall(r"(?<![.\w])[A-Za-z]\w+\(|[A-Za-z]\w*(?:_|[a-z][A-Z])\w+", quote)}
+            if page.startswith(("bindings/", "crates/", "docs/")) and not names <= known:
+                yield f"{page}: no source has {names - known}"
+
+
+def declared_errors(texts: Texts) -> Iterator[str]:
+    """Returns what a source declares and its page does not name, and what is only in this library and not named in
+    DIFFERENCES.md."""
+    for source, form, page in DECLARED:
+        names = {*re.findall(form, read(source), re.M)}
+        missing = [name for name in names if not re.search(rf"(?<![\w-])(?:-D)?{name}(?![\w-])", texts[page])]
+        if missing or not names:
+            yield f"{page} does not name all of {source}: {missing}"
+    public = re.compile(r"^ *pub (?:fn|struct|enum|trait|type|mod|const) (\w+)", re.M)
+    its = {path for path in paths() if path.startswith("crates/multihash/src/")}
+    names = {name for path in its for name in public.findall(read(path)) if not path.endswith(("laws.rt", "pins.rt"))}
+    known = "".join(read(path) for path in paths() if path.startswith(f"{RUST}/src/")) + texts[DIFFERENCES]
+    yield from (f"{DIFFERENCES} does not have {name}" for name in sorted(names - {*re.findall(r"\w+", known)}))
+
+
+def stated_errors(texts: Texts) -> Iterator[str]:
+    """Compares versions and limits of pages with where they are from, and the errors in the page for C."""
+    prose = flat("\n".join(pages_of(texts).values()))
+    for form, source, origin in STATED:
+        found, wanted = {*re.findall(form, prose)}, {*re.findall(origin, read(source))}
+        if found != wanted or len(wanted) != 1:
+            yield f"pages have {sorted(found)}, {source} has {sorted(wanted)}: {form}"
+    said = dict(re.findall(r"case (MULTIHASH_\w+):\s*return \"([^\"]*)\";", read(HEADER)))
+    for name, number in re.findall(r"^ +(MULTIHASH_\w+) = (\d+)", read(HEADER), re.M):
+        if f"| `{name}` | {number} | {said.get(name)} |" not in texts[C]:
+            yield f"{C}: {name} is {number}, {said.get(name)}"
+
+
+def shown_errors(texts: Texts) -> Iterator[str]:
+    """Compares the output of mh_show that pages show, and the Rattle code of CALLING.md, which is from sources."""
     shown = read("crates/mh_show/stdout")
     if ("text", shown) not in FENCE.findall(texts[README]):
-        yield "it shows another output than that of mh_show"
+        yield f"{README} shows another output than that of mh_show"
     if f"$ echo {read('crates/mh_show/stdin').strip()} | mh_show\n{shown}" not in texts[MAN]:
         yield f"{MAN} shows another output"
+    page, known = "crates/multihash/CALLING.md", flat(sources())
+    blocks = [body for language, body in FENCE.findall(texts[page]) if language in ("rust", "text")]
+    for part in "\n\n".join(blocks).split("\n\n"):
+        if flat(part) not in known:
+            yield f"{page}: no source has {part}"
+
+
+def byte_errors(texts: Texts) -> Iterator[str]:
+    """Computes by the rules of verdicts.py what pages show of bytes: varints, results, lines of test vectors."""
+    prose = texts[FORMAT]
+    for number, data in re.findall(r"^\| (\d+) \| `([0-9a-f ]+)` \|$", prose, re.M):
+        if RULES.varint(bytes.fromhex(data), 0)[0] != int(number):
+            yield f"{FORMAT}: {data} is not {number}"
+    for head, table in re.findall(r"^(\|.*\| Consumed \|)\n\|[-:|]+\n((?:\|.*\n)+)", prose, re.M):
+        call = RULES.read if "Verdict" in head else RULES.scale_decode
+        size = int(re.findall(r"`S` = (\d+)", head)[0])
+        for row in table.splitlines():
+            _, _, result, *_, inputs, consumed, _ = (cell.strip() for cell in row.split("|"))
+            for data in re.findall(r"`([^`]*)`", inputs):
+                found, taken = verdicts.result(call, size, bytes.fromhex(data))
+                name = found.split()[0].replace("unexpected_eof", "truncated").replace("_", " ")
+                if name not in result or consumed != str(taken or ""):
+                    yield f"{FORMAT}: {data} is {found}, and {taken} bytes are consumed"
+    page = "crates/vectors/data/README.md"
+    for line in re.findall(r"^\d+\t.*", texts[page], re.M):
+        if line != RULES.line(int(line.split("\t")[0]), bytes.fromhex(line.split("\t")[1])):
+            yield f"{page}: not computed: {line}"
 
 
 def command_errors(texts: Texts) -> Iterator[str]:
     """Runs the commands of README.md, each of which prints what mh_show prints."""
     shown = read("crates/mh_show/stdout")
-    blocks = FENCE.findall(texts[README])
-    commands = [line for language, body in blocks if language == "sh" for line in body.splitlines()]
-    if len(commands) != 2:
-        yield f"it has other commands: {commands}"
+    commands = [
+        line for language, body in FENCE.findall(texts[README]) if language == "sh" for line in body.splitlines()
+    ]
+    if not commands:
+        yield "it has no commands"
     with tempfile.TemporaryDirectory() as work:
         start.copy_repository(copy := Path(work) / "copy")
         for command in commands:
@@ -127,7 +228,7 @@ def command_errors(texts: Texts) -> Iterator[str]:
 
 
 def program_results(texts: Texts) -> Iterator[tap.Result]:
-    """Installs each package and runs its program; plants other outputs, and that there is no clone."""
+    """Installs each package and runs its program; plants a program that fails, a row less and another output."""
     shown = {}
     with tempfile.TemporaryDirectory() as work:
         start.copy_repository(copy := Path(work) / "copy")
@@ -138,8 +239,6 @@ def program_results(texts: Texts) -> Iterator[tap.Result]:
                 continue
             error, shown[program.language] = start.run(program, copy, Path(work) / program.language)
             yield name, error
-            nowhere = start.run(program, Path("none"), Path(work, f"{program.language}0"))
-            yield tap.planted(f"{name}, no clone", nowhere[0])
         fails = start.programs(texts[README])[-1]._replace(install="true", command="false")
         yield tap.planted("a program that fails", start.run(fails, copy, Path(work) / "fails")[0])
     yield "what the programs print", "\n".join(start.judge(texts[README], shown))
@@ -147,69 +246,30 @@ def program_results(texts: Texts) -> Iterator[tap.Result]:
     yield tap.planted("another output", [*start.judge(texts[README], {"C": "code 1, digest hello"})])
 
 
-def of_all_pages(check: Callable[[str, str], Iterator[str]]) -> Callable[[Texts], Iterator[str]]:
-    """Returns the check of all pages by a check of one."""
-
-    @cache
-    def errors_of(page: str, text: str) -> list[str]:
-        try:
-            return [f"{page}: {error}" for error in check(page, text)]
-        except ValueError as wrong:
-            return [f"{page}: {wrong}"]
-
-    return lambda texts: (error for each in pages_of(texts).items() for error in errors_of(*each))
-
-
-OF_A_PAGE = (
-    claims.quote_errors,
-    claims.told_errors,
-    rows.row_errors,
-    rows.status_errors,
-    rows.time_errors,
-    rows.difference_errors,
-    examples.byte_errors,
-)
 CHECKS: dict[str, Callable[[Texts], Iterator[str]]] = {
-    "contract_errors": contract_errors,
-    "link_errors": link_errors,
-    "file_errors": file_errors,
-    "output_errors": output_errors,
-    "number_errors": lambda texts: claims.number_errors(pages_of(texts)),
-    "list_errors": lambda texts: claims.list_errors(pages_of(texts)),
-    "command_errors": command_errors,
-    **{check.__name__: of_all_pages(check) for check in OF_A_PAGE},
+    check.__name__: check
+    for check in (
+        contract_errors,
+        link_errors,
+        path_errors,
+        name_errors,
+        declared_errors,
+        stated_errors,
+        shown_errors,
+        byte_errors,
+        command_errors,
+    )
 }
-
-
-def found(name: str, texts: Texts) -> str:
-    """Returns what a comparison finds."""
-    return "\n".join(CHECKS[name](texts))
-
-
-PHRASES = """2^7; 7.5; 7,500; 7; three; four; five; six; seven; eight; nine; ten; sixteen; hundred; thousand
-MULTIHASH_A_MAX; Not; over"""
-
-
-def planted(texts: Texts) -> Iterator[tap.Result]:
-    """Plants differences, each of which has to be found."""
-    rows_of = [*edits.rows(Path(__file__).with_name("pages.edits"))]
-    yield "each comparison has a planted difference", " ".join(sorted({*CHECKS} - {seen for seen, *_ in rows_of}))
-    for seen, *edit in rows_of:
-        changed = edits.apply(texts, [edits.Edit(*edit)])
-        yield tap.planted(f"{seen}: {' > '.join(edit)}", found(seen, {**texts, **changed}))
-    phrases = re.split("; |\n", PHRASES)
-    unseen = [it for it in phrases if not found("number_errors", {**texts, README: texts[README] + it})]
-    yield "phrases with numbers that no page has", ", ".join(unseen)
-    gone = {error.rpartition(" ")[2] for error in file_errors(texts, Path("none"))}
-    yield "file_errors: no file is there", " ".join({"checks/lint.t", ".ci/run"} - gone)
 
 
 def results() -> Iterator[tap.Result]:
     texts = read_texts()
-    for name in CHECKS:
-        yield name, found(name, texts)
+    for name, check in CHECKS.items():
+        yield name, "\n".join(check(texts))
     yield from program_results(texts)
-    yield from planted(texts)
+    for name, *edit in edits.rows(Path(__file__).with_name("pages.edits")):
+        changed = edits.apply(texts, [edits.Edit(*edit)])
+        yield tap.planted(f"{name}: {' > '.join(edit)}", [*CHECKS[name]({**texts, **changed})])
 
 
 if __name__ == "__main__":

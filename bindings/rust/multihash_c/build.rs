@@ -1,7 +1,7 @@
 //! Finds or makes the C library. The first of these that there is:
 //!
 //! 1. `libmultihash_c.a` in the directory `MULTIHASH_C_LIB_DIR`, an absolute path;
-//! 2. if `MULTIHASH_C_SYSTEM` is set, what pkg-config finds;
+//! 2. if `MULTIHASH_C_SYSTEM` is set, what pkg-config finds, with `MULTIHASH_C_STATIC` the archive;
 //! 3. the archive for the target that comes with the source;
 //! 4. the portable source, compiled by what the crate `cc` finds, as `CC`.
 //!
