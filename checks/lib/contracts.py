@@ -1,6 +1,6 @@
 #!/usr/bin/env python3
-"""Writes docs/CONTRACTS.md: the public items of crates, with the contracts of their functions, and those of bindings,
-and what scripts say of themselves.
+"""Writes docs/CONTRACTS.md: the main theorems, the public items of crates, with the contracts of their functions, and
+the definitions that these cite.
 
 A line is left out or kept, never changed, so no clause and no documentation can change, and no
 public name can go, without a difference in that page. Left out are other comments, bodies and what
@@ -16,34 +16,15 @@ from rt_source import Item, items
 
 TOP = Path(__file__).resolve().parents[2]
 PAGE = TOP / "docs" / "CONTRACTS.md"
-CRATES = ("headline", "multihash", "multihash_c", "mh_show", "storage", "examples")
-# attributes that no caller can see, and first lines of scripts
-OF_BODIES = re.compile(r"#(?:\[(cold|inline|tactic)\b|!/)")
-# the files of the bindings that declare what is public, and what is kept of them
-TO_BODY = r"\A(?s:.+?)(?=\n\{|\s*\Z)"
-BINDINGS = {
-    "bindings/c/include/*.h": TO_BODY,
-    "bindings/c/examples/*.c": r"(?s:/\*.+?\*/)",
-    "bindings/js/*.d.ts": TO_BODY,
-    "bindings/js/demo.html": r"^<(?:title|h\d|p|label|dt|thead|noscript)\b.*(?:\n[^<\n].*)*",
-    "bindings/python/src/*.c": r'^ *(?:\{(?:"(?!_[a-z])\w+"|Py_tp_doc)|static const char ).*(?:\n +".*)*',
-    "bindings/python/verified_multihash/*.py": r'^(?: *(?:class|(?:async )?def) (?!_).*\n +)?"""(?s:.*?)"""$'
-    r"|^ *(?:[A-Z_]+|__version__) = .*",
-    "bindings/python/verified_multihash/*.pyi": TO_BODY,
-    "bindings/rust/*/src/*.rs": r"^//!.*|(?:^ *///.*\n)*(?:^ *#\[.*\n)*^ *pub .*"
-    r"|(?:^ *///.*\n)+(?:^ *#\[.*\n)*^ *(?:impl|fn .*self|[A-Z]\w+[(,]).*",
-}
-# of scripts the usage and the errors
-ERRORS = r"\b(?:CACHE|assert|exit|fail|message|panic|raise|throw)\b|\b(?:need|option)\(|>&2"
-SCRIPT = rf'\A(?:(?:#|//).*\n)*(?:"""(?s:.+?)""")?|^.*(?:{ERRORS}).*'
-SCRIPTS = ".ci/run CMakeLists.txt tools/* bindings/*/*.cmake bindings/*/*.py bindings/*/*.sh bindings/*/b*.js"
-BINDINGS |= dict.fromkeys([*SCRIPTS.split(), "bindings/*/*/*.sh", "bindings/*/*/build.rs"], SCRIPT)
+CRATES = ("headline", "multihash", "multihash_c", "mh_show")
+# attributes that no caller can see
+OF_BODIES = re.compile(r"#\[(cold|inline|tactic)\b")
 INTRODUCTION = """\
 # Contracts
 
 Written by `checks/lib/contracts.py`, and compared with the sources in CI: the main theorems, then
-the public items of these crates and of the bindings, as they stand in their files, without bodies, and
-the usage and errors of scripts. A difference here is a changed promise.
+the public items of the library, of its part for C and of `mh_show`, as they stand in their files, without bodies.
+A difference here is a changed promise.
 [What contracts see](../crates/multihash/CALLING.md#what-contracts-see) says how to read a clause; its
 [words](#words) are at the end.
 
@@ -139,22 +120,13 @@ def section_of(path: str, text: str) -> str:
     return f"\n### [{path}](../{path})\n\n{description}\n\n```text\n{block}\n```\n" if block else ""
 
 
-def binding_section(path: str, text: str, form: str) -> str:
-    """Returns the section of a file of a binding, which is empty if nothing in it has the form."""
-    lines = "\n".join(re.findall(form, text, re.M)).splitlines()
-    block = "\n".join(line for line in lines if not OF_BODIES.match(line.strip()))
-    return f"\n### [{path}](../{path})\n\n```text\n{block}\n```\n" if block else ""
-
-
 def sources() -> dict[str, str]:
-    """Returns the text of each file of the crates, of their definitions, and of the bindings' declarations."""
+    """Returns the text of each file of the crates and of their definitions."""
     paths: list[Path] = []
     for crate in CRATES:
         paths += sorted((TOP / "crates" / crate / "src").rglob("*.rt"))
     for crate in sorted(CRATES):
         paths += sorted((TOP / "crates" / crate / "specs").glob("*.antt"))
-    for files in BINDINGS:
-        paths += sorted(TOP.glob(files))
     return {str(path.relative_to(TOP)): path.read_text("utf-8") for path in paths}
 
 
@@ -186,9 +158,6 @@ def written_page(texts: dict[str, str]) -> str:
             page += f"\n## {crate}\n" if crate != last else ""
             page += section_of(path, text)
             last = crate
-    page += "\n## bindings and scripts\n"
-    for files, form in BINDINGS.items():
-        page += "".join(binding_section(path, text, form) for path, text in texts.items() if Path(path).match(files))
     page += "\n## Words\n\nThose of clauses and of other definitions, by the files that define them.\n"
     for path, text in texts.items():
         rows = [*word_rows(text)] if not path.endswith("/Private.antt") else []
