@@ -4,7 +4,7 @@
 # valgrind, with all warnings as errors; and runs the examples.
 # shellcheck source=checks/lib/tap.sh
 . "$(dirname "$0")/lib/tap.sh"
-plan 35 cc python3 rt
+require cc python3 rt
 # shellcheck source=checks/lib/proved.sh
 . checks/lib/proved.sh
 # shellcheck source=checks/lib/warnings.sh
@@ -73,7 +73,7 @@ planted_archive() {
 
 # A test in C calls each function that the header declares.
 calls_each() {
-  checks/header.t --exports | comm -23 - <(command grep -ohw 'multihash_[a-z_]*' "$c"/tests/{test,models}.c | sort) |
+  checks/header.t --exports | comm -23 - <(grep -ohw 'multihash_[a-z_]*' "$c"/tests/{test,models}.c | sort) |
     diff /dev/null -
 }
 
@@ -81,7 +81,7 @@ look_at_library() {
   try exports exports_exactly "$library"
   try needs needs_copies_alone "$library"
   try state writes_nothing "$library"
-  try "a planted archive: 6 comparisons" planted_archive
+  try "a planted archive" planted_archive
 }
 
 # ---- the header
@@ -145,7 +145,7 @@ test_compilers() {
     needs=$name
     try "$name, header alone" stands_alone "$c/include" "${compile[@]}"
     try "$name, plain" build_and_run "$name" "" "${compile[@]}" -O2 "${tests[@]}" -x none "$library"
-    try "$name, address and undefined-behaviour sanitizers: 3 comparisons" sanitized "$name-san" "${compile[@]}"
+    try "$name, address and undefined-behaviour sanitizers" sanitized "$name-san" "${compile[@]}"
   done
 }
 
@@ -201,26 +201,26 @@ wrong_fields='s/^static stream_result/static unsigned turn;\n&/; s/> from->limit
 # ---- all of it
 
 try "static library" build_library
-try "the prebuilt archives: 2 comparisons" prebuilt_archives "$top"
-try "planted archives of them: 4 comparisons" planted_prebuilt
+try "the prebuilt archives" prebuilt_archives "$top"
+try "planted archives of them" planted_prebuilt
 needs="nm objdump ar" look_at_library
-try "tests of the exports: 1 comparison" calls_each
+try "tests of the exports" calls_each
 test_compilers
-try "planted headers: 2 comparisons" planted_header
-try "warnings: 9 comparisons" warns_of cc "strict-prototypes missing-prototypes"
-needs=c++ try "warnings of C++: 7 comparisons" warns_of c++ ""
+try "planted headers" planted_header
+try "warnings" warns_of cc "strict-prototypes missing-prototypes"
+needs=c++ try "warnings of C++" warns_of c++ ""
 try "a read after an input" rejects heap-buffer-overflow faulty "" "$overread" "${sanitize[@]}"
 try "a sum that is too large" rejects "signed integer overflow" faulty "" most++ "${sanitize[@]}"
 try "each check of the tests" prints "checks: 5840978, wrong: 0, results: 15d214b5913fd1ee" "$work/cc" "$list" 1 2000
-try "wrong results: 1 comparison" wrong_results "checks: 5806434, wrong: 680689, results: 42b1a27f6e0c1358"
+try "wrong results" wrong_results "checks: 5806434, wrong: 680689, results: 42b1a27f6e0c1358"
 # each access of the library, which the compilers' sanitizers do not see
 needs=valgrind try valgrind build_and_run valgrind "${valgrind[*]}" cc "${c_flags[@]}" "${heap[@]}" "${tests[@]}" \
   "$library"
 needs=valgrind try "a read that valgrind sees" rejects "Invalid read" faulty "${valgrind[*]}" "$overread" "${heap[@]}"
-needs=qemu-x86_64 try "a processor of the baseline: 7 comparisons" old_processor
+needs=qemu-x86_64 try "a processor of the baseline" old_processor
 # what is counted beside the library
 try "C by hand" by_hand plain
 try "fast C by hand" by_hand fast
-try "the example of the page: 1 comparison" example_in
-try "the reader of a stream: 3 comparisons" stream_example "" "checks: 22421, wrong: 0"
-try "wrong results of it: 3 comparisons" stream_example "$wrong_fields" "checks: 20969, wrong: 4531" -DFAULTS=1
+try "the example of the page" example_in
+try "the reader of a stream" stream_example "" "checks: 22421, wrong: 0"
+try "wrong results of it" stream_example "$wrong_fields" "checks: 20969, wrong: 4531" -DFAULTS=1

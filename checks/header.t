@@ -251,7 +251,7 @@ def main() -> int:
         _, text = preprocessed(read_files()[HEADER], "c")
         print("\n".join(sorted(re.findall(r"(\w+)\([^()]*\);", text))))
         return 0
-    return tap.report(results(), 24)
+    return tap.report(results())
 
 
 if __name__ == "__main__":

@@ -3,7 +3,7 @@
 # pages and the packages for Rust, of the archives, in emulators for aarch64 and Windows, and of the portable source.
 # shellcheck source=checks/lib/tap.sh
 . "$(dirname "$0")/lib/tap.sh"
-plan 19 cc cmake python3 readelf pkg-config
+require cc cmake python3 readelf pkg-config
 # shellcheck source=checks/lib/installed.sh
 . checks/lib/installed.sh
 # shellcheck source=checks/lib/warnings.sh
@@ -26,7 +26,7 @@ install_built() { cmake --install "$work/$1" "${@:2}"; }
 installs() {
   sed -n 's/.* lines, drawn: \(.*\), checks.*/\1/p' "$work/built/Testing/Temporary/LastTest.log" |
     diff - <(printf '%s\n' 100000 100000)
-  readelf -d "$work"/built/*_test | command grep -cF "[libmultihash_c.so.$major]" | diff - <(echo 1)
+  readelf -d "$work"/built/*_test | grep -cF "[libmultihash_c.so.$major]" | diff - <(echo 1)
   install_built built
   is_installed "$prefix" lib
   PKG_CONFIG_PATH=$prefix/lib/pkgconfig pkg-config --variable=prefix multihash_c | diff - <(echo "${prefix// /\\ }")
@@ -90,7 +90,7 @@ machines() {
   gets FreeBSD x86_64 "" OFF ON
   gets Generic aarch64 "" OFF OFF
   CC=clang gets Windows AMD64 --target=x86_64-pc-windows-msvc OFF ON
-  command grep -rhoE '\w*multihash_c(_shared)?\.lib|exports\.def' "$work"/machine.Windows*/CMakeFiles | sort -u |
+  grep -rhoE '\w*multihash_c(_shared)?\.lib|exports\.def' "$work"/machine.Windows*/CMakeFiles | sort -u |
     diff <(printf '%s\n' exports.def multihash_c{,_shared}.lib) -
 }
 
@@ -196,18 +196,18 @@ with_flags() {
 }
 
 test_installation() {
-  try "building: 1 comparison" build built -DCMAKE_INSTALL_PREFIX="$prefix"
-  try "installing: 12 comparisons" installs
-  try "after edits: 5 comparisons" after_edits
-  try "installing below a folder: 11 comparisons" installs_below
-  try "the portable source: 11 comparisons" from_source
-  try "packing: 23 comparisons" packs
-  try "planted differences: 90 comparisons" planted_prefix
-  try "the installed test of planted files: 8 comparisons" planted_test
+  try "building" build built -DCMAKE_INSTALL_PREFIX="$prefix"
+  try "installing" installs
+  try "after edits" after_edits
+  try "installing below a folder" installs_below
+  try "the portable source" from_source
+  try "packing" packs
+  try "planted differences" planted_prefix
+  try "the installed test of planted files" planted_test
   try "the installed test of nothing" rejects "no multihash_c.pc" bindings/c/examples/test.sh "$work/none"
-  needs=clang try "other machines: 7 comparisons" machines
-  needs=/lib64/ld-linux-x86-64.so.2 try "x86-64 with 32 bits: 1 comparison" gets Linux x86_64 -m32 OFF ON
-  try "flags of a distribution: 8 comparisons" with_flags
+  needs=clang try "other machines" machines
+  needs=/lib64/ld-linux-x86-64.so.2 try "x86-64 with 32 bits" gets Linux x86_64 -m32 OFF ON
+  try "flags of a distribution" with_flags
 }
 
 # ---- programs
@@ -282,8 +282,8 @@ man_pages() {
   mandoc -T lint man3/multihash.3 "$top/crates/mh_show/mh_show.1"
   grep -Lx '.so man3/multihash.3' man3/* | diff <(echo man3/multihash.3) -
   sed -n 's/^\.Nm \(\S*\).*/\1.3/p' man3/multihash.3 | sort | diff <(ls man3) -
-  diff <(command grep -cE '^\.(It|Pp|Ss|Sh D)' man3/multihash.3) \
-    <(command grep -cE '^ *(/\*|\*($| Err|  - ))' "$header")
+  diff <(grep -cE '^\.(It|Pp|Ss|Sh D)' man3/multihash.3) \
+    <(grep -cE '^ *(/\*|\*($| Err|  - ))' "$header")
   sed '/^\.Bd/,/^\.Ed/d; /^\.F/d' man3/multihash.3 "$top/crates/mh_show/mh_show.1" | tr -cd '`*' | diff /dev/null -
   page=$(mandoc -T utf8 man3/multihash.3 | sed 's/.\x08//g' | tr -cs '[:alnum:],' ' ')
   { date -d "$released" '+%B %-d, %Y'
@@ -322,7 +322,6 @@ END
 
 # Runs a command of Cargo for the packages for Rust; what is set comes first.
 in_crate() {
-  printf . >> "$work/compared"
   env -u MULTIHASH_C_LIB_DIR MULTIHASH_C_SYSTEM=1 RUSTFLAGS="-D warnings" bindings/rust/offline.sh "$work" "$@"
 }
 
@@ -335,14 +334,14 @@ rust_crate() {
 }
 
 test_programs() {
-  try "a project of CMake: 16 comparisons" by_find_package
-  try "a folder of a project of CMake: 6 comparisons" by_subdirectory
-  needs=go try "Go: 1 comparison" in_go
-  needs=mandoc try "man pages: 25 comparisons" pages
-  needs="cargo $crates" try "the packages for Rust, as installed: 3 comparisons" rust_crate
+  try "a project of CMake" by_find_package
+  try "a folder of a project of CMake" by_subdirectory
+  needs=go try "Go" in_go
+  needs=mandoc try "man pages" pages
+  needs="cargo $crates" try "the packages for Rust, as installed" rust_crate
 }
 
 test_installation
 test_programs
-needs="aarch64-linux-gnu-gcc qemu-aarch64" try "building for aarch64: 2 comparisons" builds_for_aarch64
-needs="x86_64-w64-mingw32-gcc wine" try "building for Windows: 1 comparison" builds_for_windows
+needs="aarch64-linux-gnu-gcc qemu-aarch64" try "building for aarch64" builds_for_aarch64
+needs="x86_64-w64-mingw32-gcc wine" try "building for Windows" builds_for_windows

@@ -128,4 +128,4 @@ def results(work: Path) -> Iterator[tap.Result]:
 
 if __name__ == "__main__":
     with tempfile.TemporaryDirectory(prefix="memory-") as folder:
-        sys.exit(tap.report(results(Path(folder)), 29))
+        sys.exit(tap.report(results(Path(folder))))

@@ -1,4 +1,3 @@
 #!/usr/bin/env bash
 # What the pages say, README.md's programs, and that docs/CONTRACTS.md is what the sources say.
-echo 1..33
 exec "$(dirname "$0")/lib/pages.py"

@@ -4,7 +4,7 @@
 # sanitizers, on other machines in emulators, and against the archive's results.
 # shellcheck source=checks/lib/tap.sh
 . "$(dirname "$0")/lib/tap.sh"
-plan 19 cc python3
+require cc python3
 # shellcheck source=checks/lib/proved.sh
 . checks/lib/proved.sh
 # shellcheck source=checks/lib/warnings.sh
@@ -54,8 +54,8 @@ END
 # What is made on the way is kept for the planted cases.
 test_generated() {
   try "the generated file" tools/generate --check source
-  try "a wrong byte of it: 2 comparisons" planted_generated
-  try "planted steps: 10 comparisons" planted_steps
+  try "a wrong byte of it" planted_generated
+  try "planted steps" planted_steps
 }
 
 # ---- on this machine
@@ -162,15 +162,15 @@ END
 }
 
 test_here() {
-  try "two files: 7 comparisons" two_files
+  try "two files" two_files
   try "two files of another source" another_source
   test_compiler cc
   needs="all clang" test_compiler clang
-  needs="clang llvm-nm" try "objects without a C library: 5 comparisons" freestanding "$tree"
+  needs="clang llvm-nm" try "objects without a C library" freestanding "$tree"
   needs="clang llvm-nm" try "one of them that needs another function" rejects "> another" another_function
-  needs="nm objdump" try "what the object needs: 2 comparisons" keeps_no_state "$work/cc/multihash.o"
-  needs="nm objdump" try "objects with state: 14 comparisons" planted_state
-  try "planted source: 10 comparisons" planted_source
+  needs="nm objdump" try "what the object needs" keeps_no_state "$work/cc/multihash.o"
+  needs="nm objdump" try "objects with state" planted_state
+  try "planted source" planted_source
 }
 
 # ---- other machines

@@ -168,4 +168,4 @@ def results(folder: str) -> Iterator[tap.Result]:
 
 if __name__ == "__main__":
     with tempfile.TemporaryDirectory(prefix="rejected-") as work:
-        sys.exit(tap.report(results(work), 415))
+        sys.exit(tap.report(results(work)))

@@ -2,7 +2,7 @@
 # The packages for Debian, and what is released: files, what they say of themselves, and programs built against them.
 # shellcheck source=checks/lib/tap.sh
 . "$(dirname "$0")/lib/tap.sh"
-plan 10 cc cmake python3=3.11+ readelf pkg-config dpkg-buildpackage dh lintian /lib64/ld-linux-x86-64.so.2
+require cc cmake python3=3.11+ readelf pkg-config dpkg-buildpackage dh lintian /lib64/ld-linux-x86-64.so.2
 # shellcheck source=checks/lib/installed.sh
 . checks/lib/installed.sh
 
@@ -79,12 +79,12 @@ try_packages() {
 }
 
 test_packages() {
-  try "building packages: 1 comparison" build_packages amd64
+  try "building packages" build_packages amd64
   try "warnings of them" lint_packages "$work"/debian-amd64/*.changes
-  try "a planted package: 3 comparisons" planted_package
-  try "a function of a later version: 5 comparisons" later_function
-  try "packages for amd64: 9 comparisons" has_packages "$work/debian-amd64" amd64 x86_64-linux-gnu
-  needs=qemu-x86_64 try "a program by the packages for amd64: 3 comparisons" try_packages amd64 x86_64-linux-gnu cc \
+  try "a planted package" planted_package
+  try "a function of a later version" later_function
+  try "packages for amd64" has_packages "$work/debian-amd64" amd64 x86_64-linux-gnu
+  needs=qemu-x86_64 try "a program by the packages for amd64" try_packages amd64 x86_64-linux-gnu cc \
     qemu-x86_64
 }
 
@@ -182,12 +182,12 @@ END
 
 test_release() {
   local emulator="qemu-aarch64 -L /usr/aarch64-linux-gnu"
-  try "a release: 45 comparisons" releases
-  CC=aarch64-linux-gnu-gcc RUN=$emulator try "the installed test of that for aarch64: 1 comparison" \
+  try "a release" releases
+  CC=aarch64-linux-gnu-gcc RUN=$emulator try "the installed test of that for aarch64" \
     installed_test "$work/multihash_c-$version-aarch64"
-  try "packages for arm64: 9 comparisons" has_packages "$work/release" arm64 aarch64-linux-gnu
+  try "packages for arm64" has_packages "$work/release" arm64 aarch64-linux-gnu
   # shellcheck disable=SC2086
-  try "a program by the packages for arm64: 3 comparisons" try_packages arm64 aarch64-linux-gnu aarch64-linux-gnu-gcc \
+  try "a program by the packages for arm64" try_packages arm64 aarch64-linux-gnu aarch64-linux-gnu-gcc \
     $emulator
 }
 

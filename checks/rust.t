@@ -3,13 +3,12 @@
 # serde; and their build script.
 # shellcheck source=checks/lib/tap.sh
 . "$(dirname "$0")/lib/tap.sh"
-plan 11 cc cargo rustc=1.82+ /usr/share/cargo/registry/{cc-1,pkg-config-0.3,serde_json-1}.*
+require cc cargo rustc=1.82+ /usr/share/cargo/registry/{cc-1,pkg-config-0.3,serde_json-1}.*
 archive=bindings/c/prebuilt/$(uname -m)/libmultihash_c.a
 version=$(sed -n 's/^#define MULTIHASH_VERSION "\([0-9.]*\)"$/\1/p' bindings/c/include/multihash.h)
 
 # Runs a command of Cargo for the packages for Rust, and counts it; what is set comes first.
 in_crate() {
-  printf . >> "$work/compared"
   CARGO_NET_OFFLINE=true KEEP=1 RUSTFLAGS="-D warnings" RUSTDOCFLAGS="-D warnings" bindings/rust/offline.sh "$work" "$@"
 }
 
@@ -223,14 +222,14 @@ rust_build() {
   rejects "not an absolute path" in_crate MULTIHASH_C_SYSTEM=1 MULTIHASH_C_LIB_DIR=prebuilt cargo build
 }
 
-try "the tests: 9 comparisons" rust_binding
-try "the portable source: 19 comparisons" rust_source
-needs=clang try "the portable source for other targets: 15 comparisons" rust_targets
-try "the packed packages: 7 comparisons" rust_packed
-needs=$archive try "the build script: 13 comparisons" rust_build
-try "the switch from upstream's package: 10 comparisons" rust_switch
-try "serde: 7 comparisons" rust_serde
-needs=cargo-clippy try "lints: 2 comparisons" rust_lints
-needs=cargo-clippy try "a warning of each command: 22 comparisons" planted_warnings
-needs="python3=3.11+ valgrind /lib64/ld-linux-x86-64.so.2" try "instructions: 4 comparisons" rust_counts
-try "faults: 6 comparisons" planted_faults
+try "the tests" rust_binding
+try "the portable source" rust_source
+needs=clang try "the portable source for other targets" rust_targets
+try "the packed packages" rust_packed
+needs=$archive try "the build script" rust_build
+try "the switch from upstream's package" rust_switch
+try "serde" rust_serde
+needs=cargo-clippy try "lints" rust_lints
+needs=cargo-clippy try "a warning of each command" planted_warnings
+needs="python3=3.11+ valgrind /lib64/ld-linux-x86-64.so.2" try "instructions" rust_counts
+try "faults" planted_faults

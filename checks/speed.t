@@ -1,4 +1,3 @@
 #!/usr/bin/env bash
 # The instructions of each call of crates/speed and from C; that docs/SPEED.md has these numbers.
-echo 1..12
 exec "$(dirname "$0")/lib/speed.py"

@@ -5,7 +5,7 @@
 here=$(dirname "$(readlink -f "${BASH_SOURCE[0]}")")
 # shellcheck source=checks/lib/tap.sh
 . "$here/../../checks/lib/tap.sh"
-plan 19 cc /usr/bin/python3
+require cc /usr/bin/python3
 archive=$PWD/bindings/c/prebuilt/$(uname -m)/libmultihash_c.a
 clone=$work/clone
 python=$work/venv/bin/python
@@ -202,20 +202,20 @@ types() {
 }
 
 /usr/bin/python3 -c 'import _testcapi, build, setuptools, venv, wheel' 2> "$work/log" ||
-  all_need=python3-build+setuptools+venv+wheel
-try "the sdist and the wheel, built twice: 1 comparison" builds
-needs="objcopy ar" try "archives: 2 comparisons" looks_at_archive
+  required=python3-build+setuptools+venv+wheel
+try "the sdist and the wheel, built twice" builds
+needs="objcopy ar" try "archives" looks_at_archive
 try "an environment" /usr/bin/python3 -m venv --clear --system-site-packages "$work/venv"
 try "the wheel, installed" imports "$work"/dist/*.whl
-needs="nm" try "no state: 1 comparison" keeps_nothing
+needs="nm" try "no state" keeps_nothing
 numbered=$work/venv/lib/python3.11
-needs=$numbered try "the tests: 2 comparisons" all_tests
-needs="mypy stubtest" try "types: 2 comparisons" types
-try "the times beside plain Python: 6 comparisons" beside_plain
+needs=$numbered try "the tests" all_tests
+needs="mypy stubtest" try "types" types
+try "the times beside plain Python" beside_plain
 try "the folder, installed" imports "$here"
 needs="objcopy ar" try "an archive of another version" other_version
-try "an altered archive: 7 comparisons" altered_archive
-try "the sdist, installed, the portable source: 3 comparisons" sdist
+try "an altered archive" altered_archive
+try "the sdist, installed, the portable source" sdist
 try "sanitizers" under_sanitizers "$work/sdist"
 needs=$numbered try "a write after a block" rejects "bad trailing pad byte" planted_write
 try "a warning" rejects "conversion]" planted_warning '1s/^/signed char planted(long more) { return more; }\n/' \
@@ -223,4 +223,4 @@ try "a warning" rejects "conversion]" planted_warning '1s/^/signed char planted(
 try "a warning of setuptools" rejects "option: 'more'" planted_warning 's/license=/more=0, &/' setup.py
 try "a read after the end of the input" rejects AddressSanitizer planted_read
 try "a shift that is too large" rejects "runtime error: shift exponent" planted_shift
-needs="$numbered nm" try "faults: 3 comparisons" planted_faults
+needs="$numbered nm" try "faults" planted_faults

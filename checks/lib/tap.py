@@ -12,24 +12,16 @@ SKIP = "# SKIP "
 CRATES = Path(__file__).resolve().parents[2] / "crates"
 
 
-def report(results: Iterable[Result], plan: int = 0) -> int:
-    """Prints the plan, if there is one, and results as they come.
-
-    Returns the exit status: without a result it is 1 too. Two results with one name are a failure.
-    """
-    if plan:
-        print(f"1..{plan}", flush=True)
+def report(results: Iterable[Result]) -> int:
+    """Prints results as they come, and then the plan. Returns the exit status: without a result it is 1 too."""
     failed = number = 0
-    names: set[str] = set()
     for number, (what, error) in enumerate(results, 1):
-        error = "a second result of this name" if what in names else error
-        names.add(what)
         failed += bool(error)
         name, skip, why = what.replace("\n", " ").partition(SKIP)
-        result = "not ok" if error else "ok"
-        print(f"{result} {number} - {name.replace('#', '')}{skip}{why}", flush=True)
+        print(f"{'not ok' if error else 'ok'} {number} - {name.replace('#', '')}{skip}{why}", flush=True)
         for line in error.splitlines():
             print(f"#   {line}", file=sys.stderr, flush=True)
+    print(f"1..{number}")
     return 1 if failed or not number else 0
 
 

@@ -1,85 +1,62 @@
 # shellcheck shell=bash
-# Prints results as TAP, for prove. A script that sources this is at the top of the repository then, and says first how
-# many checks it makes, 'plan N'. Its status is 1 if one failed, or another number was made. A command that fails ends
-# its check, and outside of one the script: lint.t rejects what bash would go on after.
+# Prints results as TAP, for prove. A script that sources this is at the top of the repository then. A command that
+# fails ends its check, and outside of one the script: lint.t rejects what bash would go on after. The last line that is
+# printed is the plan, so a script that ends early has none.
 #
-#   plan N TOOL..           without one of these tools all checks are left out
-#   needs="TOOL.." try ..   without one of these this one is
-#   ALL=1                   the tool 'all' is there; .ci/run fails where something is left out
+#   try NAME COMMAND..             a check
+#   needs="TOOL.." try ..          is left out without one of these tools
+#   require TOOL..                 all checks are
+#   prints TEXT COMMAND..          in a check: the command ends with status 0, and prints the text
+#   rejects TEXT COMMAND..         it ends with another status
+#   ALL=1                          the tool 'all' is there; .ci/run fails where something is left out
 set -euo pipefail
 shopt -s inherit_errexit
 cd "$(dirname "${BASH_SOURCE[0]}")/../.."
 export LC_ALL=C.UTF-8
-planned=0 number=0 failed=0 names=$'\n' all_need="" needs=""
+number=0 failed=0 required="" needs=""
 work=$(mktemp -d)
 
 finish() {
   local ended=$?
   rm -rf "$work"
-  exit $((ended || failed || number != planned))
+  [ $ended != 0 ] || echo "1..$number"
+  exit $((ended || failed || number == 0))
 }
 trap finish EXIT
 
-plan() {
-  planned=$1 all_need=${*:2}
-  echo "1..$1"
-}
+require() { required=$*; }
 
-# Each comparison is counted.
-cmp() { compared cmp "$@"; }
-diff() { compared diff "$@"; }
-grep() { compared grep "$@"; }
-compared() {
-  printf . >> "$work/compared"
-  command "$@"
-}
-
-# Runs a command, and prints its result; if it fails also what it printed. A name may end in the number of its
-# comparisons, as 'a folder: 3 comparisons', which are its calls of cmp, diff, grep, prints and rejects. There is no
-# second check of the same name.
 try() {
-  local - name=$1 tool ended made result=ok
-  for tool in $all_need $needs; do
+  local - tool ended result=ok
+  number=$((number + 1))
+  for tool in $required $needs; do
     # shellcheck disable=SC2310 # what it says is its status
-    is_there "$tool" > "$work/log" || { leave_out "$tool is not there"; return; }
+    is_there "$tool" > "$work/log" || { echo "ok $number - $1 # SKIP $tool is not there"; return; }
   done
-  : > "$work/compared"
   set +e
   (set -e; "${@:2}") > "$work/log" 2>&1
   ended=$?
-  made=$(wc -c < "$work/compared")
-  if [[ $name =~ ([0-9]+)\ comparisons?$ && ${BASH_REMATCH[1]} != "$made" ]]; then
-    echo "it made $made" >> "$work/log"
-    ended=1
-  fi
-  name=${name//'#'/} name=${name//$'\n'/ }
-  [[ $ended = 0 && $names != *$'\n'"$name"$'\n'* ]] || result="not ok" failed=1
-  names+=$name$'\n'
-  number=$((number + 1))
-  echo "$result $number - $name"
+  [ $ended = 0 ] || result="not ok" failed=1
+  echo "$result $number - $1"
   [ $ended = 0 ] || sed 's/^/# /' "$work/log" >&2
 }
 
-# Commands that must end with status 0, or with another, and print a text.
 prints() { ends 0 "$@"; }
-rejects() { ends '[!0]*' "$@"; }
+rejects() { ends 1 "$@"; }
 ends() {
-  local - ended found printed
+  local - failed printed
   printed=$(mktemp -p "$work")
   set +e
   (set -e; "${@:3}") > "$printed" 2>&1
-  ended=$?
-  grep -F -- "$2" "$printed"
-  found=$?
-  # shellcheck disable=SC2053 # a pattern
-  [[ $ended = $1 && $found = 0 ]] && return
-  echo "status $ended, or without the text: $2"
+  failed=$(($? != 0))
+  if [ $failed = "$1" ] && grep -qF -- "$2" "$printed"; then return; fi
+  echo "status $failed, or without the text: $2"
   cat "$printed"
   return 1
 }
 
 # Each line of the standard input, 'TEXT|EDIT', is a shell command in a copy of a folder, "$work/planted", after which a
-# command must end with another status than 0 and print the text.
+# command has to fail and print the text.
 rejects_edits() {
   local text edit
   while IFS='|' read -r text edit; do
@@ -92,13 +69,6 @@ rejects_edits() {
 
 # The first block of a page in a language.
 block_of() { awk -v fence="\`\`\`$2" '$0 == fence { on = 1; next } on && /^```/ { exit } on' "$1"; }
-
-# Leaves a check out, and says why.
-leave_out() {
-  number=$((number + 1))
-  echo "# left out: $1" >&2
-  echo "ok $number # SKIP $1"
-}
 
 # Whether a tool is there: NAME, NAME=VERSION, NAME=VERSION+ for later ones too, or a path.
 is_there() {
