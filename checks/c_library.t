@@ -166,12 +166,12 @@ old_processor() {
   done
 }
 
-# The tests count what is wrong in results of the portable source, and in vectors.
-wrong_results() {
-  sed -f "$c/tests/faults.sed" "$c/src/multihash.c" > "$work/multihash.c"
-  cc -DFAULTS=300 -DHEAP -I "$c/include" -I "$c/src" "$work/multihash.c" "${tests[@]}" -o "$work/faults"
-  sed '1s/S/T/; 2s/$/\tmore/; 3000s/invalid_size/overflow/' "$list" > "$work/wrong.tsv"
-  prints "$1" "$work/faults" "$work/wrong.tsv" 1 2000
+# The tests of a folder's portable source, and of its reader of a stream, which is installed.
+source_tests() {
+  cc -O1 -I "$c/include" "$1/src/multihash.c" "${tests[@]}" -o "$work/of_source"
+  "$work/of_source" "$list" 1 2000
+  cc -I "$c/include" -I "$1/examples" "$c/tests/stream.c" "$1/src/multihash.c" -o "$work/of_stream"
+  "$work/of_stream"
 }
 
 # C by hand, with a later header.
@@ -183,20 +183,12 @@ by_hand() {
 # The example of the page is the one that is installed.
 example_in() { block_of bindings/c/README.md c | diff bindings/c/examples/show.c -; }
 
-# The reader of a stream that is installed, after an edit, over pipes that are cut at each byte.
+# The reader of a stream that is installed, over pipes that are cut at each byte.
 stream_example() {
-  sed "$1" bindings/c/examples/stream.c > "$work/stream.c"
-  cc "${c_flags[@]}" "${sanitize[@]}" -I "$c/include" -I "$work" "${@:3}" "$c/tests/stream.c" "$library" \
-    -o "$work/stream"
+  cc "${c_flags[@]}" "${sanitize[@]}" -I "$c/include" -I "$c/examples" "$c/tests/stream.c" "$library" -o "$work/stream"
   is_sanitized stream
-  prints "$2, results: 2c9fec322b3b0f2c" "$work/stream"
+  "$work/stream"
 }
-
-# Its results are wrong by turns; it has another limit, and ends at a signal.
-wrong_fields='s/^static stream_result/static unsigned turn;\n&/; s/> from->limit/> 255/; s/errno != EINTR/1/
-  s/from->is_whole = !.*/&\n    if (++turn % 8 < 6) ((uint64_t *)found)[turn % 8] ^= 1;/
-  s/^ *return is_/    if (turn % 8 > 5) (turn % 2 == 0 ? from->have-- : from->bytes[0]++);\n&/
-  s/return is_/return turn % 9 == 0 ? (stream_result)(turn % 5) : is_/'
 
 # ---- all of it
 
@@ -211,8 +203,6 @@ try "warnings" warns_of cc "strict-prototypes missing-prototypes"
 needs=c++ try "warnings of C++" warns_of c++ ""
 try "a read after an input" rejects heap-buffer-overflow faulty "" "$overread" "${sanitize[@]}"
 try "a sum that is too large" rejects "signed integer overflow" faulty "" most++ "${sanitize[@]}"
-try "each check of the tests" prints "checks: 5840978, wrong: 0, results: 15d214b5913fd1ee" "$work/cc" "$list" 1 2000
-try "wrong results" wrong_results "checks: 5806434, wrong: 680689, results: 42b1a27f6e0c1358"
 # each access of the library, which the compilers' sanitizers do not see
 needs=valgrind try valgrind build_and_run valgrind "${valgrind[*]}" cc "${c_flags[@]}" "${heap[@]}" "${tests[@]}" \
   "$library"
@@ -222,5 +212,5 @@ needs=qemu-x86_64 try "a processor of the baseline" old_processor
 try "C by hand" by_hand plain
 try "fast C by hand" by_hand fast
 try "the example of the page" example_in
-try "the reader of a stream" stream_example "" "checks: 22421, wrong: 0"
-try "wrong results of it" stream_example "$wrong_fields" "checks: 20969, wrong: 4531" -DFAULTS=1
+try "the reader of a stream" stream_example
+try "faults" sees_faults "$c/tests/faults.sed" "$c" "src/multihash.c examples/stream.c" source_tests "$work/faults"

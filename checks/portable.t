@@ -93,7 +93,7 @@ passes() {
   "${compile[@]}" -c "$from/multihash.c" -o "$to/multihash.o"
   "${compile[@]}" "$tests"/{test,verdicts,models,draws,buffer}.c "$to/multihash.o" -o "$to/test"
   ${RUN-} "$to/test" crates/vectors/data/verdicts.tsv 1 20000 > "$to/shown"
-  grep -x '[1-9][0-9]* lines, drawn: 20000, checks: .*' "$to/shown"
+  grep -x '[1-9][0-9]* lines, drawn: 20000' "$to/shown"
 }
 
 # Objects for machines without a C library, and for macOS and MSVC's mode of Clang without their headers. All that

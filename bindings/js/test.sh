@@ -7,19 +7,10 @@ here=$(dirname "$(readlink -f "${BASH_SOURCE[0]}")")
 . checks/lib/proved.sh
 top=$PWD
 vectors=$top/crates/vectors/data
+export MULTIHASH_VERDICTS=$vectors/verdicts.tsv
 
-in_node() {
-  # Node.js may hang where it compiles beside a collection of garbage
-  timeout 600 node --no-concurrent-recompilation --experimental-vm-modules --no-warnings "$here/test/node.js" "$@"
-}
-
-# The tests find faults, in other numbers where a test compares less.
-planted() {
-  cp -r "$here" "$work/planted"
-  local here=$work/planted
-  sed -i -f "$here/test/faults.sed" "$here"/{core,api,index}.js
-  rejects "checksum 1463192753, 42890 checks right, 20158 wrong" in_node "$vectors/verdicts.tsv" module
-}
+# All tests of a folder.
+npm_test() { (cd "$1"; timeout 600 npm test); }
 
 lists_engines() {
   echo "after $2"
@@ -90,15 +81,12 @@ old_module() {
 
 # What is timed beside the package gives the same results, and its table is that of README.md but for the numbers.
 plain() {
-  local copy=$work/timed edit
+  local copy=$work/timed edit='s/[0-9.]*\( ns\)* |//g'
   cp -r "$here" "$copy"
-  sed -i 's/ ns |.*//' "$copy/README.md"
-  node --import "$copy/test/clock.js" "$copy/beside_plain.js" --write | cksum | grep -x '3094711087 635'
-  edit='s/[0-9.]*\( ns\)* |//g'
+  node "$copy/beside_plain.js" --write
   diff <(sed "$edit" "$here/README.md") <(sed "$edit" "$copy/README.md")
-  sed -i -e "s/'0')/'1')/" -e 's/: at /: 0 /' -e 's/(code, size);/;/' -e 's/scale \*=.*)/scale <<= 7)/' \
-    "$copy/beside_plain.js"
-  rejects "checksum 859004280, 67 checks right, 61 wrong" node "$copy/beside_plain.js"
+  sed -i "s/'0')/'1')/" "$copy/beside_plain.js"
+  rejects "of 34 bytes: " node "$copy/beside_plain.js"
 }
 
 # What is packed, unpacked elsewhere, runs the script of README.md, and is imported from CommonJS.
@@ -154,14 +142,14 @@ shows() {
 # The page of README.md, over the unpacked package.
 packed_page() {
   printf 'page.html\tcode 22, size 32; MultihashError: unexpected_eof, incomplete: true\n' |
-    prints "checksum -1468367868, 3 checks right, 0 wrong" shows "$1"
+    shows "$1"
 }
 
 demo() {
   local example bytes
   example=$(cat "$top/crates/mh_show/stdin")
   bytes=$(printf '07%.0s' {1..301})
-  sed 's/^/demo.html#/; s/|/\t/g' << END | prints "${2-}106 checks right, 0 wrong" shows "$1"
+  sed 's/^/demo.html#/; s/|/\t/g' << END | shows "$1"
 $example|Valid: code 22, digest of 32 bytes.
 ${example}00|1 byte follows the multihash.|Byte 35 of 35: 00|The first 34 bytes are a multihash.
 ${example}0000|2 bytes follow|invalid_size: Invalid multihash size 2.
@@ -189,35 +177,26 @@ END
 }
 
 another_text() {
-  printf 'demo.html#1200\tNot valid\t! Valid\t~ .following\n' | shows "$1"
+  printf 'demo.html#1200\tNot valid\ndemo.html#1200\t! Valid\ndemo.html#1200\t~ .following\n' | shows "$1"
 }
 
-# The parts in a browser: its name, its tools, and checksums, which differ where the clone of an error has no cause.
 test_browser() {
   local name=$1 tools=$2
-  needs=$tools try "in $name" prints "${3-}125180 checks right, 0 wrong" \
-    node "$here/test/browser.js" "$name" test/page.html "$here" "$vectors"
+  needs=$tools try "in $name" node "$here/test/browser.js" "$name" test/page.html "$here" "$vectors"
   needs=$tools try "the packed package's page in $name" packed_page "$name"
-  needs=$tools try "the demo page in $name" demo "$name" "${4-}"
+  needs=$tools try "the demo page in $name" demo "$name"
 }
 
-sums=("2 entries, checksum 1430411648, " "checksum 165294037, ")
 needs="rt wasm-opt=108 wasm2wat=1.0.32" try "the WebAssembly built anew" built_anew
 needs=wasm-validate try "the WebAssembly for old engines" old_module
-while read -r entry made; do
-  needs=node try "in Node.js, $entry" prints "checksum $made checks right, 0 wrong" \
-    in_node "$vectors/verdicts.tsv" "$entry"
-done << 'END'
-index -598532452, 63047
-inline -598532452, 63047
-module 694192054, 63055
-END
-needs=node try "faults" planted
+needs=npm try "in Node.js" npm_test "$here"
+needs="all npm" try "faults" sees_faults "$here/test/faults.sed" "$here" "core.js api.js index.js" \
+  npm_test "$work/faults"
 needs=node try "plain JavaScript" plain
 needs=node try "old engines" old_engine
 needs=npm try "the packed package's script" packed_script
 needs="npm tsc" try "the packed package's types" packed_types
-test_browser chromium chromium "${sums[@]}"
-needs=chromium try "another text than the demo page's" rejects " 2 checks right, 3 wrong" another_text chromium
-test_browser firefox firefox-esr "${sums[@]}"
+test_browser chromium chromium
+needs=chromium try "another text than the demo page's" rejects "1 passed, 3 failed" another_text chromium
+test_browser firefox firefox-esr
 test_browser webkit "WebKitWebDriver xvfb-run"

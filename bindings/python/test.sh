@@ -75,20 +75,13 @@ imports() {
 # The tests of a folder over what is installed, with variables that the other words set.
 unit_tests() {
   cd "$work"
-  prints "Ran 32 tests" env "${@:2}" timeout 600 "$python" -m unittest discover -v -s "$1"
+  env "${@:2}" timeout 600 "$python" -m unittest discover -s "$1"
 }
 
-# How many assertions of the tests are right and wrong, with a checksum of what they compare.
-assertions() {
-  cd "$work"
-  PYTHONMALLOC=debug PYTHONHASHSEED=0 PYTHONINTMAXSTRDIGITS=0 prints "$1" timeout 600 "$python" \
-    "$here/tests/assertions.py"
-}
-
-# All tests of the wheel.
+# All tests of the wheel. CPython's debug allocator sees a write after a block.
 all_tests() {
   grep -F .whl "$work"/venv/lib/python*/site-packages/verified_multihash-*/direct_url.json
-  assertions "117897 right, 0 wrong, 0 errors, 05110dfc"
+  unit_tests "$here/tests" PYTHONMALLOC=debug
 }
 
 # The module keeps nothing between calls but CPython's version: interpreters and threads share its data.
@@ -157,6 +150,13 @@ planted() {
   sed -i "$1" "$work/planted/src/core.c"
 }
 
+# The tests of a folder that is installed, up to the first that fails.
+installed_tests() {
+  installs "$1"
+  cd "$work"
+  timeout 600 "$python" -m unittest discover --failfast -s "$here/tests"
+}
+
 planted_read() {
   planted 's/bytes + found.digest_offset/& + 4096/'
   under_sanitizers "$work/planted"
@@ -170,15 +170,7 @@ planted_shift() {
 planted_write() {
   planted '/^static int fill_module/,/{/s/{/{ char *block = PyMem_Malloc(1); block[1] = 1; PyMem_Free(block);/'
   installs "$work/planted"
-  assertions right
-}
-
-planted_faults() {
-  planted ''
-  sed -i -f "$here/tests/faults.sed" "$work/planted"/{src/*.c,verified_multihash/*.py}
-  installs "$work/planted"
-  assertions "49689 right, 66332 wrong, 57 errors, 2161cac1"
-  rejects "< from" keeps_nothing
+  unit_tests "$here/tests" PYTHONMALLOC=debug
 }
 
 planted_warning() {
@@ -208,8 +200,7 @@ needs="objcopy ar" try "archives" looks_at_archive
 try "an environment" /usr/bin/python3 -m venv --clear --system-site-packages "$work/venv"
 try "the wheel, installed" imports "$work"/dist/*.whl
 needs="nm" try "no state" keeps_nothing
-numbered=$work/venv/lib/python3.11
-needs=$numbered try "the tests" all_tests
+try "the tests" all_tests
 needs="mypy stubtest" try "types" types
 try "the times beside plain Python" beside_plain
 try "the folder, installed" imports "$here"
@@ -217,10 +208,12 @@ needs="objcopy ar" try "an archive of another version" other_version
 try "an altered archive" altered_archive
 try "the sdist, installed, the portable source" sdist
 try "sanitizers" under_sanitizers "$work/sdist"
-needs=$numbered try "a write after a block" rejects "bad trailing pad byte" planted_write
+try "a write after a block" rejects "bad trailing pad byte" planted_write
 try "a warning" rejects "conversion]" planted_warning '1s/^/signed char planted(long more) { return more; }\n/' \
   src/core.c
 try "a warning of setuptools" rejects "option: 'more'" planted_warning 's/license=/more=0, &/' setup.py
 try "a read after the end of the input" rejects AddressSanitizer planted_read
 try "a shift that is too large" rejects "runtime error: shift exponent" planted_shift
-needs="$numbered nm" try "faults" planted_faults
+needs=all try "faults" sees_faults "$here/tests/faults.sed" "$work/sdist" \
+  "src/arguments.c src/core.c src/reader.c src/value.c verified_multihash/__init__.py verified_multihash/__main__.py" \
+  installed_tests "$work/faults"

@@ -67,6 +67,24 @@ rejects_edits() {
   done
 }
 
+# A command passes in a copy of a folder, "$work/faults", and fails after each line of a list, an edit of sed, alone.
+#   sees_faults LIST FOLDER "FILE.." COMMAND..    these files are edited
+sees_faults() {
+  local - edit file ended copy=$work/faults
+  cp -r "$2" "$copy"
+  "${@:4}"
+  sed '/^#/d' "$1" > "$work/edits"
+  while IFS= read -r edit; do
+    for file in $3; do sed "$edit" "$2/$file" > "$copy/$file"; done
+    set +e
+    (set -e; "${@:4}") > "$work/tested" 2>&1 < /dev/null
+    ended=$?
+    set -e
+    [ $ended != 0 ] || echo "not seen: $edit"
+  done < "$work/edits" > "$work/unseen"
+  diff /dev/null "$work/unseen"
+}
+
 # The first block of a page in a language.
 block_of() { awk -v fence="\`\`\`$2" '$0 == fence { on = 1; next } on && /^```/ { exit } on' "$1"; }
 

@@ -5,9 +5,6 @@
 #endif
 #include "check.h"
 
-unsigned long checks, wrong;
-uint64_t results;
-
 #if defined(__linux__) && !defined(HEAP)
 #include <sys/mman.h>
 #include <unistd.h>
@@ -46,7 +43,7 @@ void release(uint8_t *bytes)
 
 uint8_t *buffer(size_t length)
 {
-    uint8_t *bytes = length == 0 ? NULL : (uint8_t *)calloc(1, length + FAULTS);
+    uint8_t *bytes = length == 0 ? NULL : (uint8_t *)calloc(1, length);
     CHECK(length == 0 || bytes != NULL);
     return bytes;
 }
@@ -61,6 +58,6 @@ void release(uint8_t *bytes)
 uint8_t *copy_of(const uint8_t *bytes, size_t length)
 {
     uint8_t *copy = buffer(length);
-    for (size_t i = 0; i < length; i++) results = 31 * results + (copy[i] = bytes[i]);
+    if (length > 0) memcpy(copy, bytes, length);
     return copy;
 }

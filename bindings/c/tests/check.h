@@ -8,18 +8,10 @@
 #include <stdlib.h>
 #include <string.h>
 
-extern unsigned long checks, wrong;
-extern uint64_t results; /* a checksum of what was compared */
-
-#ifndef FAULTS
-#define FAULTS 0 /* bytes after a buffer, which wrong results may reach */
-#endif
-
-/* Counts it. If the condition is false the program ends, but for FAULTS. */
+/* Ends the program if the condition is false. */
 #define CHECK(fact)                                                             \
     do {                                                                        \
-        checks++;                                                               \
-        if (!(fact) && ++wrong > 0 && FAULTS == 0) {                            \
+        if (!(fact)) {                                                          \
             fprintf(stderr, "%s:%d: not so: %s\n", __FILE__, __LINE__, #fact);  \
             exit(1);                                                            \
         }                                                                       \

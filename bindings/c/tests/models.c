@@ -107,14 +107,12 @@ static multihash_encoded model_encoding(uint64_t code, size_t length, size_t nee
 
 static int same(multihash_decoded a, multihash_decoded b)
 {
-    results = 31 * results + a.status + a.size + a.code + a.digest_length + a.taken;
     return a.status == b.status && a.size == b.size && a.code == b.code && a.digest_offset == b.digest_offset &&
            a.digest_length == b.digest_length && a.taken == b.taken;
 }
 
 static int same_encoded(multihash_encoded a, multihash_encoded b)
 {
-    results = 31 * results + a.status + a.length;
     return a.status == b.status && a.size == b.size && a.length == b.length;
 }
 
@@ -139,7 +137,6 @@ static void check_encoding(encoder encode, uint64_t code, const uint8_t *digest,
     multihash_encoded wanted = model_encoding(code, length, need, room);
     size_t written = wanted.status == MULTIHASH_OK ? need : 0;
     uint8_t *out = marked(room);
-    results += code;
     CHECK(same_encoded(encode(code, digest, length, out, room), wanted));
     if (written > 0) {
         multihash_decoded back = is_scale ? model_scale(out, written) : model_whole(out, written, written);
@@ -165,7 +162,7 @@ void check_length(uint64_t code, size_t length)
 /* Encodes what was decoded: to the bytes that it was decoded from, and with less capacity. */
 static void check_back(encoder encode, const uint8_t *bytes, multihash_decoded found)
 {
-    uint8_t out[MULTIHASH_LENGTH_MAX + FAULTS] = {0};
+    uint8_t out[MULTIHASH_LENGTH_MAX] = {0};
     if (found.status != MULTIHASH_OK) return;
     uint8_t *digest = copy_of(bytes + found.digest_offset, found.digest_length);
     CHECK(encode(found.code, digest, found.digest_length, out, sizeof out).length == found.taken);
@@ -178,7 +175,6 @@ static void check_back(encoder encode, const uint8_t *bytes, multihash_decoded f
 void check_decodings(const uint8_t *bytes, size_t length, size_t limit)
 {
     multihash_front head = multihash_head(bytes, length), wanted = model_head(bytes, length);
-    results += limit;
     CHECK(head.status == wanted.status && head.code == wanted.code);
     CHECK(head.digest_length == wanted.digest_length && head.taken == wanted.taken);
     CHECK(same(multihash_from_bytes(bytes, length), model_whole(bytes, length, length)));

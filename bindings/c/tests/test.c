@@ -5,8 +5,6 @@
  *   test VECTORS SEED COUNT */
 #include "check.h"
 
-#include <inttypes.h>
-
 /* Each prefix of the longest encoding whose code and digest's length have that many bytes. */
 static void check_cuts(size_t code_bytes, size_t size_bytes)
 {
@@ -82,6 +80,6 @@ int main(int argc, char **argv)
     check_version();
     replay(argv[1]);
     draw_inputs(strtoul(argv[2], NULL, 10), strtoul(argv[3], NULL, 10));
-    printf("drawn: %s, checks: %lu, wrong: %lu, results: %016" PRIx64 "\n", argv[3], checks, wrong, results);
+    printf("drawn: %s\n", argv[3]);
     return 0;
 }

@@ -1,8 +1,9 @@
 // Arguments of wrong types and ranges, and what results and errors are.
 import base64 from '../bytes.js';
-import { fails, hex, same, tally, unhex } from './check.js';
+import { fails, hex, same, unhex } from './check.js';
 import { order } from './vectors.js';
 
+let turn = 0; // a module is imported anew each time
 const EXAMPLE = unhex('1620644bcc7e564373040999aac89e7622f3ca71fba1d972fd94a31c3bfbf24e3938');
 
 function detached() {
@@ -29,7 +30,7 @@ function noBytes() {
   return [...others, ...buffers, ...feigned, detached(), outOfBounds()];
 }
 
-function bytesAlone(module) {
+export function bytesAlone(module) {
   for (const wrong of noBytes()) {
     const what = kindOf(wrong);
     const text = what === '[object Uint8Array]' ? undefined : 'bytes have to be a Uint8Array';
@@ -39,7 +40,7 @@ function bytesAlone(module) {
   }
 }
 
-function numbers(module) {
+export function numbers(module) {
   const digest = new Uint8Array(2);
   const calls = {
     encode: (number) => module.encode(number, digest),
@@ -151,7 +152,7 @@ function outcome(module, call, bytes, plain) {
 }
 
 /** Each call gives for each kind of view what it gives for a plain array, whose result the vectors have. */
-function views(module) {
+export function views(module) {
   const starts = ['', '12', '80', '8000', '1200', '1602abcd', '969a8001', '9680808080808001', 'ffffffffffffffff7f00'];
   const inputs = [...starts.map(unhex), EXAMPLE, module.scaleEncode(2n ** 53n, EXAMPLE)];
   const rest = Array.from({ length: 3000 }, (_, index) => (index * 7) & 127);
@@ -185,7 +186,7 @@ function looseEquals(module) {
 }
 
 /** A digest that grows while it is copied has its length of before. */
-function growing(module) {
+export function growing(module) {
   const buffer = new ArrayBuffer(4, { maxByteLength: 64 });
   const prototype = Object.getPrototypeOf(Uint8Array.prototype);
   const { set } = prototype;
@@ -201,7 +202,7 @@ function growing(module) {
 }
 
 /** An error's fields are its own, whatever Object.prototype has. */
-function polluted(module) {
+export function polluted(module) {
   Object.assign(Object.prototype, { size: 5, code: 6 });
   const { message, size, code, taken } = fails(module.MultihashError, () => module.head(unhex('8000')), 'polluted');
   delete Object.prototype.size;
@@ -209,7 +210,7 @@ function polluted(module) {
   same(`${message} ${size} ${code} ${taken}`, 'encoding is not minimal undefined undefined 2', 'fields');
 }
 
-function multihashes(module) {
+export function multihashes(module) {
   const multihash = module.decode(EXAMPLE);
   const other = module.Multihash.of(22n, EXAMPLE.subarray(2));
   same(`${multihash.code} ${multihash.size} ${hex(multihash.bytes)}`, `22 32 ${hex(EXAMPLE)}`, 'fields');
@@ -249,7 +250,7 @@ function multihashes(module) {
 const keepsCause = () => structuredClone(new Error('text', { cause: 3 })).cause === 3;
 
 /** The text of each error, and what JSON.stringify makes of it: only texts and numbers that are exact. */
-function errors(module) {
+export function errors(module) {
   const { decode, encode, scaleDecode } = module;
   const cases = [
     [() => decode(unhex('80')), 'not enough input bytes', '"insufficient","taken":1', true],
@@ -309,7 +310,7 @@ export async function forbidden() {
 export async function missing() {
   const { fetch, process } = globalThis;
   Object.assign(globalThis, { fetch: async () => ({ ok: false, status: 500 }), process: undefined });
-  const error = await import(`../index.js?${tally.checks}`).catch((found) => found); // each time anew
+  const error = await import(`../index.js?${turn++}`).catch((found) => found);
   Object.assign(globalThis, { fetch, process });
   same(/multihash.wasm: status 500$/.test(error.message), true, 'a module that is missing');
 }
@@ -317,7 +318,7 @@ export async function missing() {
 /** Where both entries connect at once, the first of them serves both; a module of another version serves none. */
 export async function both() {
   const bytes = Uint8Array.from(atob(base64), (letter) => letter.charCodeAt(0));
-  const core = await import(`../core.js?${tally.checks}`); // each time anew
+  const core = await import(`../core.js?${turn++}`);
   const { exports } = new WebAssembly.Instance(new WebAssembly.Module(bytes));
   for (const number of [undefined, 1, 9999, 10001, 10100, 20000])
     fails(TypeError, () => core.connectTo({ ...exports, multihash_version: () => number }), `version ${number}`,
@@ -332,14 +333,4 @@ export async function both() {
   }
   core.connect(); // nothing is compiled once more
   await core.connectLater();
-}
-
-export function hostile(module) {
-  bytesAlone(module);
-  numbers(module);
-  views(module);
-  multihashes(module);
-  growing(module);
-  polluted(module);
-  errors(module);
 }

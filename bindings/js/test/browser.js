@@ -1,5 +1,5 @@
 // Opens a page in a browser, with what it needs from folders served on a port of this machine, and prints the text that
-// the page sends to /report. The status is 0 if that ends in ' 0 wrong'.
+// the page sends to /report. The status is 0 if that ends in ' 0 failed'.
 //   node browser.js chromium|firefox|webkit PATH FOLDER..
 import { spawn } from 'node:child_process';
 import { existsSync, mkdtempSync, readFileSync, rmSync } from 'node:fs';
@@ -24,7 +24,7 @@ async function serve(request, response) {
     for await (const chunk of request) text += chunk;
     response.end();
     console.log(text);
-    process.exitCode = / 0 wrong$/.test(text) ? 0 : 1;
+    process.exitCode = / 0 failed$/.test(text) ? 0 : 1;
     browser.kill();
     return;
   }

@@ -1,4 +1,4 @@
-# Faults in a copy of core.js, api.js and index.js: the number of checks that see them is in test.sh.
+# Faults of core.js, api.js and index.js, each of which alone the tests have to see.
 s/new TypeError(/new Error(1 + /
 s/: status/: code/
 s/{ cause },//

@@ -1,12 +1,15 @@
-// Runs the tests over the test vectors: node --experimental-vm-modules node.js VECTORS [inline|module]
+// The tests of an entry in Node.js: index.test.js, inline.test.js and module.test.js run them, each in a process of its
+// own. MULTIHASH_VERDICTS names the test vectors, if not those of the repository.
 import { readFileSync } from 'node:fs';
+import { test } from 'node:test';
 import { SourceTextModule, createContext } from 'node:vm';
-import { fails, hex, same, summary, unhex } from './check.js';
-import { suite } from './suite.js';
+import { fails, hex, same, unhex } from './check.js';
+import { tests } from './suite.js';
 
-const [, , vectors, which = 'index'] = process.argv;
 const { Module } = WebAssembly;
 const bytesOf = (name) => readFileSync(new URL(`../${name}`, import.meta.url));
+const vectors = process.env.MULTIHASH_VERDICTS ??
+  new URL('../../../crates/vectors/data/verdicts.tsv', import.meta.url);
 
 /** Evaluates an entry in a context that compiles no WebAssembly, as in hosts at the edge, and returns its exports. */
 async function inContext(name) {
@@ -35,23 +38,34 @@ async function compiledBefore() {
   }
 }
 
-// Each entry compiles in its own way, if it does: index.js also in pages of Chrome before 115, with this error.
-const compiled = which === 'module' && new Module(bytesOf('multihash.wasm'));
-const other = which === 'inline' ? 'instantiate' : 'Module';
-const before = WebAssembly[other];
-WebAssembly[other] = function TooLarge() {
-  throw new RangeError('the module is too large to be compiled at once');
-};
-const module = await import(`../${which}.js`);
-if (compiled) module.connect(compiled);
-WebAssembly[other] = before;
-if (compiled) await compiledBefore();
-const types = bytesOf('index.d.ts').toString();
-const names = Array.from(types.matchAll(/^export (?:const|class|function) (\w+)/gm), ([, name]) => name);
-if (compiled) names.push('connect');
-same(`${Object.keys(module).sort()}`, `${names.sort()}`, 'the names that are exported');
-for (const [, name, value] of types.matchAll(/^export const (\w+): (\d+);$/gm)) same(module[name], Number(value), name);
-same(module.version, JSON.parse(bytesOf('package.json')).version, 'the version');
-const tally = await suite(module, readFileSync(vectors, 'utf8'));
-console.log(summary(tally));
-process.exitCode = tally.errors.length === 0 ? 0 : 1;
+/** The names, numbers and version that index.d.ts and package.json state. */
+function declared(module, more) {
+  const types = bytesOf('index.d.ts').toString();
+  const names = Array.from(types.matchAll(/^export (?:const|class|function) (\w+)/gm), ([, name]) => name);
+  same(`${Object.keys(module).sort()}`, `${[...names, ...more].sort()}`, 'the names that are exported');
+  const numbers = types.matchAll(/^export const (\w+): (\d+);$/gm);
+  for (const [, name, value] of numbers) same(module[name], Number(value), name);
+  same(module.version, JSON.parse(bytesOf('package.json')).version, 'the version');
+}
+
+/** Each entry compiles in its own way, if it does: index.js also in pages of Chrome before 115, with this error. */
+async function load(which, compiled) {
+  const other = which === 'inline' ? 'instantiate' : 'Module';
+  const before = WebAssembly[other];
+  WebAssembly[other] = function TooLarge() {
+    throw new RangeError('the module is too large to be compiled at once');
+  };
+  const module = await import(`../${which}.js`);
+  if (compiled) module.connect(compiled);
+  WebAssembly[other] = before;
+  return module;
+}
+
+export async function run(which) {
+  const compiled = which === 'module' && new Module(bytesOf('multihash.wasm'));
+  const module = await load(which, compiled);
+  const text = readFileSync(vectors, 'utf8');
+  test('declared', () => declared(module, compiled ? ['connect'] : []));
+  if (compiled) test('compiledBefore', compiledBefore);
+  for (const [name, check] of Object.entries(tests)) test(name, () => check(module, text));
+}

@@ -1,15 +1,6 @@
-// All tests, in Node.js and in a page, over the text of the vectors.
-import { both, forbidden, hostile, missing } from './arguments.js';
-import { tally } from './check.js';
+// All tests, in Node.js and in a page, by their names: each gets the functions of an entry, and the test vectors.
+import * as ofArguments from './arguments.js';
 import { streams } from './stream.js';
 import { vectors } from './vectors.js';
 
-export async function suite(module, text) {
-  hostile(module);
-  vectors(module, text);
-  await streams(module);
-  await forbidden();
-  await both();
-  await missing();
-  return tally;
-}
+export const tests = { ...ofArguments, streams, vectors };

@@ -1,4 +1,4 @@
-# Faults in a copy of the package: the number of assertions that see them is in test.sh.
+# Faults of the package, each of which alone the tests have to see.
 s/PyBytes_CheckExact/PyBytes_Check/
 s/1) return PyObject_CallMethod.*/1) return PyBytes_FromString("01234567");/
 s/whole < 0 ? NULL/(whole += whole > 300) < 0 ? NULL/
@@ -6,8 +6,6 @@ s/if (view == NULL)/& PyErr_SetNone(PyExc_OSError);\n&/
 s/if (index == NULL)/& PyErr_SetNone(PyExc_ValueError);\n&/
 s/"a %s is not/"no %s is/
 s/count > most)/count > 3)/
-s/(count == 2)/(most == 2 \&\& count > 1)/
-s/^    input from;/    static input from;/
 s/"not the/"no/
 s/MULTIHASH_INSUFFICIENT || s/MULTIHASH_OVERFLOW || s/
 s/statuses, (Py_ssize_t)status/& % 6 + 1/

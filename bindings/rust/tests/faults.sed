@@ -1,4 +1,4 @@
-# Faults in the sources of both packages, which change what each comparison of the tests and the pages compares.
+# Faults of the sources of both packages, each of which alone the tests have to see.
 s/_ => Error::io(error)/_ => Error::insufficient()/
 s/ErrorKind::UnexpectedEof.into()/ErrorKind::NotFound.into()/
 s/Insufficient => Self::insufficient()/Insufficient => Self::new(Kind::Varint(Varint::Overflow))/
@@ -7,10 +7,8 @@ s/_ => None,/Kind::InvalidSize(_) => Some(\&Format::Overflow), &/
 s/held\[at\] = digest\[at\]/& ^ at as u8 % 2/
 /fn code/,/}/s/self.code$/& ^ 2/
 s/as u8 .. at most 255/as u8 ^ 1/
-s/&mut digest\[..size.into()\]).map_err(Error::io)/\
-  \&mut digest[(size == 1).into()..size.into()]).map_err(|it| { let _ = r.read(\&mut [0]); Error::io(it) })/
+s/&mut digest\[..size.into()\]).map_err(Error::io)/\&mut digest[(size == 1).into()..size.into()]).map_err(|it| { let _ = r.read(\&mut [0]); Error::io(it) })/
 s/Ok(Self { code, size, digest })/Ok(Self { code: code ^ 4, size, digest })/
-s/found.size(), d/found.digest().len() as u8, d/
 s/Ok(length + usize/Ok(1 + length + usize/
 s/=> Ok(bytes.len()/& + 1/
 s/varint_len(self.code) +/& 1 +/
@@ -25,7 +23,6 @@ s/cmp(&other.digest\[..size\])/&.then(Ordering::Less)/
 s/Some(self.cmp(other))/(self.cmp(other) as i8 > 9).then_some(Ordering::Less)/
 s/numbers.next_element()/&.map_err(|it| if length % 12 == 1 { A::Error::custom("none") } else { it })/
 s/LENGTH_MAX };/LENGTH_MAX + 1 };/
-s/0; LENGTH_MAX\]/0; LENGTH_MAX + 1]/
 s/a valid Multihash/a Multihash/
 s/InvalidSize(digest.len() as u64/& + 1/
 s/Err(Error::InvalidCode(code/& ^ 1/
