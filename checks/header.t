@@ -13,8 +13,6 @@ import re
 import subprocess
 import sys
 from collections.abc import Iterable, Iterator
-from itertools import groupby
-from operator import itemgetter
 from pathlib import Path
 from typing import NamedTuple
 
@@ -240,8 +238,8 @@ def unread() -> Iterator[tap.Result]:
 def results() -> Iterator[tap.Result]:
     files = read_files()
     yield "the header and the bindings", error_of(files)
-    for name, rows in groupby(edits.rows(LIB / "header.edits"), itemgetter(0)):
-        changed = edits.apply(files, [edits.Edit(*row[1:]) for row in rows])
+    for name, *edit in edits.rows(LIB / "header.edits"):
+        changed = edits.apply(files, [edits.Edit(*edit)])
         yield tap.stated(name, error_of({**files, **changed}), name)
     yield from unread()
 

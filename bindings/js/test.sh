@@ -57,15 +57,9 @@ built_anew() {
     TMPDIR=$work/left rejects "$text" "$here/build.sh" --check
   done << 'END'
 > local.tee|/;36;/,${/l\./y/56/65/}
-> local.get|/;7;/,/;8;/s/get 4/get 3/
-> unreachable|0,/ end/s//& unreachable/
-> unreachable|/if 0 (;@5/{n;s/$/ unreachable/}
 1c1|0,/unreachable$/s//& i32.wrap_i64 &/
 > memory|/(memory/s/17/18/
-> data|/(data/s/76/77/
 bytes.js:|
-demo.html:|
-multihash.wasm:|
 END
   rmdir "$work/left"
 }

@@ -104,9 +104,7 @@ def stated_errors() -> Iterator[tap.Result]:
     log = "test a ... FAILED\ntest b ... FAILED\n  is\n  (8, 9)\ntest c ... FAILED\n test d ... FAILED\n"
     for old, new, wrong in (
         ("", "", ""),
-        ("test a", "test d ... FAILED\ntest a", "['d']"),
         ("test a", "test d", "['a', 'd']"),
-        ("test a", "test a ... FAILED\ntest a", "[]"),
         ("(8", "(9", "['b', 'b prints   is\\n  (9, 9)\\n']"),
         ("c ... FAILED", "c ... FAILED\n    no-answer", "[]"),
     ):
@@ -114,10 +112,8 @@ def stated_errors() -> Iterator[tap.Result]:
     text = "a b c\n  a b\na b\nb c d\n"
     for old, new, wrong in (
         ("b c d", "b (x) d", ""),
-        ("b c", "b x", " has these lines not once: b c"),
         ("a b", "a x", " has these lines not once: a b"),
         ("a b c", "a", "more than a word is lost: a"),
-        ("a b c", "a c d", ""),
     ):
         found = error_of_bug(text, Bug("", [], "", old, new), text.replace(old, new))
         yield tap.stated(f"{old} > {new}", found, wrong)
@@ -128,8 +124,6 @@ def results() -> Iterator[tap.Result]:
     for crate, bugs in read_bugs().items():
         if crate != "proof":
             yield crate, error_of(bugs, run_tests(crate, bugs))
-    numbers = " ".join(f"{crate} {len(bugs)}" for crate, bugs in read_bugs().items())
-    yield tap.stated("bugs", numbers, "proof 22 tests_sweeps 11 tests_streams 7 mh_show 4")
     yield from stated_errors()
 
 

@@ -39,6 +39,7 @@ has_documents() {
 has_flags() {
   local -x PKG_CONFIG_PATH=$1/$2/pkgconfig
   local flags
+  pkg-config --validate multihash_c
   flags=$(pkg-config --cflags --libs multihash_c)
   eval "flags=($flags)"
   diff <(printf '%s\n' "$version" "-I$(realpath "$1/$include")" "-L$(realpath "$1/$2")" -lmultihash_c) \
@@ -87,4 +88,4 @@ is_installed() {
 }
 
 # The installed test over what is installed in a folder.
-installed_test() { prints '14 passed, 0 failed' "$1/$document/examples/test.sh" "$1"; }
+installed_test() { "$1/$document/examples/test.sh" "$1"; }

@@ -75,9 +75,6 @@ def stated_logs() -> Iterator[tap.Result]:
         (goal + note + state, ""),
         (goal + note + "fn c::f::g: proved", "proved: ['ok', 'then-err']"),
         (goal + note + note.replace("ok", "front") + state, "not proved: ['front', 'ok', 'then-err']"),
-        (goal + note.replace("-clause-ok", "-in-x") + state, "not proved: ['in-x', 'then-err']"),
-        (goal + note + "fn c::f::gg: not proved\n" + state, "not proved: ['then-err']"),
-        (goal.replace("/g/", "/gg/") + note + state, "not proved: ['ok']"),
         (
             f"{goal}{error}`returns`: `x` is not in scope\n{note}{state}",
             "a name that the proof cites is gone: `returns`: `x` is not in scope: []",
