@@ -5,6 +5,7 @@
 require cc cmake python3=3.11+ readelf pkg-config dpkg-buildpackage dh lintian /lib64/ld-linux-x86-64.so.2
 # shellcheck source=checks/lib/installed.sh
 . checks/lib/installed.sh
+upstream=$(sed -n 's/^version = "\(.*\)"/\1/p' bindings/rust/multihash/Cargo.toml)
 
 # ---- packages for Debian
 
@@ -90,105 +91,132 @@ test_packages() {
 
 # ---- a release
 
-# Each of these differences of a release is found.
-planted_release() {
-  rejects_edits "$1" checks/lib/packed.py "$work/planted" "$2" << 'END'
-the files of the release|mv *x86_64.whl more
-SHA256SUMS|echo >> SHA256SUMS
-1 2 ab600 1970|tar --owner=a:1 --group=b:2 --mode=600 --mtime=@0 -czf multihash_c-*-source.tar.gz SHA256SUMS
-0 0 700|mkdir d; tar --numeric-owner --owner=0 --group=0 --mode=700 -czf multihash_c-*-source.tar.gz d; rmdir d
-order|tar -czf multihash_c-*-source.tar.gz --transform=s,^,d/, *.json SHA256SUMS
-5.crate: order|tar xf m*.5.crate; tar czf m*.5.crate m*.5/README.md m*.5/*.toml m*.5/*.orig; rm -r m*.5
-more is there, or is not|mkdir d; touch d/more; tar -czf multihash_c-*-source.tar.gz d; rm -r d
-whl: more is|python3 -c 'import sys, zipfile; zipfile.ZipFile(sys.argv[1], "a").writestr("more", "")' *x86_64.whl
-{'default'|tar xf *.tgz; sed -Ei 's/("t.*), (.*) }/\2, \1 }/' package/*.json; tar czf *.tgz package; rm -r package
-checksumValue|echo >> libmultihash-c-dev_*_amd64.deb
-what the kit made|sed -i s/GENERATED_FROM/DEPENDS_ON/ multihash-*.spdx.json
-what made the WebAssembly|sed -i 's/"name": "wasm-opt"/"name": "more"/' multihash-*.spdx.json
-tools ['|sed -i 's/"name": "ld"/"name": "more"/' multihash-*.spdx.json
-ld: ''|sed -i '/"name": "ld"/{n;s/: ".*"/: ""/}' multihash-*.spdx.json
-CONTAINED_BY|sed -i s/CONTAINS/CONTAINED_BY/ multihash-*.spdx.json
-relations|sed -i 's/"SPDXRef-DOCUMENT",/"SPDXRef-more",/' multihash-*.spdx.json
-1, and not None|sed -i '0,/{/s//{"more": 1,/' multihash-*.spdx.json
-END
-}
-
-# The source of a release is the last commit, which is on no branch, but for names of the owner, which it has here.
-exports_source() {
-  # shellcheck disable=SC2016
-  install -m 755 -D <(printf '%s\n' '#!/bin/sh' 'cp -r "$2" "$0.source"' 'exit 1') "$work/bin/cmake"
-  sed -i 's/[1e]/3/g' "$1"/{CHANGES,LICENSE,README.md,tools/owner,bindings/c/include/multihash.h}
-  "${commit[@]}"
-  git -C "$1" checkout -q --detach HEAD~
-  rejects "release: cmake -S" env PATH="$work/bin:$PATH" "$1/tools/release" "$work/new/failed"
-  rm -r "$work/bin/cmake.source/debian"
-  diff -r -x .git "$1" "$work/bin/cmake.source"
-}
-
-# Each field of a release is compared: here all differ, and one package is not described.
-altered_fields() {
-  python3 - "$@" << 'END' | wc -l | diff <(echo 150) -
-import sys
-sys.path.append("checks/lib")
-import packed
-def altered(of_it):
-    return {name: altered(each) for name, each in of_it.items()} if isinstance(of_it, dict) else "?"
-for module, name in (packed, "headers"), (packed.json, "loads"), (packed.tomllib, "loads"):
-    setattr(module, name, lambda text, old=getattr(module, name): altered(old(text)))
-packed.fields = lambda old=packed.fields: [*old()][1:]
-packed.material_errors = list
-packed.main()
-END
-}
-
-# A release is made without a working tree, of a commit with another owner, and not of one in which a byte of an archive
-# differs.
-releases() {
-  local from=$work/clone to=$work/release architecture needed
-  local commit=(git -C "$work/clone" -c user.name=tester -c user.email=tester commit -q -a -m changed)
-  git clone -q . "$from"
-  exports_source "$from"
-  printf '%s\n' 'maintainer=A Tester <tester@forge.example>' homepage=https://forge.example/ \
-    repository=https://forge.example/multihash > "$from/tools/owner"
-  "${commit[@]}"
-  printf x | dd of="$from/bindings/c/prebuilt/x86_64/libmultihash_c.a" bs=1 seek=9999 conv=notrunc status=none
-  "${commit[@]}"
-  rejects "not that of prebuilt/SHA256SUMS" "$from/tools/release" "$work/wrong"
-  git -C "$from" reset -q --hard HEAD~
-  git -C "$from" sparse-checkout set --no-cone /tools/release
+# Two releases of clones that differ in all that must not matter have the same bytes. No clone has a working tree.
+make_releases() {
+  git clone -q --no-checkout . "$work/clone"
+  cd "$work/clone"
+  git -c advice.detachedHead=false checkout -q HEAD -- tools/release
+  tools/release "$work/release"
+  cp -r "$work/clone" "$work/another clone"
   mkdir "$work/left"
-  (umask 077; cd "$work"; TMPDIR=$work/left TZ=Asia/Tokyo "$from/tools/release" release)
+  (umask 077; TMPDIR=$work/left TZ=Asia/Tokyo "$work/another clone/tools/release" "$work/again")
   rmdir "$work/left"
-  git -C "$from" sparse-checkout disable
-  checks/lib/packed.py "$to" "$from"
-  rejects "there is already" "$from/tools/release" "$to"
-  planted_release "$to" "$from"
-  altered_fields "$to" "$from"
-  tar -xOf "$to/multihash-$version.tar.gz" --wildcards '*/debian/changelog' |
-    grep "^ -- A Tester <tester@forge.example>  $(date -d "$released" '+%a, %d %b %Y') "
-  while read -r architecture needed; do
-    python3 -m zipfile -e "$to"/*_"$architecture".whl "$work/wheel"
-    # shellcheck disable=SC2086 # words
-    has_segments "$work/wheel/verified_multihash/_core.abi3.so" $needed
-    rm -r "$work/wheel"
-    tar -xf "$to/multihash_c-$version-$architecture.tar.gz" -C "$work"
-    is_installed "$work/multihash_c-$version-$architecture" lib
-    cmp {bindings/c/prebuilt/"$architecture","$work/multihash_c-$version-$architecture/lib"}/libmultihash_c.a
-  done << 'END'
-x86_64 libc.so.6
-aarch64 ld-linux-aarch64.so.1 libc.so.6
-END
+  diff -r "$work/release" "$work/again"
+  rejects "there is already" tools/release "$work/release"
+}
+
+# The files of a release, each with its checksum, also in the bill of materials; what is packed here is root's, and all
+# may read it.
+has_files() {
+  local name
+  cd "$1"
+  sha256sum --check --strict --quiet SHA256SUMS
+  printf '%s\n' libmultihash-c{"$major",-dev}_"$version-1"_{amd64,arm64}.deb "multihash-$version".{spdx.json,tar.gz} \
+    "multihash-$upstream.crate" "multihash_c-$version-"{aarch64,source,x86_64}.tar.gz "multihash_c-$version.crate" \
+    "verified-multihash-$version.tgz" "verified_multihash-$version.tar.gz" \
+    "verified_multihash-$version-cp38-abi3-manylinux2014_"{aarch64,x86_64}.whl | sort > "$work/files"
+  sed 's/^[^ ]*  //' SHA256SUMS | sort | diff "$work/files" -
+  find . -mindepth 1 -printf '%P\n' | grep -vx SHA256SUMS | sort | diff "$work/files" -
+  grep -v spdx SHA256SUMS | diff - <(python3 -c 'import json, sys
+for each in sorted(json.load(sys.stdin)["packages"], key=lambda each: each["name"]):
+    if each["primaryPackagePurpose"] == "ARCHIVE": print(each["checksums"][0]["checksumValue"] + "  " + each["name"])' \
+    < "multihash-$version.spdx.json")
+  for name in *.tar.gz; do
+    tar --numeric-owner -tvzf "$name" | awk '$1 !~ /^(-rw-r--r--|[dl-]rwxr-xr-x)$/ || $2 != "0/0"' | diff /dev/null -
+  done
+}
+
+# A release with a file that differs.
+planted_release() {
+  cp -r "$work/release" "$work/edited"
+  echo >> "$work/edited/multihash-$version.tar.gz"
+  rejects "multihash-$version.tar.gz: FAILED" has_files "$work/edited"
+}
+
+# The source is the last commit, but for what tools/owner states.
+is_source() {
+  local from=$work/source
+  mkdir "$from" "$work/unpacked"
+  git archive HEAD | tar -x -C "$from"
+  tar -xf "$work/release/multihash-$version.tar.gz" -C "$work/unpacked"
+  diff -r -I '^Maintainer:' -I '^Homepage:' -I '^ -- ' -I repository "$from" "$work/unpacked/multihash-$version"
+}
+
+# What an owner states is in the packages.
+has_owner() {
+  cp -r "$work/clone" "$work/owned"
+  cd "$work/owned"
+  printf '%s\n' 'maintainer=A Tester <tester@forge.example>' homepage=https://forge.example/ \
+    repository=https://forge.example/multihash > tools/owner
+  git add -f tools/owner
+  git -c user.name=tester -c user.email=tester commit -q -m owned tools/owner
+  tools/release "$work/of_owner"
+  cd "$work/of_owner"
+  dpkg-deb -f "libmultihash-c${major}_$version-1_amd64.deb" Maintainer Homepage |
+    diff - <(printf '%s\n' 'Maintainer: A Tester <tester@forge.example>' 'Homepage: https://forge.example/')
+  tar -xOf "verified-multihash-$version.tgz" package/package.json |
+    grep '"repository": "https://forge.example/multihash"'
+  tar -xOf "multihash-$upstream.crate" "multihash-$upstream/Cargo.toml" |
+    grep '^repository = "https://forge.example/multihash"'
+}
+
+# The library of an archive, and its installed test, by a command that runs programs.
+has_library() {
+  tar -xf "$work/release/multihash_c-$version-$1.tar.gz" -C "$work"
+  is_installed "$work/multihash_c-$version-$1" lib
+  cmp {bindings/c/prebuilt/"$1","$work/multihash_c-$version-$1/lib"}/libmultihash_c.a
+  installed_test "$work/multihash_c-$version-$1"
+}
+
+# The portable source of a release, compiled with an example.
+has_portable_source() {
+  tar -xf "$work/release/multihash_c-$version-source.tar.gz" -C "$work"
+  cd "$work/multihash_c-$version-source"
+  cc -std=c11 -I . "$top/bindings/c/examples/show.c" multihash.c -o show
+  ./show | diff - "$expected"
+}
+
+# The package for JavaScript is installed, and decodes.
+has_npm_package() {
+  mkdir "$work/npm"
+  cd "$work/npm"
+  npm install --offline --cache "$work/npm.cache" "$work/release/verified-multihash-$version.tgz"
+  node --input-type=module -e "import { decode } from 'verified-multihash';
+    console.log(decode(Uint8Array.of(18, 0)).code)" | diff - <(echo 18)
+}
+
+# The wheel is installed, and its tests pass.
+has_wheel() {
+  /usr/bin/python3 -m venv --system-site-packages "$work/venv"
+  "$work/venv/bin/python" -m pip install --quiet --no-index "$work/release/verified_multihash-$version"-*_x86_64.whl
+  cd "$work"
+  "$work/venv/bin/python" -m unittest discover -s "$top/bindings/python/tests"
+}
+
+# The modules of wheels need no other libraries than these.
+modules_need() {
+  rm -rf "$work/wheel"
+  python3 -m zipfile -e "$work/release/"*_"$1".whl "$work/wheel"
+  has_segments "$work/wheel/verified_multihash/_core.abi3.so" "${@:2}"
 }
 
 test_release() {
   local emulator="qemu-aarch64 -L /usr/aarch64-linux-gnu"
-  try "a release" releases
-  CC=aarch64-linux-gnu-gcc RUN=$emulator try "the installed test of that for aarch64" \
-    installed_test "$work/multihash_c-$version-aarch64"
+  try "a release, made twice" make_releases
+  try "its files" has_files "$work/release"
+  try "a planted release" planted_release
+  try "its source" is_source
+  try "its owner" has_owner
+  try "the library for x86-64" has_library x86_64
+  CC=aarch64-linux-gnu-gcc RUN=$emulator try "the library for aarch64" has_library aarch64
+  try "the portable source" has_portable_source
+  try "the package for JavaScript" has_npm_package
+  try "the wheel" has_wheel
+  try "the module for x86-64" modules_need x86_64 libc.so.6
+  try "the module for aarch64" modules_need aarch64 ld-linux-aarch64.so.1 libc.so.6
   try "packages for arm64" has_packages "$work/release" arm64 aarch64-linux-gnu
   # shellcheck disable=SC2086
-  try "a program by the packages for arm64" try_packages arm64 aarch64-linux-gnu aarch64-linux-gnu-gcc \
-    $emulator
+  try "a program by the packages for arm64" try_packages arm64 aarch64-linux-gnu aarch64-linux-gnu-gcc $emulator
 }
 
 test_packages
