@@ -70,10 +70,11 @@ imports() {
     grep "^[0-9.]* $work/venv/"
 }
 
-# The tests of a folder over what is installed, with variables that the other words set.
+# The tests of a folder over what is installed, with variables that the other words set; for unittest no tests pass too.
 unit_tests() {
   cd "$work"
-  env "${@:2}" timeout 600 "$python" -m unittest discover -s "$1"
+  env "${@:2}" timeout 600 "$python" -m unittest discover -s "$1" 2>&1 | tee "$work/tested"
+  grep '^Ran [1-9]' "$work/tested"
 }
 
 # All tests of the wheel. CPython's debug allocator sees a write after a block.
