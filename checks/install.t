@@ -302,7 +302,7 @@ test_programs() {
   try "a folder of a project of CMake" by_subdirectory
   needs=go try "Go" in_go
   needs=mandoc try "man pages" pages
-  needs="cargo $crates" try "the packages for Rust, as installed" rust_crate
+  needs="cargo rustc=1.82+ $crates" try "the packages for Rust, as installed" rust_crate
 }
 
 test_installation

@@ -157,7 +157,7 @@ test_here() {
   try "two files" two_files
   try "two files of another source" another_source
   test_compiler cc
-  needs="all clang" test_compiler clang
+  needs="--all clang" test_compiler clang
   needs="clang llvm-nm" try "objects without a C library" freestanding "$tree"
   needs="clang llvm-nm" try "one of them that needs another function" rejects "> another" another_function
   needs="nm objdump" try "what the object needs" keeps_no_state "$work/cc/multihash.o"
@@ -176,7 +176,7 @@ on_machine() {
 needs="rt wasm2c=1.0.32 wasm2wat=1.0.32 wat2wasm=1.0.32" test_generated
 test_here
 needs=clang try "fuzzing" bindings/c/fuzz.sh
-needs=all on_machine aarch64 aarch64-linux-gnu qemu-aarch64
-needs=all on_machine riscv64 riscv64-linux-gnu qemu-riscv64
+needs=--all on_machine aarch64 aarch64-linux-gnu qemu-aarch64
+needs=--all on_machine riscv64 riscv64-linux-gnu qemu-riscv64
 on_machine "armhf, 32 bits" arm-linux-gnueabihf qemu-arm
 on_machine "s390x, big-endian" s390x-linux-gnu qemu-s390x

@@ -220,4 +220,4 @@ test_release() {
 }
 
 test_packages
-needs="aarch64-linux-gnu-gcc cargo npm qemu-aarch64 $crates" test_release
+needs="aarch64-linux-gnu-gcc qemu-aarch64 cargo rustc=1.82+ $crates npm node=20.16+ $modules" test_release

@@ -2,18 +2,18 @@
 # That what fails is printed as failed, by tap.sh and by tap.py, and makes .ci/run fail. It uses none of them itself.
 set -u
 cd "$(dirname "$0")/.." || exit 2
-number=0
+number=0 failed=0
 work=$(mktemp -d) || exit 2
 trap 'rm -rf "$work"' EXIT
-unset ALL BUILT
-cp -r .ci checks "$work" || exit 2
+unset ALL BUILT CHECK
+cp -r .ci checks "$work" && git init -q "$work" && git -C "$work" add .ci || exit 2
 export top=$PWD PYTHONPATH=checks/lib # of the copy
 
 # Runs a text in the copy, and compares what it prints.
 expect() {
   local result="not ok" text=${2%%$'\n'*}
   number=$((number + 1))
-  diff <(printf "%b\n" "$1") <(cd "$work" && bash -c "$2" 2> /dev/null) >&2 && result=ok
+  diff <(printf "%b\n" "$1") <(cd "$work" && bash -c "$2" 2> /dev/null) >&2 && result=ok || failed=1
   echo "$result $number - ${text//'#'/}"
 }
 
@@ -47,11 +47,13 @@ END
 tries "ok 1 - a\nstatus 1" "try a true; false; try b true"
 tries "1..0\nstatus 1" true
 tries "a\nb\n1..0\nstatus 1" "block_of <(printf '\`\`\`%s\n' \$'c\nx' '' \$'js\na\nb' '' js) js"
-for text in no_such_tool bash=1.0 bash=10+ /bin/no_such_* all; do
-  tries "ok 1 - a # SKIP $text is not there\nok 2 - b\n1..2\nstatus 0" "needs='sh $text' try a true; try b true"
+for text in no_such_tool no_such_tool=0+ bash=1.0 bash=10+ /bin/no_such_* python:no_such cpu:no_such --all; do
+  tries "ok 1 - a # SKIP no $text\nok 2 - b\n1..2\nstatus 0" "needs='sh $text' try a true; try b true"
 done
-tries "ok 1 - a\n1..1\nstatus 0" "ALL=1; needs='bash=1.0+ bash=${BASH_VERSION%%(*} /bin/s* all' try a true"
-tries "ok 1 - a # SKIP b is not there\n1..1\nstatus 0" "require b sh; try a true"
+tries "ok 1 - a\n1..1\nstatus 0" \
+  "ALL=1; needs='bash=1.0+ bash=${BASH_VERSION%%(*} /bin/s* python:sys cpu:fpu --all' try a true"
+tries "ok 1 - a # SKIP no b, d, c\nok 2 - b # SKIP no b, d\n# bash: left out 2 of 2: no b, c, d\n1..2\nstatus 0" \
+  "require b d sh; needs=c try a true; try b true 2>&1; exec 2>&1"
 
 # The same of tap.py.
 report() { expect "$1" "python3 -c 'import sys, tap; sys.exit(tap.report([$2]))' 2>&1; echo status \$?"; }
@@ -62,8 +64,10 @@ report "not ok 1 - planted: a\n#   it is not found\nok 2 - planted: b\n1..2\nsta
   'tap.planted("a", ""), tap.planted("b", "why")'
 report "not ok 1 - a\n#   found is: b\nok 2 - b\n1..2\nstatus 1" \
   'tap.stated("a", "b\nc", "c"), tap.stated("b", "c\nd", "c")'
-report "ok 1 - a # SKIP no why\n1..1\nstatus 0" 'tap.left_out("a", ["why"])'
-report "not ok 1 - a # SKIP no sh\n#   what it needs is there\n1..1\nstatus 1" 'tap.left_out("a", ["sh"])'
+report "ok 1 - a # SKIP no why\nok 2 - b\n# -c: left out 1 of 2: no why\n1..2\nstatus 0" \
+  'tap.left_out("a", tap.missing(["sh", "why", "cpu:fpu"])), ("b", "")'
+report "not ok 1 - a # SKIP no sh\n#   what it needs is there\n# -c: left out 1 of 1: no sh\n1..1\nstatus 1" \
+  'tap.left_out("a", ["sh"])'
 
 # Runs .ci/run over a check, a text, after another text, and prints its status.
 ran() {
@@ -83,8 +87,9 @@ expect "0\n1" "ran 'echo ok 1'; grep -c ' ms' out"
 expect 1 "ran 'echo not ok 1'"
 expect 1 "ran 'echo ok 1; exit 1'"
 expect 1 "ran ''"
-expect 0 "ran 'echo \"ok 1 - a # SKIP why\"'"
-expect 1 "ran 'echo \"ok 1 - a # SKIP why\"' '' --all"
+expect "0\nresults left out: 1, for want of b, why; see docs/ARCHITECTURE.md#tools\nResult: PASS" \
+  "ran 'echo \"ok 1 - a # SKIP no why, b\"'; tail -n 2 out"
+expect "1\nResult: FAIL" "ran 'echo \"ok 1 - a # SKIP no why\"' '' --all; grep Result out"
 expect 0 "ran '[ \"\$ALL\" ] && echo ok 1' '' --all"
 expect 2 "ran 'echo ok 1' 'rm checks/rules.yml'"
 expect 2 "ran 'echo ok 1' 'echo \"  - checks/NAME.t\" >> checks/rules.yml'"
@@ -92,6 +97,8 @@ expect "2\n.ci/run\n.ci/run --all" "ran '' '' --wrong; (cd checks; ../.ci/run --
 expect 0 "ran '[ \"\${BUILT-}\" ] || echo ok 1' 'export BUILT=\"rt ci\"'"
 # shellcheck disable=SC2016 # the check expands it
 expect 0 "ran 'case \$0:\${BUILT-} in *rt.t: | *lint.t:rt?ci) echo ok 1 ;; esac' 'cp checks/rt.t checks/lint.t'"
+expect "all checks need rt=99+: see docs/ARCHITECTURE.md#tools\n2" \
+  "ran '' 'sed -i s/python3=3.10+/rt=99+/ .ci/run' 2>&1"
 # only one of two checks is run
 expect "1\ndid not pass: checks/lint.t" \
   "ran 'echo ok 1' 'cp checks/rt.t checks/lint.t; sed -i \"s|timer checks|&/rt.t|\" .ci/run'; grep ^did out"
@@ -99,3 +106,4 @@ expect "1\ndid not pass: checks/lint.t" \
 expect "0\n143\na" "ran 'echo ok 1'; rm -f [ab]; echo 'echo 1..1; touch ../a; sleep 1; touch ../b' > checks/rt.t
     .ci/run > out & until [ -e a ]; do sleep .1; done; kill \$!; wait \$!; echo \$?; sleep 1.2; ls [ab]"
 echo "1..$number"
+[ $failed = 0 ]

@@ -7,6 +7,7 @@ here=$(dirname "$(readlink -f "${BASH_SOURCE[0]}")")
 . checks/lib/proved.sh
 top=$PWD
 vectors=$top/crates/vectors/data
+node=node=20.16+ # that of package.json
 export MULTIHASH_VERDICTS=$vectors/verdicts.tsv
 
 # All tests of a folder.
@@ -175,7 +176,7 @@ another_text() {
 }
 
 test_browser() {
-  local name=$1 tools=$2
+  local name=$1 tools="$node $2"
   needs=$tools try "in $name" node "$here/test/browser.js" "$name" test/page.html "$here" "$vectors"
   needs=$tools try "the packed package's page in $name" packed_page "$name"
   needs=$tools try "the demo page in $name" demo "$name"
@@ -183,14 +184,14 @@ test_browser() {
 
 needs="rt wasm-opt=108 wasm2wat=1.0.32" try "the WebAssembly built anew" built_anew
 needs=wasm-validate try "the WebAssembly for old engines" old_module
-needs=npm try "in Node.js" npm_test "$here"
-needs="all npm" try "faults" sees_faults "$here/test/faults.sed" "$here" "core.js api.js index.js" \
+needs="$node npm" try "in Node.js" npm_test "$here"
+needs="--all $node npm" try "faults" sees_faults "$here/test/faults.sed" "$here" "core.js api.js index.js" \
   npm_test "$work/faults"
-needs=node try "plain JavaScript" plain
-needs=node try "old engines" old_engine
-needs=npm try "the packed package's script" packed_script
-needs="npm tsc" try "the packed package's types" packed_types
+needs=$node try "plain JavaScript" plain
+needs=$node try "old engines" old_engine
+needs="$node npm" try "the packed package's script" packed_script
+needs="$node npm tsc" try "the packed package's types" packed_types
 test_browser chromium chromium
-needs=chromium try "another text than the demo page's" rejects "1 passed, 3 failed" another_text chromium
+needs="$node chromium" try "another text than the demo page's" rejects "1 passed, 3 failed" another_text chromium
 test_browser firefox firefox-esr
 test_browser webkit "WebKitWebDriver xvfb-run"

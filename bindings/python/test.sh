@@ -5,7 +5,7 @@
 here=$(dirname "$(readlink -f "${BASH_SOURCE[0]}")")
 # shellcheck source=checks/lib/tap.sh
 . "$here/../../checks/lib/tap.sh"
-require cc /usr/bin/python3
+require cc /usr/bin/python3 /usr/include/python3*/Python.h python:{_testcapi,build,ensurepip,setuptools,wheel}
 archive=$PWD/bindings/c/prebuilt/$(uname -m)/libmultihash_c.a
 clone=$work/clone
 python=$work/venv/bin/python
@@ -187,8 +187,6 @@ types() {
   rejects 'Found 5 errors' "${strict[@]}" wrong.py
 }
 
-/usr/bin/python3 -c 'import _testcapi, build, setuptools, venv, wheel' 2> "$work/log" ||
-  required=python3-build+setuptools+venv+wheel
 try "the sdist and the wheel, built twice" builds
 needs="objcopy ar" try "archives" looks_at_archive
 try "an environment" /usr/bin/python3 -m venv --clear --system-site-packages "$work/venv"
@@ -207,6 +205,6 @@ try "a warning" rejects "conversion]" planted_warning '1s/^/signed char planted(
   src/core.c
 try "a warning of setuptools" rejects "option: 'more'" planted_warning 's/license=/more=0, &/' setup.py
 try "a read after the end of the input" rejects AddressSanitizer planted_read
-needs=all try "faults" sees_faults "$here/tests/faults.sed" "$work/sdist" \
+needs=--all try "faults" sees_faults "$here/tests/faults.sed" "$work/sdist" \
   "src/arguments.c src/core.c src/reader.c src/value.c verified_multihash/__init__.py verified_multihash/__main__.py" \
   installed_tests "$work/faults"

@@ -234,7 +234,7 @@ def program_results(texts: Texts) -> Iterator[tap.Result]:
         start.copy_repository(copy := Path(work) / "copy")
         for program in start.programs(texts[README]):
             name = f"{README}, {program.language}"
-            if gone := start.missing(program.language):
+            if gone := tap.missing(start.TOOLS[program.language]):
                 yield tap.left_out(name, gone)
                 continue
             error, shown[program.language] = start.run(program, copy, Path(work) / program.language)

@@ -133,7 +133,7 @@ def results(program: str, names: list[str]) -> Iterator[tap.Result]:
     yield tap.stated("a count less, a row more", lines, "a: [10] instructions, stored [10, 10]; b: it is there alone")
     yield tap.stated("a row less", differences({}, one), "a: it is there alone")
     # without AVX2 libc's copies have other counts
-    if gone := [it for it in ("valgrind", "avx2") if not tap.is_there(it)]:
+    if gone := tap.missing(["valgrind", "cpu:avx2"]):
         yield tap.left_out("the calls from C", gone)
         yield tap.left_out("the calls of crates/speed", gone)
         return

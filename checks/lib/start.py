@@ -18,10 +18,11 @@ ROW = re.compile(r"^\| \[(\w+)[^\]]*\]\([^)]*\) \| `([^`]+)` \|", re.M)
 HEAD = re.compile(r"(?://|#) (\S+): (.*)\n")
 SHOWN = "code 0, digest hello"
 REGISTRY = Path("/usr/share/cargo/registry")  # of Debian, for crates that the packages for Rust need
+# what a program needs, in the forms of is_there.sh
 TOOLS = {
-    "JavaScript": ("node", "npm"),
-    "Python": ("/usr/bin/python3", "cc"),
-    "Rust": ("cargo",),
+    "JavaScript": ("node=20.16+", "npm"),
+    "Python": ("cc", "/usr/include/python3*/Python.h", "python:ensurepip", "python:setuptools", "python:wheel"),
+    "Rust": ("cargo", "rustc=1.82+", f"{REGISTRY}/cc-1.*", f"{REGISTRY}/pkg-config-0.3.*"),
     "C": ("cc", "cmake", "pkg-config"),
     "Rattle": ("rt",),
 }
@@ -46,11 +47,6 @@ def programs(readme: str) -> list[Program]:
     named = [(head[1], head[2], text) for head, text in heads if head]
     rows = zip(ROW.findall(readme), named)
     return [Program(row[0], row[1], *rest, crates) for row, rest in rows]
-
-
-def missing(language: str) -> list[str]:
-    """Returns what is not installed that a program needs."""
-    return [tool for tool in TOOLS[language] if not shutil.which(tool)]
 
 
 def copy_repository(to: Path) -> None:

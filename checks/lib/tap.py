@@ -1,6 +1,5 @@
 """Prints results as TAP, for prove. Builds what checks run."""
 import os
-import shutil
 import subprocess
 import sys
 from collections.abc import Iterable
@@ -8,19 +7,28 @@ from pathlib import Path
 
 # what was checked, and what is wrong with it, if something is
 Result = tuple[str, str]
-SKIP = "# SKIP "
+SKIP = "# SKIP no "
 CRATES = Path(__file__).resolve().parents[2] / "crates"
 
 
 def report(results: Iterable[Result]) -> int:
-    """Prints results as they come, and then the plan. Returns the exit status: without a result it is 1 too."""
+    """Prints results as they come, and then the plan. Returns the exit status: without a result it is 1 too.
+
+    What is left out is summed up on the standard error.
+    """
     failed = number = 0
+    reasons: list[str] = []
     for number, (what, error) in enumerate(results, 1):
         failed += bool(error)
         name, skip, why = what.replace("\n", " ").partition(SKIP)
+        reasons += [why] if skip else []
         print(f"{'not ok' if error else 'ok'} {number} - {name.replace('#', '')}{skip}{why}", flush=True)
         for line in error.splitlines():
             print(f"#   {line}", file=sys.stderr, flush=True)
+    if reasons:
+        gone = sorted({tool for why in reasons for tool in why.split(", ")})
+        check = os.environ.get("CHECK") or Path(sys.argv[0]).name
+        print(f"# {check}: left out {len(reasons)} of {number}: no {', '.join(gone)}", file=sys.stderr, flush=True)
     print(f"1..{number}")
     return 1 if failed or not number else 0
 
@@ -36,15 +44,16 @@ def planted(what: str, found: str | list[str]) -> Result:
     return f"planted: {what}", "" if found else "it is not found"
 
 
-def is_there(tool: str) -> bool:
-    """Returns whether a tool is installed, or the processor has these instructions."""
-    return bool(shutil.which(tool)) or f" {tool} " in Path("/proc/cpuinfo").read_text("utf-8")
+def missing(tools: Iterable[str]) -> list[str]:
+    """Returns those tools that are not there, in the forms of is_there.sh."""
+    words = ["bash", str(Path(__file__).with_name("is_there.sh")), *tools]
+    return subprocess.run(words, stdout=subprocess.PIPE, text=True, check=True).stdout.splitlines()
 
 
 def left_out(what: str, gone: list[str]) -> Result:
     """Returns the result of a check that needs tools which are not there. .ci/run --all makes it a failure."""
-    is_right = gone and not any(map(is_there, gone))
-    return f"{what} {SKIP}no {', '.join(gone)}", "" if is_right else "what it needs is there"
+    is_right = gone and missing(gone) == gone
+    return f"{what} {SKIP}{', '.join(gone)}", "" if is_right else "what it needs is there"
 
 
 def program(crate: str, word: str = "run") -> str:

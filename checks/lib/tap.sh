@@ -4,35 +4,45 @@
 # printed is the plan, so a script that ends early has none.
 #
 #   try NAME COMMAND..             a check
-#   needs="TOOL.." try ..          is left out without one of these tools
+#   needs="TOOL.." try ..          is left out without one of these tools, in the forms of is_there.sh
 #   require TOOL..                 all checks are
 #   prints TEXT COMMAND..          in a check: the command ends with status 0, and prints the text
 #   rejects TEXT COMMAND..         it ends with another status
-#   ALL=1                          the tool 'all' is there; .ci/run fails where something is left out
+#
+# What is left out is summed up on the standard error.
 set -euo pipefail
 shopt -s inherit_errexit
 cd "$(dirname "${BASH_SOURCE[0]}")/../.."
+# shellcheck source=checks/lib/is_there.sh
+. checks/lib/is_there.sh
 export LC_ALL=C.UTF-8
-number=0 failed=0 required="" needs=""
+number=0 failed=0 left=0 gone="" without="" needs=""
 work=$(mktemp -d)
 
 finish() {
   local ended=$?
   rm -rf "$work"
+  [ $left = 0 ] || echo "# ${CHECK:-${0##*/}}: left out $left of $number: no $(sort -u <<< "$gone" | list)" >&2
   [ $ended != 0 ] || echo "1..$number"
   exit $((ended || failed || number == 0))
 }
 trap finish EXIT
 
-require() { required=$*; }
+require() { without=$(missing "$@"); }
+
+# Joins lines that are not empty.
+list() { sed '/^$/d' | paste -sd, | sed 's/,/, /g'; }
 
 try() {
-  local - tool ended result=ok
+  local - lack ended result=ok
   number=$((number + 1))
-  for tool in $required $needs; do
-    # shellcheck disable=SC2310 # what it says is its status
-    is_there "$tool" > "$work/log" || { echo "ok $number - $1 # SKIP $tool is not there"; return; }
-  done
+  # shellcheck disable=SC2086 # words
+  lack=$without$'\n'$(missing $needs)
+  if [ "$lack" != $'\n' ]; then
+    left=$((left + 1)) gone+=$'\n'$lack
+    echo "ok $number - $1 # SKIP no $(list <<< "$lack")"
+    return
+  fi
   set +e
   (set -e; "${@:2}") > "$work/log" 2>&1
   ended=$?
@@ -87,20 +97,3 @@ sees_faults() {
 
 # The first block of a page in a language.
 block_of() { awk -v fence="\`\`\`$2" '$0 == fence { on = 1; next } on && /^```/ { exit } on' "$1"; }
-
-# Whether a tool is there: NAME, NAME=VERSION, NAME=VERSION+ for later ones too, or a path.
-is_there() {
-  case $1 in
-    all) [ "${ALL-}" = 1 ] ;;
-    */*) [ -e "$1" ] ;;
-    *=*) is_version "${1%%=*}" "${1#*=}" ;;
-    *) command -v "$1" ;;
-  esac
-}
-is_version() {
-  [[ $("$1" --version 2>&1) =~ [0-9]+(\.[0-9]+)* ]]
-  case $2 in
-    *+) printf '%s\n' "${2%+}" "${BASH_REMATCH[0]}" | sort -VC ;;
-    *) [ "$2" = "${BASH_REMATCH[0]}" ] ;;
-  esac
-}
