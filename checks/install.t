@@ -33,14 +33,15 @@ installs() {
 }
 
 # Below DESTDIR, from where pkg-config has to find it, in other folders, each named from the root; with the program,
-# another one here.
+# another one here. The folder of the build has a name that a shell would not read as one word.
 installs_below() {
   local -x PKG_CONFIG_SYSROOT_DIR=$work/below
   local include=headers/c document=pages/c man=manual to=/opt/multihash
-  build lib64 -DCMAKE_INSTALL_PREFIX=$to -DCMAKE_INSTALL_LIBDIR=$to/lib/64 -DCMAKE_INSTALL_INCLUDEDIR=$to/$include \
+  build "built (64)" -DCMAKE_INSTALL_PREFIX=$to -DCMAKE_INSTALL_LIBDIR=$to/lib/64 \
+    -DCMAKE_INSTALL_INCLUDEDIR=$to/$include \
     -DCMAKE_INSTALL_DOCDIR=$to/$document -DCMAKE_INSTALL_MANDIR=$to/$man -DCMAKE_INSTALL_BINDIR=$to/other/bin \
     -DMULTIHASH_C_PROGRAM="$(type -P true)"
-  DESTDIR=$work/below install_built lib64
+  DESTDIR=$work/below install_built "built (64)"
   is_installed "$work/below/opt/multihash" lib/64 other/bin/mh_show "$man/man1/mh_show.1"
   installed_test "$work/below/opt/multihash"
 }
@@ -165,6 +166,15 @@ from_source() {
   installed_test "$work/source.prefix"
 }
 
+# Under a name for debugging, by a compiler whose default is C90.
+debug_build() {
+  build debug -DMULTIHASH_C_ARCHIVE=OFF -DCMAKE_C_STANDARD=90 -DCMAKE_BUILD_TYPE=Debug -DCMAKE_DEBUG_POSTFIX=d \
+    -DCMAKE_INSTALL_PREFIX="$work/debug.prefix"
+  install_built debug
+  [ -e "$work/debug.prefix/lib/libmultihash_cd.a" ]
+  installed_test "$work/debug.prefix"
+}
+
 # Flags of a distribution reach the compiler, before those of the build type, and the linker, and hide no function of
 # the shared library. Without tests none are built, and without Python no man pages.
 with_flags() {
@@ -187,6 +197,7 @@ test_installation() {
   try "after edits" after_edits
   try "installing below a folder" installs_below
   try "the portable source" from_source
+  try "a build for debugging" debug_build
   try "packing" packs
   try "planted differences" planted_prefix
   try "the installed test of planted files" planted_test
