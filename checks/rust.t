@@ -185,12 +185,14 @@ multihash/Cargo.toml,tests cargo test --features serde --test values,unused mani
 END
 }
 
-# The archive is found in a directory of any name, and missed once it is gone. That of the source needs no compiler.
+# The archive is found in a directory of any name, and missed once it is gone. That of the source needs no compiler, and
+# is not another one. What is set to nothing is not set.
 rust_build() {
   local directory=$work/$'a \xff directory' plain=$work/plain
   mkdir "$directory" "$plain"
   cp "$archive" "$directory"
   cp "$archive" "$plain"
+  sed '0,/multihash/s//another_/' "$archive" > "$work/another.a"
   tests MULTIHASH_C_LIB_DIR="$directory" cargo test -p multihash_c
   in_crate MULTIHASH_C_LIB_DIR="$plain" cargo build
   rm "$directory"/*
@@ -198,6 +200,10 @@ rust_build() {
   in_crate MULTIHASH_C_LIB_DIR="$plain" cargo build
   rm "$plain"/*
   rejects "libmultihash_c.a: No such file" in_crate MULTIHASH_C_LIB_DIR="$plain" cargo build
+  in_crate CC=none MULTIHASH_C_LIB_DIR= MULTIHASH_C_SYSTEM= DOCS_RS= cargo test -p multihash_c
+  find "$work/repository" -path "*/$(uname -m)/*.a" -exec cp "$work/another.a" {} \;
+  rejects "not the archive of prebuilt/SHA256SUMS" in_crate cargo build
+  find "$work/repository" -path "*/$(uname -m)/*.a" -exec cp "$archive" {} \;
   in_crate CC=none cargo build
   rejects "multihash_c >= 1.0" in_crate MULTIHASH_C_SYSTEM=1 PKG_CONFIG_LIBDIR="$work/none" cargo build
   rejects "not an absolute path" in_crate MULTIHASH_C_SYSTEM=1 MULTIHASH_C_LIB_DIR=prebuilt cargo build
