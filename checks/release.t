@@ -160,6 +160,17 @@ has_owner() {
     grep '^repository = "https://forge.example/multihash"'
 }
 
+# A release of another archive than the listed one fails, and leaves nothing.
+failed_release() {
+  cp -r "$work/clone" "$work/altered"
+  cd "$work/altered"
+  git checkout -q HEAD -- bindings/c/prebuilt
+  echo >> bindings/c/prebuilt/x86_64/libmultihash_c.a
+  git -c user.name=tester -c user.email=tester commit -q -m altered bindings/c/prebuilt
+  rejects "an archive is not that of prebuilt/SHA256SUMS" tools/release "$work/failed"
+  [ ! -e "$work/failed" ]
+}
+
 # The library of an archive, and its installed test, by a command that runs programs.
 has_library() {
   tar -xf "$work/release/multihash_c-$version-$1.tar.gz" -C "$work"
@@ -207,6 +218,7 @@ test_release() {
   try "a planted release" planted_release
   try "its source" is_source
   try "its owner" has_owner
+  try "a release that fails" failed_release
   try "the library for x86-64" has_library x86_64
   CC=aarch64-linux-gnu-gcc RUN=$emulator try "the library for aarch64" has_library aarch64
   try "the portable source" has_portable_source

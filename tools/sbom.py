@@ -1,5 +1,6 @@
 #!/usr/bin/env python3
-"""Prints the bill of materials of a release, in SPDX 2.3: its files, what of the kit is in them, and the tools.
+"""Prints the bill of materials of a release, in SPDX 2.3: its files, what of the kit is in them, what the packages for
+Rust depend on, and the tools.
 
     tools/sbom.py SOURCE FILE.. < TOOLS
 
@@ -41,17 +42,28 @@ MADE = {
 }
 # what made two of them of what the kit linked
 MAKERS = (("wasm2c", "1.0.32", "bindings/c/src/module.h"), ("wasm-opt", "108", "bindings/js/multihash.wasm"))
+# the tables of Cargo.toml, and how what they list is related to the package
+TABLES = {
+    "dependencies": "DEPENDENCY_OF",
+    "build-dependencies": "BUILD_DEPENDENCY_OF",
+    "dev-dependencies": "TEST_DEPENDENCY_OF",
+}
 packages: list[dict[str, Any]] = []
 relations: list[dict[str, str]] = []
 
 
+def reference(name: str) -> str:
+    return "SPDXRef-" + re.sub("[^A-Za-z0-9.]", "-", name)
+
+
 def package(name: str, version: str, purpose: str, path: Optional[Path] = None) -> str:
     row: dict[str, Any] = {
-        "SPDXID": "SPDXRef-" + re.sub("[^A-Za-z0-9.]", "-", name),
+        "SPDXID": reference(name),
         "name": name,
         "versionInfo": version,
     }
     row.update(downloadLocation="NOASSERTION", filesAnalyzed=False, primaryPackagePurpose=purpose)
+    row.update(supplier="Organization: " + OWNER if path else "NOASSERTION")
     if path:
         sums = [{"algorithm": "SHA256", "checksumValue": hashlib.sha256(path.read_bytes()).hexdigest()}]
         row.update(packageFileName=name, checksums=sums, licenseConcluded="MIT", licenseDeclared="MIT")
@@ -80,6 +92,21 @@ for path in FILES:
     for name, form in MADE.items():
         if re.search(form, path.name):
             relate(file, "GENERATED_FROM", made[name])
+crates = {re.sub("-[0-9.]*$", "", path.stem): reference(path.name) for path in FILES if path.suffix == ".crate"}
+for crate, packed in [*crates.items()]:
+    table = ""
+    for line in (SOURCE / "bindings/rust" / crate / "Cargo.toml").read_text().splitlines():
+        table = line.strip("[]") if line.startswith("[") else table
+        wanted = re.match(r'([\w-]+) = (?:\{ version = )?"([^"]*)"', line)
+        if wanted and table in TABLES:
+            name, version = wanted.groups()
+            if name not in crates:
+                crates[name] = package("crate-" + name, version, "LIBRARY")
+                locator = {"referenceType": "purl", "referenceLocator": "pkg:cargo/" + name}
+                packages[-1]["externalRefs"] = [{"referenceCategory": "PACKAGE-MANAGER", **locator}]
+                packages[-1].update(name=name, comment="any version that fits this one, by Cargo's rules")
+            kind = "OPTIONAL_DEPENDENCY_OF" if "optional = true" in line else TABLES[table]
+            relate(crates[name], kind, packed)
 for line in sys.stdin:
     tool, version = line.split()
     relate(package(tool, version, "APPLICATION"), "BUILD_TOOL_OF", release)
