@@ -57,6 +57,8 @@ states_words() {
   done
 }
 
+export MYPY_CACHE_DIR=$work/mypy
+
 # Tries a linter, a command with options, over scripts, and over a planted script, which it has to reject with a text.
 try_linter() {
   local linter=$1 planted=$work/$2 text=$3
@@ -79,7 +81,7 @@ try_linter() {
     "#!/bin/bash\nset -e\nf() { cd /tmp; }\nf || exit" $shell
   needs=black try_linter "black --check --line-length 120" layout.py "would reformat" "number  =  1" $python
   needs=pyflakes3 try_linter pyflakes3 unused.py "imported but unused" "import os" $python
-  needs=mypy try_linter "mypy --strict --scripts-are-modules --cache-dir $work/mypy" untyped.py \
+  needs=mypy try_linter "mypy --strict --scripts-are-modules" untyped.py \
     "missing a type annotation" "def same(number): return number" $typed
   needs=tsc try_linter names unused.js TS6133 "export {};\nconst number = 1;" $javascript
   try "scripts with wrong words" states_words

@@ -77,9 +77,9 @@ def prepare(program: Program, folder: Path) -> dict[str, str]:
         subprocess.run(["cargo", "init", "--quiet", "--name", "app"], cwd=folder, check=True)
         return {"CARGO_HOME": str(home)}
     if language == "C":
-        root = f"{folder}/root"
-        packages = f"{root}/usr/local/lib/pkgconfig"
-        return {"DESTDIR": root, "PKG_CONFIG_PATH": packages, "PKG_CONFIG_SYSROOT_DIR": root}
+        # the shell does not read blanks that pkg-config escapes, so the root is named from the folder
+        packages = f"{folder}/root/usr/local/lib/pkgconfig"
+        return {"DESTDIR": f"{folder}/root", "PKG_CONFIG_PATH": packages, "PKG_CONFIG_SYSROOT_DIR": "root"}
     (folder / "crates").mkdir()
     (folder / "crates.txt").write_text(program.crates, "utf-8")
     return {}
