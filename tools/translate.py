@@ -2,6 +2,7 @@
 """Makes C from the library as WebAssembly with 64-bit memory. wasm2c (WABT 1.0.32) translates instructions,
 but knows no such memory, and its own is one block. So each access becomes a call of a function of memory.h.
 
+    translate.py names                                   looks for the functions that are placed below in the crates
     translate.py calls LINKED.wat > CALLS.wat            LINKED.wat is what wasm2wat prints of the module
     translate.py module LINKED.wat CALLS.c > module.h    CALLS.c is what wasm2c makes of CALLS.wat
 
@@ -9,6 +10,7 @@ A text in no known form is an error, as that of another version of WABT may be.
 """
 import re
 import sys
+from collections.abc import Iterator
 from pathlib import Path
 from typing import TypeVar
 
@@ -32,7 +34,8 @@ GLOBALS = r"""static void init_globals\(Z_module_instance_t\* instance\) \{
 \}
 """
 CALL = re.compile(r"\(\*Z_memoryZ_(\w+)\)\(instance->Z_memory_instance, ")
-MEMORY = Path(__file__).resolve().parent.parent / "bindings/c/src/memory.h"
+TOP = Path(__file__).resolve().parents[1]
+MEMORY = TOP / "bindings/c/src/memory.h"
 # The functions and macros of memory.h, and what C has besides calls.
 PROVIDED = re.compile(r"^(?:(?:static inline|ALWAYS_INLINE) [^(\n]*?|#define )(\w+)\(", re.MULTILINE)
 # The functions that are compiled into their callers, which mostly know the block of an address, and those that are
@@ -138,6 +141,25 @@ def functions(linked: str, made: str) -> str:
     return re.sub(r"[ \t]+$", "", both, flags=re.MULTILINE).strip()
 
 
+def placements() -> Iterator[tuple[str, str]]:
+    """Returns the functions that are placed, each with how an error names it."""
+    for where, names in (("INLINED", INLINED), ("APART", APART)):
+        for name in sorted(names):
+            yield name, f"  {name.removeprefix('w2c_').replace('__', '::')}, which {where} of tools/translate.py places"
+
+
+def sources() -> str:
+    """Returns what the module is made from."""
+    return "\n".join(path.read_text("utf-8") for path in TOP.glob("crates/multihash*/src/**/*.rt"))
+
+
+def missing_names(text: str) -> str:
+    """Returns the functions that are placed, and that the sources do not have."""
+    known = {*re.findall(r"\bfn (\w+)", text)}
+    ours = ((re.sub(r"^(?:w2c_)?(?:.*__)?(?:export_)?", "", name), said) for name, said in placements())
+    return "\n".join(said for name, said in ours if name not in known)
+
+
 def placed(code: str) -> str:
     """Says where functions are compiled. One called apart gets a copy of the call's numbers: so its caller can keep its
     own in registers."""
@@ -158,7 +180,9 @@ def placed(code: str) -> str:
             f"  memory call = *instance;\n  {name}_apart(&call{given});\n}}"
         )
 
-    need(INLINED | APART <= {it[1] for it in HEAD.findall(code)}, "the module has the functions that are placed")
+    known = {it[1] for it in HEAD.findall(code)}
+    if missing := [said for name, said in placements() if name not in known]:
+        raise Unread("the module lacks\n" + "\n".join(missing))
     code = LONGER.sub("  if (ends_here(instance)) return;\n", code)
     return HEAD.sub(head, code)
 
@@ -200,6 +224,9 @@ def module(linked: str, made: str) -> str:
 def main() -> int:
     try:
         match sys.argv[1:]:
+            case ["names"]:
+                if missing := missing_names(sources()):
+                    raise Unread("the crates lack\n" + missing)
             case ["calls", linked]:
                 print(calls(Path(linked).read_text()), end="")
             case ["module", linked, made]:
@@ -213,4 +240,5 @@ def main() -> int:
     return 0
 
 
-sys.exit(main())
+if __name__ == "__main__":
+    sys.exit(main())
