@@ -173,7 +173,9 @@ on_machine() {
   needs="$needs $2-gcc $3" try "$1" passes "$tree" "$1" "$2-gcc" -O2 -static
 }
 
-needs="rt wasm2c=1.0.32 wasm2wat=1.0.32 wat2wasm=1.0.32" test_generated
+# shellcheck source=tools/makers
+. tools/makers
+needs="rt wasm2c=$wabt wasm2wat=$wabt wat2wasm=$wabt" test_generated
 test_here
 needs=clang try "fuzzing" bindings/c/fuzz.sh
 needs=--all on_machine aarch64 aarch64-linux-gnu qemu-aarch64

@@ -18,5 +18,13 @@ runs_all() {
   tail -n 1 "$work/out" | diff - <(echo "$(grep -c '^[a-z]' crates.txt) passed, 0 failed")
 }
 
+# The kit is the one that tools/makers states.
+is_stated() {
+  # shellcheck source=tools/makers
+  . tools/makers
+  rt version | diff - <(echo "$kit logic $logic")
+}
+
 try "rt ci" passes
+try "the kit" is_stated
 try "all crates and tests" runs_all

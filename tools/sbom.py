@@ -31,8 +31,7 @@ def found(form: str, text: str) -> list[str]:
 
 
 COPYRIGHT, OWNER = found(r"(Copyright .*\d{4} (.*))", (SOURCE / "LICENSE").read_text())
-README = (SOURCE / "README.md").read_text()
-KIT, LOGIC = (found(form, README)[0] for form in ("`(rattle-kit-[^`]*)`", "logic `([^`]*)`"))
+MAKERS = dict(re.findall(r"(?m)^(\w+)=(.*)$", (SOURCE / "tools/makers").read_text()))
 # what the kit made, and the files of a release that have it, or were linked with it
 MADE = {
     "bindings/c/prebuilt/x86_64/libmultihash_c.a": r"_x86_64\.|-x86_64\.|_amd64\.|multihash_c-[0-9.]*\.crate",
@@ -41,7 +40,7 @@ MADE = {
     "bindings/js/multihash.wasm": r"\.tgz$",
 }
 # what made two of them of what the kit linked
-MAKERS = (("wasm2c", "1.0.32", "bindings/c/src/module.h"), ("wasm-opt", "108", "bindings/js/multihash.wasm"))
+LATER = (("wabt", "bindings/c/src/module.h"), ("binaryen", "bindings/js/multihash.wasm"))
 # the tables of Cargo.toml, and how what they list is related to the package
 TABLES = {
     "dependencies": "DEPENDENCY_OF",
@@ -78,13 +77,13 @@ def relate(left: str, kind: str, right: str) -> None:
 
 release = package(SOURCE.name, VERSION, "SOURCE")
 relate("SPDXRef-DOCUMENT", "DESCRIBES", release)
-kit = package(KIT, LOGIC, "APPLICATION")
+kit = package(MAKERS["kit"], MAKERS["logic"], "APPLICATION")
 made = {name: package(name, VERSION, "LIBRARY", SOURCE / name) for name in MADE}
 for name in made.values():
     relate(name, "GENERATED_FROM", release)
     relate(kit, "BUILD_TOOL_OF", name)
-for tool, version, name in MAKERS:
-    relate(package(tool, version, "APPLICATION"), "BUILD_TOOL_OF", made[name])
+for tool, name in LATER:
+    relate(package(tool, MAKERS[tool], "APPLICATION"), "BUILD_TOOL_OF", made[name])
 for path in FILES:
     its_version = re.search("[-_]([0-9]+[.][0-9]+[.][0-9]+)", path.name)
     file = package(path.name, its_version[1] if its_version else VERSION, "ARCHIVE", path)

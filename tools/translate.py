@@ -1,5 +1,5 @@
 #!/usr/bin/env python3
-"""Makes C from the library as WebAssembly with 64-bit memory. wasm2c (WABT 1.0.32) translates instructions,
+"""Makes C from the library as WebAssembly with 64-bit memory. wasm2c (of WABT) translates instructions,
 but knows no such memory, and its own is one block. So each access becomes a call of a function of memory.h.
 
     translate.py names                                   looks for the functions that are placed below in the crates

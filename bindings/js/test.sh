@@ -18,7 +18,7 @@ lists_engines() {
   node --no-warnings --input-type=module -e "
     $2;
     await import('$1').then(() => process.exit(1), (error) => console.log(error.message));" |
-    grep 'WebAssembly.*BigInt.*Node.js 20.16, Chrome 89, Edge 89, Firefox 90 and Safari 15'
+    grep 'WebAssembly.*BigInt.*Node.js [0-9.]*, Chrome 89, Edge 89, Firefox 90 and Safari 15'
 }
 
 # In an engine that lacks something, the import throws an error that lists versions: core.js has a condition for each.
@@ -182,7 +182,9 @@ test_browser() {
   needs=$tools try "the demo page in $name" demo "$name"
 }
 
-needs="rt wasm-opt=108 wasm2wat=1.0.32" try "the WebAssembly built anew" built_anew
+# shellcheck source=tools/makers
+. tools/makers
+needs="rt wasm-opt=$binaryen wasm2wat=$wabt" try "the WebAssembly built anew" built_anew
 needs=wasm-validate try "the WebAssembly for old engines" old_module
 needs="$node npm" try "in Node.js" npm_test "$here"
 needs="--all $node npm" try "faults" sees_faults "$here/test/faults.sed" "$here" "core.js api.js index.js" \

@@ -43,6 +43,9 @@ STATED = (
     (r"CPython (\d\.\d+)\b(?! on)", "bindings/python/pyproject.toml", r'requires-python = ">=(.*)"'),
     (r"Node\.js (\d+\.\d+)", "bindings/js/package.json", r'"node": ">=(.*)"'),
     (r"Version (\d[\d.]*\d)", HEADER, r'MULTIHASH_VERSION "(.*)"'),
+    (r"`(rattle-kit-[^`]*)`", "tools/makers", r"(?m)^kit=(.*)"),
+    (r"logic `([^`]*)`", "tools/makers", r"(?m)^logic=(.*)"),
+    (r"WABT (\d[\d.]*\d)", "tools/makers", r"(?m)^wabt=(.*)"),
     (r"`multihash` (\d[\d.]*\d)", f"{RUST}/Cargo.toml", r'\nversion = "(.*)"'),
     (r"\| a digest \| 0 to `min\(S, (\d+)\)", HEADER, r"MULTIHASH_DIGEST_MAX (\d+)"),
     (r"\| an encoding \| 2 to (\d+)", HEADER, r"MULTIHASH_LENGTH_MAX (\d+)"),
@@ -161,7 +164,7 @@ def declared_errors(texts: Texts) -> Iterator[str]:
 
 def stated_errors(texts: Texts) -> Iterator[str]:
     """Compares versions and limits of pages with where they are from, and the errors in the page for C."""
-    prose = flat("\n".join(pages_of(texts).values()))
+    prose = flat("\n".join([*pages_of(texts).values(), read("bindings/js/core.js")]))
     for form, source, origin in STATED:
         found, wanted = {*re.findall(form, prose)}, {*re.findall(origin, read(source))}
         if found != wanted or len(wanted) != 1:
