@@ -6,7 +6,7 @@ export const HEAD_MAX: 18;
 export const LENGTH_MAX: 266;
 /** The most bytes of a SCALE form. */
 export const SCALE_LENGTH_MAX: 264;
-/** The version of the library, as `"1.0.0"`. */
+/** The version of the library: three numbers with dots between them. */
 export const version: string;
 
 /**
