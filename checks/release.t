@@ -6,6 +6,7 @@ require cc cmake python3=3.11+ readelf pkg-config dpkg-buildpackage dh lintian /
 # shellcheck source=checks/lib/installed.sh
 . checks/lib/installed.sh
 upstream=$(sed -n 's/^version = "\(.*\)"/\1/p' bindings/rust/multihash/Cargo.toml)
+minor=$(sed -n 's/^requires-python = ">=3\.\(.*\)"/\1/p' bindings/python/pyproject.toml)
 
 # ---- packages for Debian
 
@@ -114,7 +115,7 @@ has_files() {
   printf '%s\n' libmultihash-c{"$major",-dev}_"$version-1"_{amd64,arm64}.deb "multihash-$version".{spdx.json,tar.gz} \
     "multihash-$upstream.crate" "multihash_c-$version-"{aarch64,source,x86_64}.tar.gz "multihash_c-$version.crate" \
     "verified-multihash-$version.tgz" "verified_multihash-$version.tar.gz" \
-    "verified_multihash-$version-cp38-abi3-manylinux2014_"{aarch64,x86_64}.whl | sort > "$work/files"
+    "verified_multihash-$version-cp3$minor-abi3-manylinux2014_"{aarch64,x86_64}.whl | sort > "$work/files"
   sed 's/^[^ ]*  //' SHA256SUMS | sort | diff "$work/files" -
   find . -mindepth 1 -printf '%P\n' | grep -vx SHA256SUMS | sort | diff "$work/files" -
   grep -v spdx SHA256SUMS | diff - <(python3 -c 'import json, sys

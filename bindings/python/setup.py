@@ -5,6 +5,7 @@ compared. An sdist has none, and looks at no folder above its own: there anyone 
 """
 import hashlib
 import os
+import re
 import shutil
 import sys
 import sysconfig
@@ -28,6 +29,8 @@ if in_repository:
     for name, path in COPIES.items():
         shutil.copyfile("../../" + path, name)
 
+with open("pyproject.toml") as file:
+    [minor] = map(int, re.findall(r'requires-python = ">=3\.(\d+)"', file.read()))
 system, _, machine = sysconfig.get_platform().partition("-")
 prebuilt, name = "../c/prebuilt/", "%s/libmultihash_c.a" % machine
 archive = os.environ.get("MULTIHASH_C_ARCHIVE")
@@ -41,12 +44,12 @@ core = Extension(
     "verified_multihash._core",
     SOURCES if archive else [*SOURCES, "portable/multihash.c"],
     include_dirs=["portable"],
+    define_macros=[("Py_LIMITED_API", "0x03%02x0000" % minor)],
     extra_objects=[archive] if archive else [],
     extra_compile_args=["/std:c11"] if system.startswith("win") else ["-std=c11", "-fvisibility=hidden"],
     extra_link_args=["-Wl,--exclude-libs,ALL", "-Wl,-z,now"] if system == "linux" else [],
     py_limited_api=True,
 )
 # An earlier build may have linked another archive.
-setup(
-    license="MIT", ext_modules=[core], options={"bdist_wheel": {"py_limited_api": "cp38"}, "build_ext": {"force": True}}
-)
+options = {"bdist_wheel": {"py_limited_api": "cp3%d" % minor}, "build_ext": {"force": True}}
+setup(license="MIT", ext_modules=[core], options=options)

@@ -1,6 +1,5 @@
 /* What the files of the module share. They convert arguments and results, and decide nothing. They are in the stable
- * ABI of CPython 3.8. */
-#define Py_LIMITED_API 0x03080000
+ * ABI of the first CPython that pyproject.toml wants: setup.py defines Py_LIMITED_API. */
 #define PY_SSIZE_T_CLEAN
 #include <Python.h>
 #include <stddef.h>
