@@ -1,5 +1,6 @@
 #!/usr/bin/env python3
-"""Compares the header for C, and the numbers and structs of the bindings, with the crate.
+"""Compares the header for C, the numbers and structs of the bindings, and what names private functions, with the
+crate, and what states the version with the header.
 
     checks/header.t              checks
     checks/header.t --exports    prints the names of the functions that the header declares
@@ -13,16 +14,19 @@ import re
 import subprocess
 import sys
 from collections.abc import Iterable, Iterator
+from datetime import date
 from pathlib import Path
 from typing import NamedTuple
 
 LIB = Path(__file__).with_name("lib")
-sys.path.append(str(LIB))
+TOP = Path(__file__).resolve().parents[1]
+sys.path += [str(LIB), str(TOP / "tools")]
 import edits
 import tap
+import translate
+import version
 from rt_source import Item, items
 
-TOP = Path(__file__).resolve().parents[1]
 CRATE = "crates/multihash_c"
 HEADER, MAP = "bindings/c/include/multihash.h", "bindings/c/src/multihash_c.map"
 LANGUAGES = ("c", "c++")
@@ -50,6 +54,7 @@ PATTERNS = (
     f"{RUST}/src/**/*.rs",
     f"{PYTHON}/**/*.py",
     f"{JS}/core.js",
+    f"{JS}/index.d.ts",
 )
 
 Files = dict[str, str]
@@ -63,7 +68,7 @@ class Declared(NamedTuple):
     macros: set[str]
     statuses: dict[str, str]
     lengths: dict[str, str]
-    version: str
+    version: list[int]
 
 
 def read_files() -> Files:
@@ -142,11 +147,10 @@ def of_crate(files: Files) -> Declared:
     lengths = {name: str(number) for name, number in most.items()}
     statuses, numbers = (numbers_of(sources[f"{CRATE}/src/{name}.rt"]) for name in ("status", "version"))
     major, minor, patch = (numbers[part] for part in ("MAJOR", "MINOR", "PATCH"))
-    version, number = f"{major}.{minor}.{patch}", f"{major}{minor:>02}{patch:>02}"
-    macros = {"H": "", "VERSION": f'"{version}"', "VERSION_NUMBER": number, **lengths}
-    lines = {f"#define MULTIHASH_{name} {value}\n" for name, value in macros.items()}
+    macros = {"H": "", "VERSION": f'"{major}.{minor}.{patch}"', "VERSION_NUMBER": f"{major}{minor:>02}{patch:>02}"}
+    lines = {f"#define MULTIHASH_{name} {value}\n" for name, value in {**macros, **lengths}.items()}
     declarations = {*status_declarations(statuses, texts), *declared(structs_of(every), exports)}
-    return Declared(declarations, lines, statuses, lengths, version)
+    return Declared(declarations, lines, statuses, lengths, [int(major), int(minor)])
 
 
 def preprocessed(text: str, language: str) -> tuple[set[str], str]:
@@ -198,11 +202,14 @@ def binding_errors(files: Files, crate: Declared) -> Iterator[str]:
     ):
         if other := found ^ {*numbers.items()}:
             yield f"{name} and the crate's: {sorted(other)}"
+    typed = re.findall(r"(?m)^  \| '(\w+)'", files[f"{JS}/index.d.ts"])
+    if typed != statuses[1:]:
+        yield f"index.d.ts has other statuses than core.js: {typed}"
     for text in sorted({*declared(structs_of(ffi), functions)} - crate.declarations):
         yield f"the crate does not have Rust's {text}"
-    for version in re.findall(r"(?m)^MULTIHASH_C_(\S+) ", files[MAP]):
-        if [*map(int, version.split("."))] > [*map(int, crate.version.split("."))]:
-            yield f"{MAP} has a function of version {version}, and the crate is {crate.version}"
+    for later in re.findall(r"(?m)^MULTIHASH_C_(\S+) ", files[MAP]):
+        if [*map(int, later.split("."))] > crate.version:
+            yield f"{MAP} has a function of version {later}, which is later than the crate's"
 
 
 def error_of(files: Files) -> str:
@@ -235,7 +242,21 @@ def unread() -> Iterator[tap.Result]:
             yield tap.planted(text, error)
 
 
+def versions() -> Iterator[tap.Result]:
+    """Compares what states the version. Then a later one is written, and each file is planted as it was."""
+    texts = version.read()
+    yield "the version", "\n".join(version.errors(texts))
+    pending = {**texts, version.CHANGES: version.PENDING + texts[version.CHANGES]}
+    later = version.written(pending, "99.0.0", date(2099, 1, 1))
+    yield "a later version", "\n".join(version.errors(later))
+    for path in later:
+        yield tap.planted(f"another version: {path}", [*version.errors({**later, path: texts[path]})])
+
+
 def results() -> Iterator[tap.Result]:
+    yield from versions()
+    yield "functions that translate.py places", translate.missing_names(translate.sources())
+    yield tap.planted("functions that translate.py places", translate.missing_names(""))
     files = read_files()
     yield "the header and the bindings", error_of(files)
     for name, *edit in edits.rows(LIB / "header.edits"):
