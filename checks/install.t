@@ -9,6 +9,7 @@ require cc cmake python3 readelf pkg-config
 # shellcheck source=checks/lib/warnings.sh
 . checks/lib/warnings.sh
 prefix="$work/a prefix"
+minimum=$(grep ^cmake_minimum_required CMakeLists.txt)
 
 # ---- what is installed
 
@@ -122,14 +123,14 @@ END
 
 # A difference of an installation for each comparison.
 planted_prefix() {
-  rejects_edits "$work/un packed built" is_installed "$work/planted" lib << 'END'
+  rejects_edits "$work/un packed built" is_installed "$work/planted" lib << END
 > ./more|touch more
 /lib/libmultihash_c.so|ln -sf none lib/libmultihash_c.so
 /multihash.h|chmod 755 include/multihash.h
 diff -r|echo >> share/doc/multihash_c/changelog
 > -L|sed -i 's,^libdir=.*,&/..,' lib/pkgconfig/multihash_c.pc
 < BIND_NOW|cc -shared -xc /dev/null -o lib/libmultihash_c.so.?.*
-> more|cc -shared -Wl,--no-as-needed,-z,now,-soname=libmultihash_c.so.1 -xc - -o lib/libm*.so.?.* <<< 'int more;'
+> more|cc -shared -Wl,--no-as-needed,-z,now,-soname=libmultihash_c.so.$major -xc - -o lib/libm*.so.?.* <<< 'int more;'
 END
 }
 
@@ -148,11 +149,11 @@ after_edits() {
     rejects "$text" cmake --build "$copy/build"
     cp -p "$work/file" "$copy/$file"
     cmake --build "$copy/build"
-  done << 'END'
+  done << END
 bindings/c/src/multihash_c.map|planted|syntax error in VERSION script
 bindings/c/man.py|sys.exit("planted")|planted
 bindings/c/include/multihash.h|#define MULTIHASH_VERSION "2"|too many values
-CHANGES|1.0.0 (2026-01-01)|too many values
+CHANGES|$version (2026-01-01)|too many values
 END
   (cd "$copy/bindings/c/prebuilt"; mv aarch64 kept; mv x86_64 aarch64; mv kept x86_64)
   rejects "not the archive of prebuilt/SHA256SUMS" cmake -S "$copy" -B "$copy/other" -DCMAKE_SYSTEM_NAME=Linux \
@@ -187,6 +188,8 @@ with_flags() {
   rejects 'No tests were found' build flags
   rejects "> multihash_more" exports_exactly "$work/flags/libmultihash_c.so" \
     <(sed s/_head/_more/ bindings/c/src/multihash_c.map)
+  rejects "another number of functions than it says" exports_exactly "$work/flags/libmultihash_c.so" \
+    <(sed 's/# [0-9]* functions/# 99 functions/' bindings/c/src/multihash_c.map)
   install_built flags --prefix "$work/no pages"
   [ ! -e "$work/no pages/$man" ]
 }
@@ -215,7 +218,7 @@ test_installation() {
 by_subdirectory() {
   local to=$work/folder kind
   mkdir "$to"
-  printf '%s\n' 'cmake_minimum_required(VERSION 3.20)' 'project(example VERSION 7 LANGUAGES C)' \
+  printf '%s\n' "$minimum" 'project(example VERSION 7 LANGUAGES C)' \
     "add_subdirectory(\"$top\" multihash_c)" 'add_executable(show ${source})' \
     'target_link_libraries(show multihash_c::${kind})' > "$to/CMakeLists.txt"
   for kind in shared static; do
@@ -241,10 +244,10 @@ by_find_package() {
   mkdir "$to"
   for other in built other; do
     for kind in shared static; do
-      { printf '%s\n' 'cmake_minimum_required(VERSION 3.20)' 'project(example LANGUAGES C)' \
+      { printf '%s\n' "$minimum" 'project(example LANGUAGES C)' \
         'add_executable(program ${source})'
         block_of bindings/c/README.md cmake | sed -E "s/(.*::)shared(.*::)static$/\1$kind\2/"; } > "$to/CMakeLists.txt"
-      grep "(multihash_c ${version%.*} " "$to/CMakeLists.txt"
+      grep "(multihash_c $major\.[0-9]* " "$to/CMakeLists.txt"
       grep "multihash_c::$kind)" "$to/CMakeLists.txt"
       cmake -S "$to" -B "$to/$other" -Dsource="$top/bindings/c/examples/show.c" "${found[@]}"
       cmake --build "$to/$other"
@@ -257,7 +260,7 @@ by_find_package() {
     rejects "compatible with requested version" cmake -S "$to" -B "$to/built"
   done
   # a later minor version
-  find "$work/un packed built" -name '*-version.cmake' -exec sed -i "s/\"$version\"/\"$major.7.0\"/" {} +
+  find "$work/un packed built" -name '*-version.cmake' -exec sed -i "s/\"$version\"/\"$major.99.0\"/" {} +
   sed -i "s/(multihash_c [0-9.]*/(multihash_c ${version%.*}/" "$to/CMakeLists.txt"
   prints "Configuring done" cmake -S "$to" -B "$to/built"
 }

@@ -12,13 +12,12 @@ minor=$(sed -n 's/^requires-python = ">=3\.\(.*\)"/\1/p' bindings/python/pyproje
 
 lint_packages() { lintian --allow-root --fail-on warning --suppress-tags initial-upload-closes-no-bugs "$@"; }
 
-# Builds the packages in a copy of the repository, after an edit of it. The tests pass.
+# Builds the packages in a copy of the repository. The tests pass.
 build_packages() {
   local from=$work/debian-$1/source
   mkdir -p "$from"
   git ls-files -z | xargs -0 cp --parents -t "$from"
   cp -r bindings/c/debian "$from"
-  eval "${2-}"
   (cd "$from"; prints '100% tests passed, 0 tests failed out of 2' dpkg-buildpackage -b -us -uc)
 }
 
@@ -41,19 +40,6 @@ has_packages() {
   dpkg-deb -I "${file/-dev/$major}" symbols | sed '/^ MULTIHASH_C/d' |
     diff - <(echo "libmultihash_c.so.$major libmultihash-c$major #MINVER#"
       sed -E 's/(.*)@@MULTIHASH_C_(.*)/ \1@MULTIHASH_C_\2 \2.0/' "$work/versions")
-}
-
-# A function that a later version brought: the map may say so, but Debian's list has to have that version, and what was
-# released has another number of functions.
-later_function() {
-  local map=$work/debian-later/source/bindings/c/src/multihash_c.map
-  # shellcheck disable=SC2016
-  rejects "+ multihash_head@MULTIHASH_C_1.1" build_packages later 'sed -i "/ multihash_head;/d" "$map"
-    printf "MULTIHASH_C_1.1 { # 1 functions\n    multihash_head;\n} MULTIHASH_C_1.0;\n" >> "$map"'
-  set -- "$work"/debian-later/source/obj-*/libmultihash_c.so "$map"
-  rejects "another number of functions than it says: MULTIHASH_C_1.0" exports_exactly "$@"
-  sed -i 's/# 12 functions/# 11 functions/' "$map"
-  exports_exactly "$@"
 }
 
 # A package with a file more.
@@ -84,7 +70,6 @@ test_packages() {
   try "building packages" build_packages amd64
   try "warnings of them" lint_packages "$work"/debian-amd64/*.changes
   try "a planted package" planted_package
-  try "a function of a later version" later_function
   try "packages for amd64" has_packages "$work/debian-amd64" amd64 x86_64-linux-gnu
   needs=qemu-x86_64 try "a program by the packages for amd64" try_packages amd64 x86_64-linux-gnu cc \
     qemu-x86_64

@@ -3,8 +3,10 @@
 # serde; and their build script.
 # shellcheck source=checks/lib/tap.sh
 . "$(dirname "$0")/lib/tap.sh"
-require cc cargo rustc=1.82+ /usr/share/cargo/registry/{cc-1,pkg-config-0.3,serde_json-1}.*
+oldest=$(sed -n 's/^rust-version = "\(.*\)"/\1/p' bindings/rust/Cargo.toml)
+require cc cargo "rustc=$oldest+" /usr/share/cargo/registry/{cc-1,pkg-config-0.3,serde_json-1}.*
 archive=bindings/c/prebuilt/$(uname -m)/libmultihash_c.a
+upstream=$(sed -n 's/^version = "\(.*\)"/\1/p' bindings/rust/multihash/Cargo.toml)
 version=$(sed -n 's/^#define MULTIHASH_VERSION "\([0-9.]*\)"$/\1/p' bindings/c/include/multihash.h)
 
 # Runs a command of Cargo for the packages for Rust; what is set comes first.
@@ -83,17 +85,17 @@ rust_packed() {
   echo planted | tee "$clone"/bindings/rust/{Cargo.lock,target}
   (cd "$work"; clone/bindings/rust/pack.sh .)
   [ ! -e "$work/repository/bindings/rust/target" ]
-  for package in multihash-0.19.5 "multihash_c-$version"; do
+  for package in "multihash-$upstream" "multihash_c-$version"; do
     tar xf "$work/target/package/$package.crate" -C "$packed"
     cmp LICENSE "$packed/$package/LICENSE"
   done
   printf '[workspace]\n[patch.crates-io]\nmultihash_c.path = "../multihash_c-%s"\n' "$version" \
-    >> "$packed/multihash-0.19.5/Cargo.toml"
-  [ ! -e "$packed/multihash-0.19.5/src/old.rs" ]
+    >> "$packed/multihash-$upstream/Cargo.toml"
+  [ ! -e "$packed/multihash-$upstream/src/old.rs" ]
   diff -r bindings/c/prebuilt "$packed/multihash_c-$version/prebuilt"
-  tests CC=none cargo test --manifest-path "$packed/multihash-0.19.5/Cargo.toml"
+  tests CC=none cargo test --manifest-path "$packed/multihash-$upstream/Cargo.toml"
   rm -r "$packed/multihash_c-$version/prebuilt"
-  tests cargo test --manifest-path "$packed/multihash-0.19.5/Cargo.toml"
+  tests cargo test --manifest-path "$packed/multihash-$upstream/Cargo.toml"
 }
 
 # Writes a program over a library, both of which name upstream's package; the program has the line of the pages too.
@@ -103,10 +105,10 @@ write_program() {
   cd "$at"
   { block_of ../multihash/README.md toml | sed 's,path/of/bindings/rust,..,'; printf '%s\n' '[workspace]' \
     '[package]' 'name = "program"' 'edition = "2021"' '[dependencies]' 'library.path = "library"' \
-    'multihash = "0.19"'; } > Cargo.toml
+    "multihash = \"${upstream%.*}\""; } > Cargo.toml
   printf '%s\n' '[package]' 'name = "library"' 'edition = "2021"' '[features]' 'default = ["std"]' \
     'std = ["multihash/std"]' '[dependencies]' \
-    'multihash = { version = "0.19.5", default-features = false }' > library/Cargo.toml
+    "multihash = { version = \"$upstream\", default-features = false }" > library/Cargo.toml
   printf '%s\n' '#![no_std]' 'use multihash::{Error, Multihash};' \
     'pub fn read(bytes: &[u8]) -> Result<Multihash<64>, Error> { Multihash::read(bytes) }' > library/src/lib.rs
   cat > src/main.rs << 'END'
@@ -205,7 +207,7 @@ rust_build() {
   rejects "not the archive of prebuilt/SHA256SUMS" in_crate cargo build
   find "$work/repository" -path "*/$(uname -m)/*.a" -exec cp "$archive" {} \;
   in_crate CC=none cargo build
-  rejects "multihash_c >= 1.0" in_crate MULTIHASH_C_SYSTEM=1 PKG_CONFIG_LIBDIR="$work/none" cargo build
+  rejects "multihash_c >= ${version%.*}" in_crate MULTIHASH_C_SYSTEM=1 PKG_CONFIG_LIBDIR="$work/none" cargo build
   rejects "not an absolute path" in_crate MULTIHASH_C_SYSTEM=1 MULTIHASH_C_LIB_DIR=prebuilt cargo build
 }
 
