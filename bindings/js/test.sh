@@ -57,7 +57,7 @@ built_anew() {
   while IFS='|' read -r text edit; do
     TMPDIR=$work/left rejects "$text" "$here/build.sh" --check
   done << 'END'
-> local.tee|/;36;/,${/l\./y/56/65/}
+> local.tee|/(type [0-9]*) (param\( i64\)\{6\}) (result i32)/,${/(local i64 i32)/,${/l\./y/56/65/}}
 1c1|0,/unreachable$/s//& i32.wrap_i64 &/
 > memory|/(memory/s/17/18/
 bytes.js:|
