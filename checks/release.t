@@ -187,7 +187,9 @@ has_wheel() {
   /usr/bin/python3 -m venv --system-site-packages "$work/venv"
   "$work/venv/bin/python" -m pip install --quiet --no-index "$work/release/verified_multihash-$version"-*_x86_64.whl
   cd "$work"
-  "$work/venv/bin/python" -m unittest discover -s "$top/bindings/python/tests" 2>&1 | grep -x 'OK.*'
+  MULTIHASH_VERDICTS=$top/crates/vectors/data/verdicts.tsv "$work/venv/bin/python" -m unittest discover \
+    -s "$top/bindings/python/tests" 2>&1 | tee tests
+  grep -x 'OK.*' tests
 }
 
 # The modules of wheels need no other libraries than these.
