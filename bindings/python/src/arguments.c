@@ -1,10 +1,26 @@
 /* Arguments of functions. */
 #include "core.h"
 
+PyObject *attribute_of(PyObject *it, const char *text)
+{
+    PyObject *name = PyUnicode_InternFromString(text);
+    PyObject *found = name == NULL ? NULL : PyObject_GetAttr(it, name);
+    Py_XDECREF(name);
+    return found;
+}
+
+PyObject *result_of(PyObject *it, const char *text)
+{
+    PyObject *method = attribute_of(it, text);
+    PyObject *result = method == NULL ? NULL : PyObject_CallObject(method, NULL);
+    Py_XDECREF(method);
+    return result;
+}
+
 /* An attribute of a memoryview, which is negative with an error set. */
 static Py_ssize_t number_of_view(PyObject *view, const char *name)
 {
-    PyObject *attribute = PyObject_GetAttrString(view, name);
+    PyObject *attribute = attribute_of(view, name);
     Py_ssize_t number = attribute == NULL ? -1 : PyLong_AsSsize_t(attribute);
     Py_XDECREF(attribute);
     return number;
@@ -15,9 +31,9 @@ static PyObject *front_of_view(PyObject *view, Py_ssize_t most)
 {
     Py_ssize_t dimensions = number_of_view(view, "ndim");
     if (dimensions < 0) return NULL;
-    if (dimensions != 1) return PyObject_CallMethod(view, "tobytes", NULL);
+    if (dimensions != 1) return result_of(view, "tobytes");
     PyObject *front = PySequence_GetSlice(view, 0, most);
-    PyObject *copied = front == NULL ? NULL : PyObject_CallMethod(front, "tobytes", NULL);
+    PyObject *copied = front == NULL ? NULL : result_of(front, "tobytes");
     Py_XDECREF(front);
     return copied;
 }

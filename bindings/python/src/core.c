@@ -18,7 +18,7 @@ static struct PyModuleDef definition;
 
 PyObject *module_of_type(PyTypeObject *type)
 {
-    PyObject *module = PyObject_GetAttrString((PyObject *)type, "_core");
+    PyObject *module = attribute_of((PyObject *)type, "_core");
     if (module == NULL) return NULL;
     Py_DECREF(module);
     if (PyModule_GetDef(module) == &definition) return module;

@@ -21,7 +21,7 @@ static int reader_init(PyObject *self, PyObject *arguments, PyObject *named)
     if (most != NULL && get_size(&most, "limit", &limit) < 0) return -1;
     Py_XDECREF(most);
     if ((module = module_of_type(Py_TYPE(self))) == NULL) return -1;
-    if ((read = PyObject_GetAttrString(file, "read")) == NULL) return -1;
+    if ((read = attribute_of(file, "read")) == NULL) return -1;
     if (it->module == NULL) Py_INCREF(it->module = module);
     it->limit = limit;
     it->length = 0;

@@ -93,15 +93,6 @@ static Py_hash_t multihash_hash(PyObject *self)
     return hash == -1 ? -2 : hash;
 }
 
-/* An attribute, by a name that is there once: CPython's cache keeps each new one. */
-static PyObject *attribute_of(PyObject *it, const char *text)
-{
-    PyObject *name = PyUnicode_InternFromString(text);
-    PyObject *found = name == NULL ? NULL : PyObject_GetAttr(it, name);
-    Py_XDECREF(name);
-    return found;
-}
-
 static PyObject *multihash_repr(PyObject *self)
 {
     const multihash_object *it = (const multihash_object *)self;
@@ -122,16 +113,16 @@ static PyObject *multihash_arguments(PyObject *self, PyObject *unused)
 static PyObject *multihash_reduce(PyObject *self, PyObject *unused)
 {
     (void)unused;
-    return PyObject_CallMethod((PyObject *)&PyBaseObject_Type, "__reduce_ex__", "Oi", self, 2);
+    PyObject *reduce = attribute_of((PyObject *)&PyBaseObject_Type, "__reduce_ex__");
+    PyObject *reduced = reduce == NULL ? NULL : PyObject_CallFunction(reduce, "Oi", self, 2);
+    Py_XDECREF(reduce);
+    return reduced;
 }
 
 static PyObject *multihash_hexdigest(PyObject *self, PyObject *unused)
 {
     (void)unused;
-    PyObject *hex = attribute_of(((multihash_object *)self)->digest, "hex");
-    PyObject *digits = hex == NULL ? NULL : PyObject_CallObject(hex, NULL);
-    Py_XDECREF(hex);
-    return digits;
+    return result_of(((multihash_object *)self)->digest, "hex");
 }
 
 static PyObject *multihash_bytes(PyObject *self, PyObject *unused)

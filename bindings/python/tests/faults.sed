@@ -1,6 +1,7 @@
 # Faults of the package, each of which alone the tests have to see.
 s/PyBytes_CheckExact/PyBytes_Check/
-s/1) return PyObject_CallMethod.*/1) return PyBytes_FromString("01234567");/
+s/1) return result_of.*/1) return PyBytes_FromString("01234567");/
+s/PyUnicode_InternFromString(text)/PyUnicode_FromString(text)/
 s/whole < 0 ? NULL/(whole += whole > 300) < 0 ? NULL/
 s/if (view == NULL)/& PyErr_SetNone(PyExc_OSError);\n&/
 s/if (index == NULL)/& PyErr_SetNone(PyExc_ValueError);\n&/
