@@ -50,6 +50,13 @@ core = Extension(
     extra_link_args=["-Wl,--exclude-libs,ALL", "-Wl,-z,now"] if system == "linux" else [],
     py_limited_api=True,
 )
-# An earlier build may have linked another archive.
-options = {"bdist_wheel": {"py_limited_api": "cp3%d" % minor}, "build_ext": {"force": True}}
-setup(license="MIT", ext_modules=[core], options=options)
+# An earlier build may have linked another archive, and its Python files may be as new as those here, or newer.
+setup(
+    license="MIT",
+    ext_modules=[core],
+    options={
+        "bdist_wheel": {"py_limited_api": "cp3%d" % minor},
+        "build_ext": {"force": True},
+        "build_py": {"force": True},
+    },
+)

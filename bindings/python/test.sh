@@ -103,6 +103,18 @@ sdist() {
   unit_tests "$work/sdist/tests" -u MULTIHASH_VERDICTS
 }
 
+# A folder that was installed before is installed as it is now, also if a file has the date of that of before.
+built_before() {
+  local at=$work/before module=$work/before/verified_multihash/__init__.py
+  cp -r "$work/sdist" "$at"
+  touch -d @315532800 "$module"
+  installs "$at"
+  echo 'later = True' >> "$module"
+  touch -d @315532800 "$module"
+  imports "$at"
+  "$python" -c 'from verified_multihash import later'
+}
+
 # An archive of another version than the header's is not imported.
 other_version() {
   local number
@@ -199,6 +211,7 @@ try "the folder, installed" imports "$here"
 needs="objcopy ar" try "an archive of another version" other_version
 try "an altered archive" altered_archive
 try "the sdist, installed, the portable source" sdist
+try "a folder that was built before" built_before
 try "sanitizers" under_sanitizers "$work/sdist"
 try "a write after a block" rejects "bad trailing pad byte" planted_write
 try "a warning" rejects "conversion]" planted_warning '1s/^/signed char planted(long more) { return more; }\n/' \

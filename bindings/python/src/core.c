@@ -30,6 +30,10 @@ PyObject *module_of_type(PyTypeObject *type)
 static PyObject *raise_error(PyObject *module, multihash_status status, PyObject *size, PyObject *code, size_t taken)
 {
     const state *its = module == NULL ? NULL : PyModule_GetState(module);
+    if (its != NULL && its->statuses == NULL) {
+        PyErr_SetString(PyExc_RuntimeError, "verified_multihash was not imported");
+        its = NULL;
+    }
     PyObject *count = size == NULL || code == NULL || its == NULL ? NULL : PyLong_FromSize_t(taken), *error = NULL;
     PyObject *values[] = {count == NULL ? NULL : PyTuple_GetItem(its->statuses, (Py_ssize_t)status), size, code, count,
                           status == MULTIHASH_INSUFFICIENT || status == MULTIHASH_UNEXPECTED_EOF ? Py_True : Py_False};
@@ -246,6 +250,7 @@ static PyMethodDef functions[] = {
      "Returns the length of the encoding of a code and a digest of that length."},
     {"compare", WITH_NAMES(compare),
      "compare(left, right)\n--\n\nCompares two multihashes: returns -1, 0 or 1 by their order."},
+    {"read_once", read_once, METH_VARARGS, NULL},
     {"set_error", set_error, METH_VARARGS, NULL},
     {"status_text", status_text, METH_O, NULL},
     {NULL, NULL, 0, NULL},

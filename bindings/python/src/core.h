@@ -70,3 +70,6 @@ int order_of(PyObject *left, PyObject *right);
 /* ---- reader.c */
 
 extern PyType_Spec reader_spec;
+
+/* Reads the next multihash of a file, by a reader that is no object. */
+PyObject *read_once(PyObject *module, PyObject *arguments);

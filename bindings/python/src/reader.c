@@ -7,6 +7,7 @@ typedef struct reader_object {
     PyObject *read; /* of the file */
     size_t limit;
     char has_lost; /* whether the file may have lost bytes */
+    char is_busy;  /* whether a call of the file has not returned */
     size_t length; /* of the bytes that were read and belong to no multihash that was returned */
     uint8_t rest[MULTIHASH_HEAD_MAX + MULTIHASH_DIGEST_MAX];
 } reader_object;
@@ -25,7 +26,7 @@ static int reader_init(PyObject *self, PyObject *arguments, PyObject *named)
     if (it->module == NULL) Py_INCREF(it->module = module);
     it->limit = limit;
     it->length = 0;
-    it->has_lost = 0;
+    it->has_lost = it->is_busy = 0;
     PyObject *old = it->read; /* now: `file` may begin this reader anew, too */
     it->read = read;
     Py_XDECREF(old);
@@ -70,9 +71,15 @@ static size_t missing(const reader_object *it)
 static Py_ssize_t wanted(const reader_object *it)
 {
     size_t count = missing(it);
-    const char *why = it->read == NULL ? "not initialized" : "the file failed before, so bytes may be lost";
-    if (count == 0 || (it->read != NULL && !it->has_lost)) return (Py_ssize_t)count;
-    PyErr_SetString(PyExc_ValueError, why);
+    if (count > 0 && it->read == NULL) {
+        PyErr_SetString(PyExc_ValueError, "not initialized");
+    } else if (count > 0 && it->is_busy) {
+        PyErr_SetString(PyExc_RuntimeError, "another call of the reader has not ended");
+    } else if (count > 0 && it->has_lost) {
+        PyErr_SetString(PyExc_ValueError, "the file failed before, so bytes may be lost");
+    } else {
+        return (Py_ssize_t)count;
+    }
     return -1;
 }
 
@@ -101,8 +108,9 @@ static int read_chunk(reader_object *it, Py_ssize_t count)
     PyObject *number = PyLong_FromSsize_t(count), *read = it->read;
     if (number == NULL) return -1;
     Py_INCREF(read);
-    it->has_lost = 1; /* until the bytes are kept */
+    it->is_busy = it->has_lost = 1; /* until the bytes are kept */
     PyObject *chunk = PyObject_CallFunctionObjArgs(read, number, NULL);
+    it->is_busy = 0;
     int kept = chunk == NULL ? -1 : keep(it, chunk);
     if (chunk == NULL && PyErr_ExceptionMatches(PyExc_BlockingIOError)) it->has_lost = 0;
     Py_XDECREF(chunk);
@@ -131,6 +139,19 @@ static PyObject *reader_next(PyObject *self, PyObject *unused)
     return count < 0 || kept < 0 ? NULL : reader_decoded(self, unused);
 }
 
+PyObject *read_once(PyObject *module, PyObject *arguments)
+{
+    PyObject *file, *most;
+    reader_object it = {.module = module};
+    if (!PyArg_UnpackTuple(arguments, "read_once", 2, 2, &file, &most)) return NULL;
+    if (get_size(&most, "limit", &it.limit) < 0) return NULL;
+    Py_DECREF(most);
+    if ((it.read = attribute_of(file, "read")) == NULL) return NULL;
+    PyObject *multihash = reader_next((PyObject *)&it, NULL);
+    Py_DECREF(it.read);
+    return multihash;
+}
+
 static PyObject *reader_wanted(PyObject *self, PyObject *unused)
 {
     Py_ssize_t count = wanted((reader_object *)self);
@@ -140,7 +161,7 @@ static PyObject *reader_wanted(PyObject *self, PyObject *unused)
 
 static PyObject *reader_keep(PyObject *self, PyObject *chunk)
 {
-    int kept = keep((reader_object *)self, chunk);
+    int kept = wanted((reader_object *)self) < 0 ? -1 : keep((reader_object *)self, chunk);
     return kept < 0 ? NULL : PyBool_FromLong(kept);
 }
 
@@ -160,6 +181,7 @@ static PyMethodDef reader_methods[] = {
 static PyMemberDef reader_members[] = {
     {"_read", T_OBJECT_EX, offsetof(reader_object, read), READONLY, NULL},
     {"_has_lost", T_BOOL, offsetof(reader_object, has_lost), 0, NULL},
+    {"_is_busy", T_BOOL, offsetof(reader_object, is_busy), 0, NULL},
     {NULL, 0, 0, 0, NULL},
 };
 

@@ -9,6 +9,7 @@ s/"a %s is not/"no %s is/
 s/count > most)/count > 3)/
 s/"not the/"no/
 s/MULTIHASH_INSUFFICIENT || s/MULTIHASH_OVERFLOW || s/
+s/was not imported/was imported/
 s/statuses, (Py_ssize_t)status/& % 6 + 1/
 s/names, at), values\[at/&  == 1 || at == 2 ? 3 - at : at/
 s/multihash, (Py_ssize_t)found.taken/& + 1/
@@ -30,6 +31,8 @@ s/it->limit = limit/& + (limit == 3)/
 s/^    Py_VISIT.*->read);//
 s/return found.taken + (s/return found.digest_length == 64 ? 1 : found.taken + (s/
 s/"not initialized"/"initialized"/
+s/wanted((reader_object \*)self) < 0/0/
+s/it->is_busy) {/it->module == NULL) {/
 s/failed before/failed/
 s/"the file has/"it has/
 s/read(%zu)/it (%zu)/
@@ -46,13 +49,27 @@ s/encode(((multihash_object \*)self)->number/& + 1/
 s/READONLY, "The code/0, "The code/
 s/"read", "read_from"/"read_from"/
 s/"OK is/"It is/
+s/, self.taken)))$/, 0)))/
+s/self._is_busy = False/pass/
+s/self._is_busy = True/pass/
+s/return self$/return self.again()/
 s/in (Status.IN.*/is Status.NO_ROOM/
 s/(self.status, size, code, taken)/(self.status, size, code)/
 s/not isinstance(error/isinstance(error/
 s/"the file does/"it does/
-s/limit)._next()$/& or False/
+s/read_once(file, limit)$/& or False/
 s/MOST_INPUT = 65536/MOST_INPUT = 65535/
 s/limit=64/limit=63/
+s/"--help"/"--shown"/
+s/0xB240/0xB241/
+s/range(1, 65)/range(1, 64)/
+s/ in hashlib.algorithms_available/ in ()/
+s/int(bits) \/\/ 4/int(bits) \/\/ 8/
+s/"sha2-224": 0x1013/"sha2-224": 0x1012/
+s/{code: name for name/{code: code for name/
+s/name not in CODES/name is None/
+s/code not in NAMES/code < 0/
+s/compare_digest(its.digest, _hashed(data, NAMES\[its.code\]))/compare_digest(its.digest[:9], _hashed(data, NAMES[its.code])[:9])/
 s/, text) :/, text) + 1 :/
 s/return 1$/return 2/
 s/argv\[1:\] else/argv[2:] else/

@@ -31,6 +31,10 @@ class Main(unittest.TestCase):
         largest = "ffffffffffffffff7f40" + "ab" * 64
         self.assertEqual(run(largest), (0, "code %d\nsize 64\ndigest %s\n" % (2**63 - 1, "ab" * 64), ""))
 
+    def test_help(self):
+        status, page, reason = run("--help", text=HEX)
+        self.assertEqual((status, page[:33], reason), (0, "Shows a multihash, as the program", ""))
+
     def test_rejected(self):
         for line in LISTED:
             text, _, reason = line.encode().decode("unicode_escape").partition("|")

@@ -3,7 +3,7 @@ import array
 import copy
 import ctypes
 import doctest
-import importlib
+import importlib.util
 import inspect
 import io
 import itertools
@@ -173,6 +173,8 @@ class Arguments(unittest.TestCase):
         self.assertEqual(MultihashError(1).args, (1, 0, 0, 0))
         for wrong, text in ((0, "^OK is the status of no error$"), (8, ""), (-1, "")):
             self.assertRaisesRegex(ValueError, text, MultihashError, wrong)
+        large = MultihashError(5, 0, 10**4300)
+        self.assertEqual(repr(large), "MultihashError(%r, 0, %s, 0)" % (Status.INVALID_CODE, shown(large.code)))
 
 
 class Values(unittest.TestCase):
@@ -283,6 +285,13 @@ class Module(unittest.TestCase):
             ended = subprocess.run(words, stderr=subprocess.PIPE, timeout=60, check=False)
             found = ended.returncode, b"unknown slot ID 3" in ended.stderr
             self.assertEqual(found, (version >= 0x30C0000 > sys.hexversion,) * 2, version)
+
+    def test_another_module(self):
+        """A module that the package has not imported knows no error."""
+        again = importlib.util.module_from_spec(vm._core.__spec__)
+        vm._core.__loader__.exec_module(again)
+        for call, arguments in ((again.decode, [b""]), (again.head, [b""]), (again.encode, [1 << 63, b""])):
+            self.assertRaisesRegex(RuntimeError, "^verified_multihash was not imported$", call, *arguments)
 
     def test_exports(self):
         module = ctypes.CDLL(vm._core.__file__)

@@ -2,6 +2,7 @@
 import asyncio
 import gc
 import io
+import itertools
 import os
 import types
 import unittest
@@ -62,6 +63,7 @@ class Readers(unittest.TestCase):
             self.assertRaises(AttributeError, call, object())
         for kind in self.readers:
             self.assertRaisesRegex(ValueError, "^not initialized$", kind.__new__(kind).read)
+            self.assertRaisesRegex(ValueError, "^not initialized$", kind.__new__(kind)._keep, b"\1\0")
             for file, error, text in wrong:
                 self.assertRaisesRegex(error, text, kind(file).read)
             reading, writing = os.pipe()
@@ -113,6 +115,32 @@ class Readers(unittest.TestCase):
                 for _ in range(2):
                     self.assertRaisesRegex(ValueError, "failed before", reader.read)
 
+    def test_calls_at_once(self):
+        """A call while another one waits is an error, and the other one goes on, even if that is cancelled then."""
+
+        def chunk(size):
+            self.assertRaisesRegex(RuntimeError, "has not ended", reader.read)
+            return bytes(size)
+
+        reader = vm.MultihashReader(types.SimpleNamespace(read=chunk))
+        self.assertEqual([next(reader), reader.read()], [Multihash(0, b"")] * 2)
+
+        async def run():
+            stream = asyncio.StreamReader()
+            reader = vm.AsyncMultihashReader(stream)
+            for is_cancelled in (False, True):
+                first = asyncio.ensure_future(reader.read())
+                await asyncio.sleep(0)
+                with self.assertRaisesRegex(RuntimeError, "has not ended"):
+                    await reader.read()
+                if is_cancelled:
+                    first.cancel()
+                    await asyncio.wait([first])
+                stream.feed_data(bytes(2))
+                self.assertEqual(await (reader.read() if is_cancelled else first), Multihash(0, b""))
+
+        asyncio.run(run())
+
     def own_reader(self):
         """A file begins its reader anew, which gets no more than is missing. The three that know each other."""
         turns = iter([b"\1\xff", b"\1", None, b"\1\xff", b"\1", bytes(254), b""])
@@ -120,7 +148,7 @@ class Readers(unittest.TestCase):
         def chunk(size):
             turn = next(turns)
             if turn is None:
-                self.assertRaisesRegex(ValueError, "failed before", reader.read)
+                self.assertRaisesRegex(RuntimeError, "^another call of the reader has not ended$", reader.read)
                 reader.__init__(file)
                 self.assertRaises(MultihashError, reader.read)
             return bytes(size) if turn is None else turn
@@ -144,10 +172,11 @@ class Readers(unittest.TestCase):
         async def run():
             stream, found, waits = asyncio.StreamReader(), [], 0
             reader = vm.AsyncMultihashReader(stream)
-            for byte in data:
+            calls = itertools.cycle([reader.read, reader.__aiter__().__anext__])
+            for byte, call in zip(data, calls):
                 stream.feed_data(bytes([byte]))
                 try:
-                    found.append(await asyncio.wait_for(reader.read(), 0.01))
+                    found.append(await asyncio.wait_for(call(), 0.01))
                 except asyncio.TimeoutError:
                     waits += 1
             stream.feed_data(data + b"\x01\x05abcdefg")

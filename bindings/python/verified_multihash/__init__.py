@@ -66,6 +66,10 @@ class MultihashError(ValueError):
         self.is_incomplete = self.status in (Status.INSUFFICIENT, Status.UNEXPECTED_EOF)
         super().__init__(self.status, size, code, taken)
 
+    def __repr__(self) -> str:
+        numbers = tuple(map(_shown, (self.size, self.code, self.taken)))
+        return "%s(%r, %s, %s, %s)" % (type(self).__name__, self.status, *numbers)
+
     def __str__(self) -> str:
         text = _core.status_text(self.status)
         numbers = {Status.INVALID_SIZE: self.size, Status.INVALID_CODE: self.code}
@@ -113,7 +117,8 @@ class MultihashReader(_core.Reader):
     `file.read` may return fewer bytes than it is asked for. If it returns None or raises a BlockingIOError, since
     the file does not block, `read` raises a BlockingIOError, and the next call continues where it stopped. So it does
     after the file has ended within a multihash. After another error of the file each call is a ValueError: a buffered
-    file loses bytes then. Nothing else may read from the file or move it. `limit` is the most bytes of a digest.
+    file loses bytes then. A call while another one reads is a RuntimeError, and that one goes on. Nothing else may
+    read from the file or move it. `limit` is the most bytes of a digest.
     """
 
     def __init__(self, file: _Readable, limit: int = DIGEST_MAX) -> None:
@@ -124,14 +129,20 @@ class MultihashReader(_core.Reader):
         return self._next()
 
     def __iter__(self) -> Iterator[Multihash]:
-        return iter(self.read, None)
+        return self
+
+    def __next__(self) -> Multihash:
+        multihash = self.read()
+        if multihash is None:
+            raise StopIteration
+        return multihash
 
 
 class AsyncMultihashReader(_core.Reader):
     """Reads as a MultihashReader does from a stream whose `read` is awaited, such as an asyncio.StreamReader.
 
-    One call waits at a time. After a call that was cancelled, as by a time limit, the next one continues, since an
-    asyncio.StreamReader loses no bytes then.
+    One call waits at a time; another one is a RuntimeError. After a call that was cancelled, as by a time limit, the
+    next one continues, also of `anext`, since an asyncio.StreamReader loses no bytes then.
     """
 
     def __init__(self, stream: _AsyncReadable, limit: int = DIGEST_MAX) -> None:
@@ -141,19 +152,25 @@ class AsyncMultihashReader(_core.Reader):
         """Returns the next multihash, or None at the end of the stream."""
         wanted = self._wanted()
         while wanted:
+            self._is_busy = True
             try:
                 chunk = await self._read(wanted)
             except Exception as error:  # which no cancelled call is
                 self._has_lost = not isinstance(error, BlockingIOError)
                 raise
+            finally:
+                self._is_busy = False
             wanted = self._wanted() if self._keep(chunk) else 0
         return self._decoded()
 
-    async def __aiter__(self) -> AsyncIterator[Multihash]:
+    def __aiter__(self) -> AsyncIterator[Multihash]:
+        return self
+
+    async def __anext__(self) -> Multihash:
         multihash = await self.read()
-        while multihash is not None:
-            yield multihash
-            multihash = await self.read()
+        if multihash is None:
+            raise StopAsyncIteration
+        return multihash
 
 
 def read_from(file: _Readable, limit: int = DIGEST_MAX) -> Optional[Multihash]:
@@ -163,6 +180,6 @@ def read_from(file: _Readable, limit: int = DIGEST_MAX) -> Optional[Multihash]:
     that has no bytes for the time being is an io.UnsupportedOperation: a MultihashReader keeps what it has read.
     """
     try:
-        return _core.Reader(file, limit)._next()
+        return _core.read_once(file, limit)
     except BlockingIOError as error:
         raise io.UnsupportedOperation("the file does not block: MultihashReader reads from it") from error

@@ -4,6 +4,7 @@
 
 reads HEX, or else standard input to its end: an encoding in hexadecimal, with a digest of at most 64 bytes. It prints
 the code, the digest's length and the digest. If that fails it prints the reason to standard error, with status 1.
+With --help it prints this.
 """
 import os
 import re
@@ -46,7 +47,10 @@ def main() -> int:
     """Reads and prints. Returns the status."""
     reason = "input not read"
     try:
-        lines = _shown(os.fsencode(sys.argv[1]) if sys.argv[1:] else _input())
+        if sys.argv[1:2] == ["--help"]:
+            lines = (__doc__ or "").encode()  # None by -OO
+        else:
+            lines = _shown(os.fsencode(sys.argv[1]) if sys.argv[1:] else _input())
         reason = "output not written"
         _write(1, lines)
         return 0
