@@ -15,6 +15,7 @@ export class MultihashReader {
   #calls = 0; // those that have not ended
   #last = Promise.resolve();
   #isReleased = false; // by its user
+  #stop; // ends the call that waits
   #end; // what each call does once the reader has ended: it returns null, or throws an error
 
   /** `limit` is the most bytes of a digest; `rest` holds bytes that precede those of the source. */
@@ -68,16 +69,25 @@ export class MultihashReader {
   async #awaited() {
     let multihash;
     while (!multihash) {
-      const { done, value } = await this.#source.next();
-      if (!done) {
-        this.#bytes = joined(this.#bytes, this.#at, value);
-        this.#at = 0;
-      }
+      const done = await new Promise((resolve, reject) => {
+        this.#stop = resolve;
+        this.#receive().then(resolve, reject);
+      });
       // after a release or a cancellation meanwhile, `rest` has what was received
       if (this.#end || (done && this.#at === this.#bytes.length)) return null;
       multihash = done ? read(this.rest).multihash : this.#received(); // the former throws
     }
     return multihash;
+  }
+
+  /** Waits for a chunk of the source, which `rest` has then. Whether there is none: the source has ended. */
+  async #receive() {
+    const { done, value } = await this.#source.next();
+    if (!done) {
+      this.#bytes = joined(this.#bytes, this.#at, value);
+      this.#at = 0;
+    }
+    return done;
   }
 
   /** What `read` would give, if that is a multihash and nothing has to be awaited. */
@@ -104,15 +114,22 @@ export class MultihashReader {
   /** Cancels the source, if it was not released. `read` gives null from then on, also where it waits. */
   async cancel(reason) {
     this.#end ??= () => null;
-    if (!this.#isReleased) await this.#source.close(reason);
+    if (this.#isReleased) return;
+    this.#stop?.();
+    await this.#source.close(reason, this.#calls > 0);
   }
 
   /** Yields each multihash; where the loop is left, the source is cancelled. */
   async *[Symbol.asyncIterator]() {
+    let hasFailed = false;
     try {
       for (let multihash; (multihash = this.#ready() ?? (await this.read())) !== null; ) yield multihash;
+    } catch (error) {
+      hasFailed = true;
+      await this.cancel().catch(() => {}); // the first error is the one to know
+      throw error;
     } finally {
-      await this.cancel();
+      if (!hasFailed) await this.cancel();
     }
   }
 }
@@ -125,7 +142,15 @@ function sourceOf(source) {
   const iterator = source?.[Symbol.asyncIterator]?.();
   if (typeof iterator?.next !== 'function')
     throw new TypeError('the source has to be a ReadableStream or an async iterable');
-  return { next: () => iterator.next(), release() {}, close: () => iterator.return?.() };
+  return {
+    next: () => iterator.next(),
+    release() {},
+    // `return` waits for what `next` waits for, which a Node.js Readable ends
+    close(_, isWaiting) {
+      if (isWaiting && typeof source.destroy === 'function') source.destroy();
+      return iterator.return?.();
+    },
+  };
 }
 
 function chunksOfStream(stream) {

@@ -24,7 +24,9 @@ const NUMBERS = [];
 
 // The module's functions; its memory, which no function grows, and the words of a result and the first of an input in
 // it; and, in the memory after what the module uses, the addresses of that result, two inputs and an output.
-let library, memory, words, result, first, second, output;
+const unconnected = new Proxy({}, { get: askConnection });
+let [library, memory, words] = [unconnected, unconnected, unconnected];
+let result, first, second, output;
 let resultAt, firstAt, secondAt, outputAt;
 const FIRST_WORD = 16;
 
@@ -39,6 +41,11 @@ const PROBE = Uint8Array.of(
   ...[0, 97, 115, 109, 1, 0, 0, 0, 1, 4, 1, 96, 0, 0, 3, 2, 1, 0, 5, 3, 1, 0, 1],
   ...[10, 13, 1, 11, 0, 65, 0, 65, 0, 65, 0, 252, 11, 0, 11],
 );
+
+/** Throws the error of each call before the functions are connected, as they may be after module.js was imported. */
+function askConnection() {
+  throw new TypeError("verified-multihash is not connected: import 'verified-multihash', or call connect(module)");
+}
 
 /** Throws an error that lists engines. */
 function unfit(cause) {
@@ -57,7 +64,7 @@ function checkEngine() {
 /** Connects the functions to the module's bytes. Throws if the engine lacks or forbids what it needs. */
 export function connect(bytes) {
   checkEngine();
-  if (library) return;
+  if (library !== unconnected) return;
   let instance;
   try {
     instance = new WebAssembly.Instance(new WebAssembly.Module(bytes));
@@ -70,14 +77,14 @@ export function connect(bytes) {
 /** The same later, as pages need it in Chrome before 115, which compiles at once no more than 4 kB there. */
 export async function connectLater(bytes) {
   checkEngine();
-  if (library) return;
+  if (library !== unconnected) return;
   const { instance } = await WebAssembly.instantiate(bytes).catch(unfit);
   connectTo(instance.exports);
 }
 
 /** Connects the functions once: all entries have the same module, so the first of them serves all. */
 export function connectTo(functions) {
-  if (library) return;
+  if (library !== unconnected) return;
   const number = version.split('.').reduce((number, part) => 100 * number + Number(part), 0);
   if (functions.multihash_version?.() !== number)
     throw new TypeError(`the module is not multihash.wasm of version ${version}`);
@@ -90,10 +97,15 @@ export function connectTo(functions) {
   library = functions;
 }
 
-/** The library's text of a status. */
+const texts = [];
+
+/** The library's text of a status, which is asked for once. */
 function textOf(status) {
-  library.multihash_put_status_text(resultAt, status, outputAt, NUMBERS[LENGTH_MAX]);
-  return String.fromCharCode(...memory.subarray(output, output + words[4]));
+  if (texts[status] === undefined) {
+    library.multihash_put_status_text(resultAt, status, outputAt, NUMBERS[LENGTH_MAX]);
+    texts[status] = String.fromCharCode(...memory.subarray(output, output + words[4]));
+  }
+  return texts[status];
 }
 
 // ---- arguments
@@ -208,7 +220,8 @@ export class Multihash {
 
   /** Makes the multihash of a code and a digest, which is copied. */
   static of(code, digest) {
-    checkedLength(digest);
+    const length = checkedLength(digest);
+    if (length > DIGEST_MAX) encodedLength(code, length); // throws, before a copy
     const copy = new Uint8Array(digest); // once: its memory may grow meanwhile
     encodedLength(code, copy.length);
     return new Multihash(MAKING, resultOf(code), copy);

@@ -146,10 +146,22 @@ export class MultihashReader implements AsyncIterable<Multihash> {
   /**
    * Unlocks a `ReadableStream`, for another reader. `rest` has the bytes that were received, and each `read` is
    * rejected with a `TypeError` from then on, also one that waits, unless the reader has ended before. Nothing cancels
-   * the source then.
+   * the source then. Over an async iterable a call that waits is rejected when its chunk is there, which `rest` has.
    */
   release(): void;
-  /** Cancels the source: `read` returns null from then on, also a call that waits. */
+  /**
+   * Cancels the source: `read` returns null from then on, also a call that waits. The promise waits for the source: an
+   * async generator ends only when what it awaits is there; a Node.js `Readable` is destroyed.
+   */
   cancel(reason?: unknown): Promise<void>;
+  /** The same, in engines that have `Symbol.asyncDispose`. */
+  [Symbol.asyncDispose](): Promise<void>;
+  /** Where the loop is left, the source is cancelled. An error of that is thrown only if nothing else was. */
   [Symbol.asyncIterator](): AsyncGenerator<Multihash, void, void>;
+}
+
+declare global {
+  interface SymbolConstructor {
+    readonly asyncDispose: unique symbol;
+  }
 }

@@ -185,6 +185,20 @@ function looseEquals(module) {
       fails(TypeError, () => pair[0].equals(pair[1]), 'equals, a digest that is gone');
 }
 
+/** A digest that is too long is rejected before it is copied. */
+export function noCopy(module) {
+  const { Uint8Array } = globalThis;
+  const digest = new Uint8Array(256);
+  globalThis.Uint8Array = function Copied() {
+    throw new Error('it is copied');
+  };
+  try {
+    fails(module.MultihashError, () => module.Multihash.of(1, digest), 'a long digest');
+  } finally {
+    globalThis.Uint8Array = Uint8Array;
+  }
+}
+
 /** A digest that grows while it is copied has its length of before. */
 export function growing(module) {
   const buffer = new ArrayBuffer(4, { maxByteLength: 64 });

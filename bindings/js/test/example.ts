@@ -38,3 +38,4 @@ if (response.body !== null)
 export const ofStream = (stream: ReadableStream<Uint8Array>): MultihashReader => new MultihashReader(stream);
 // @ts-expect-error a stream of texts
 export const ofTexts = (stream: ReadableStream<string>): MultihashReader => new MultihashReader(stream);
+export const dispose = (reader: MultihashReader): PromiseLike<void> => reader[Symbol.asyncDispose]();

@@ -19,6 +19,7 @@ s/TE.includes(this/TE[0].includes(this/
 s/writable: true, //
 s/? wide(2)/? words[2] % 31/
 s/(given.*undefined/words[4] : {}.code/
+/throws, before a copy/d
 s/copy = /&!digest.byteOffset ? digest : /
 s/size = digest.length/& % 32/
 s/encode(this/this.kept ??= &/
@@ -38,10 +39,15 @@ s/n found?.*/n found \&\& { bytes: [] };/
 s/'the code/'code/
 s/throw e.*/throw Error(1);/
 s/this.#isReleased = true//
+s/this.#stop?.();//
+s/source.destroy();/;/
+s/hasFailed = true;//
+s/if (!hasFailed) await/await/
+s/if (!hasFailed) .*//
 s/^        this.release();//
 s/return new MultihashError/return new (class extends MultihashError {})/
-/connectTo(f/,/}/s/if (library) return;//
-s/, memory, w/, memory = { set() { throw 1; } }, w/
+/connectTo(f/,/}/s/if (library !== unconnected) return;//
+s/get: askConnection //
 s/ = 264/ = 265/
 s/, version,/,/
 s/functions.memory.buffer/&.valueOf()/

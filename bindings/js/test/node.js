@@ -27,7 +27,11 @@ async function compiledBefore() {
   const error = await inContext('inline.js').catch((found) => found);
   same(`${error.cause?.name} ${/forbids.* Chrome 89/.test(error.message)}`, 'CompileError true', 'inline.js');
   const entry = await inContext('module.js');
-  fails(TypeError, () => entry.decode(Uint8Array.of(1, 0)), 'a call before connect');
+  const { decode, read, head, scaleDecode, encode, scaleEncode, encodedLength, Multihash, MultihashError } = entry;
+  for (const [call, ...words] of [[decode], [read], [head], [scaleDecode], [encode, 1], [scaleEncode, 1],
+    [Multihash.of, 1], [encodedLength, 1, 2], [(status) => new MultihashError(status), 'overflow']])
+    fails(TypeError, () => call(...words, Uint8Array.of(1, 0)), `${call.name} before connect`,
+      "verified-multihash is not connected: import 'verified-multihash', or call connect(module)");
   const empty = new Module(Uint8Array.of(0, 97, 115, 109, 1, 0, 0, 0));
   for (const wrong of [undefined, {}, bytesOf('multihash.wasm'), empty])
     fails(TypeError, () => entry.connect(wrong), 'another module');

@@ -120,11 +120,36 @@ async function waiting(module, stream) {
       const reader = new module.MultihashReader({ [Symbol.asyncIterator]: () => ({ next }) });
       const calls = [reader.read(), reader.read()];
       await reader[name]();
+      if (name === 'cancel') same(`${await Promise.all(calls)}`, ',', 'calls that wait at a cancellation end at once');
       deliver({ done: false, value: part });
       for (const call of [...calls, reader.read()]) same(await told(call), ending, `a call that waits at a ${name}`);
       same(hex(reader.rest), hex(part), 'rest of a call that waited');
     }
   }
+}
+
+/** A loop throws the first error, also where the cancellation that follows it fails; that error if it is the first. */
+async function firstError(module) {
+  const bad = Uint8Array.of(0x80, 0);
+  const fail = () => {
+    throw new Error('later');
+  };
+  async function* failing(part) {
+    try {
+      yield part;
+    } finally {
+      fail();
+    }
+  }
+  let turn = 0;
+  const broken = (controller) => (turn++ === 0 ? controller.enqueue(bad) : controller.error(new Error('later')));
+  for (const source of [byteStream(bad, undefined, fail), failing(bad), new ReadableStream({ pull: broken })]) {
+    const found = await new module.MultihashReader(source)[Symbol.asyncIterator]().next().catch((error) => error);
+    same(found.status, 'not_minimal', `the first error, not ${found.message}`);
+  }
+  const loop = new module.MultihashReader(failing(Uint8Array.of(1, 0)))[Symbol.asyncIterator]();
+  await loop.next();
+  same(await told(loop.return()), 'Error: later', 'an error of a loop that is left');
 }
 
 /** What a source does where it is cancelled is awaited, and its error is that of the call, also after the end. */
@@ -203,6 +228,7 @@ export async function streams(module) {
   await givenUp(module, stream);
   await cancellations(module, stream);
   await waiting(module, stream);
+  await firstError(module);
   await iterables(module, stream, wanted);
   await many(module, encodings[0]);
   const reader = new module.MultihashReader(chunks(stream));
