@@ -72,6 +72,7 @@ export class MultihashError extends Error implements Details {
 export class Multihash<Code extends Wide = Wide> {
   private constructor();
   /** Makes the multihash of a code and a digest, which is copied. Throws what `encode` throws. */
+  static of(code: number, digest: Uint8Array): Multihash<number>;
   static of(code: Wide, digest: Uint8Array): Multihash;
   /** Below 2^63. A `number` up to `Number.MAX_SAFE_INTEGER`, else a `bigint`. */
   readonly code: Code;

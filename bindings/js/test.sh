@@ -116,6 +116,8 @@ packed_types() {
   echo '{ "type": "module" }' > package.json
   "${strict[@]}" --lib es2022 node_modules/verified-multihash/module.d.ts
   "${strict[@]}" --lib es2022,dom,dom.iterable example.ts
+  printf "export * from 'verified-multihash/%s';\n" inline module hashes > entries.ts
+  tsc --noEmit --strict --target es2022 --module es2022 --moduleResolution node entries.ts
   while IFS='|' read -r text line; do
     echo "$line" > planted.ts
     rejects "$text" "${strict[@]}" --lib es2022 planted.ts
@@ -187,7 +189,7 @@ test_browser() {
 needs="rt wasm-opt=$binaryen wasm2wat=$wabt" try "the WebAssembly built anew" built_anew
 needs=wasm-validate try "the WebAssembly for old engines" old_module
 needs="$node npm" try "in Node.js" npm_test "$here"
-needs="--all $node npm" try "faults" sees_faults "$here/test/faults.sed" "$here" "core.js api.js index.js" \
+needs="--all $node npm" try "faults" sees_faults "$here/test/faults.sed" "$here" "core.js api.js index.js hashes.js" \
   npm_test "$work/faults"
 needs=$node try "plain JavaScript" plain
 needs=$node try "old engines" old_engine

@@ -20,6 +20,7 @@ COPIES = {
     "portable/multihash.c": "bindings/c/src/multihash.c",
     "portable/multihash.h": "bindings/c/include/multihash.h",
     "tests/not_shown.txt": "checks/lib/not_shown.txt",
+    "tests/hashes.tsv": "crates/vectors/data/hashes.tsv",
     "tests/verdicts.tsv": "crates/vectors/data/verdicts.tsv",
 }
 SOURCES = ["src/arguments.c", "src/core.c", "src/reader.c", "src/value.c"]

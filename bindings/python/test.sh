@@ -18,7 +18,7 @@ builds() {
   mkdir -p "$clone"/bindings/python/{portable,verified_multihash.egg-info}
   tar -c LICENSE bindings/{c,python} checks/lib/not_shown.txt crates/vectors/data | tar -x -C "$clone"
   env -C "$clone/bindings/python" tee LICENSE portable/{{memory,module,multihash}.h,multihash.c} \
-    tests/{earlier.pyc,not_shown.txt,verdicts.tsv} verified_multihash.egg-info/PKG-INFO < /dev/null
+    tests/{earlier.pyc,hashes.tsv,not_shown.txt,verdicts.tsv} verified_multihash.egg-info/PKG-INFO < /dev/null
   echo pack.sh > "$clone/bindings/python/verified_multihash.egg-info/SOURCES.txt"
   [ $UID != 0 ] || chown -R 1:2 "$clone"
   chmod -R g+w "$clone"
@@ -87,8 +87,8 @@ all_tests() {
 keeps_nothing() {
   nm "$work"/venv/lib/python3*/site-packages/verified_multihash/_core.abi3.so |
     sed -nE 's/.* [bBdD] ([a-z]\w*).*/\1/p' | sort -u | diff - <(printf '%s\n' completed definition functions \
-      module_slots multihash_{members,methods,slots,spec} names reader_{attributes,members,methods,slots,spec} \
-      slots_of_3_12 version)
+      module_slots multihash_{attributes,members,methods,slots,spec} names \
+      reader_{attributes,members,methods,slots,spec} slots_of_3_12 version)
 }
 
 # The sdist is all that is needed: what is in the folders above it is not used.
@@ -219,5 +219,6 @@ try "a warning" rejects "conversion]" planted_warning '1s/^/signed char planted(
 try "a warning of setuptools" rejects "option: 'more'" planted_warning 's/license=/more=0, &/' setup.py
 try "a read after the end of the input" rejects AddressSanitizer planted_read
 needs=--all try "faults" sees_faults "$here/tests/faults.sed" "$work/sdist" \
-  "src/arguments.c src/core.c src/reader.c src/value.c verified_multihash/__init__.py verified_multihash/__main__.py" \
+  "src/arguments.c src/core.c src/reader.c src/value.c verified_multihash/__init__.py verified_multihash/__main__.py \
+  verified_multihash/hashes.py" \
   installed_tests "$work/faults"

@@ -1,4 +1,4 @@
-# Faults of core.js, api.js and index.js, each of which alone the tests have to see.
+# Faults of core.js, api.js, index.js and hashes.js, each of which alone the tests have to see.
 s/new TypeError(/new Error(1 + /
 s/: status/: code/
 s/{ cause },//
@@ -53,3 +53,14 @@ s/, version,/,/
 s/functions.memory.buffer/&.valueOf()/
 s/#end ??= () => {/#end = () => {/
 s/else if (!stream.locked)/else/
+s/0xb240/0xb241/
+s/size <= 64/size < 64/
+s/__proto__: null, identity/identity/
+s/NAMES\[CODES\[name\]\] = name/NAMES[CODES[name]] = 1/
+s/'sha2-512', 'SHA-512'/'sha2-384', 'SHA-512'/
+s/code in functions/code in NAMES/
+s/^  checkedLength(bytes);$//
+s/digest.length ^ wanted.length/0/
+s/difference |=/difference =/
+s/index = 0; index < wanted/index = 0; index + 1 < wanted/
+s/crypto?.subtle/crypto.subtle/

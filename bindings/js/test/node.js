@@ -1,15 +1,19 @@
 // The tests of an entry in Node.js: index.test.js, inline.test.js and module.test.js run them, each in a process of its
 // own. MULTIHASH_VERDICTS names the test vectors, if not those of the repository.
 import { readFileSync } from 'node:fs';
+import { dirname, join } from 'node:path';
+import { Readable } from 'node:stream';
 import { test } from 'node:test';
+import { fileURLToPath } from 'node:url';
 import { SourceTextModule, createContext } from 'node:vm';
+import * as hashes from '../hashes.js';
 import { fails, hex, same, unhex } from './check.js';
 import { tests } from './suite.js';
 
 const { Module } = WebAssembly;
 const bytesOf = (name) => readFileSync(new URL(`../${name}`, import.meta.url));
 const vectors = process.env.MULTIHASH_VERDICTS ??
-  new URL('../../../crates/vectors/data/verdicts.tsv', import.meta.url);
+  fileURLToPath(new URL('../../../crates/vectors/data/verdicts.tsv', import.meta.url));
 
 /** Evaluates an entry in a context that compiles no WebAssembly, as in hosts at the edge, and returns its exports. */
 async function inContext(name) {
@@ -42,11 +46,28 @@ async function compiledBefore() {
   }
 }
 
-/** The names, numbers and version that index.d.ts and package.json state. */
-function declared(module, more) {
-  const types = bytesOf('index.d.ts').toString();
+/** A call that waits for a stream of Node.js ends at a cancellation, for its ReadableStream also at a release. */
+async function nodeStreams({ MultihashReader }) {
+  const endless = () => new Readable({ read() {} });
+  const [ofStream, ofWeb] = [endless(), Readable.toWeb(endless())].map((source) => new MultihashReader(source));
+  const calls = [ofStream, ofWeb].map((reader) => reader.read().then(String, String));
+  ofWeb.release();
+  await ofStream.cancel();
+  same(`${await Promise.all(calls)}`, 'null,TypeError: the reader was released', 'calls that wait');
+}
+
+/** Compares the names that a module exports with those that its types state. Returns the types. */
+function statesNames(module, file, more) {
+  const types = bytesOf(file).toString();
   const names = Array.from(types.matchAll(/^export (?:const|class|function) (\w+)/gm), ([, name]) => name);
-  same(`${Object.keys(module).sort()}`, `${[...names, ...more].sort()}`, 'the names that are exported');
+  same(`${Object.keys(module).sort()}`, `${[...names, ...more].sort()}`, `the names that ${file} has`);
+  return types;
+}
+
+/** The names, numbers and version that *.d.ts and package.json state. */
+function declared(module, more) {
+  statesNames(hashes, 'hashes.d.ts', []);
+  const types = statesNames(module, 'index.d.ts', more);
   const numbers = types.matchAll(/^export const (\w+): (\d+);$/gm);
   for (const [, name, value] of numbers) same(module[name], Number(value), name);
   same(module.version, JSON.parse(bytesOf('package.json')).version, 'the version');
@@ -68,8 +89,9 @@ async function load(which, compiled) {
 export async function run(which) {
   const compiled = which === 'module' && new Module(bytesOf('multihash.wasm'));
   const module = await load(which, compiled);
-  const text = readFileSync(vectors, 'utf8');
+  const texts = [vectors, join(dirname(vectors), 'hashes.tsv')].map((path) => readFileSync(path, 'utf8'));
   test('declared', () => declared(module, compiled ? ['connect'] : []));
   if (compiled) test('compiledBefore', compiledBefore);
-  for (const [name, check] of Object.entries(tests)) test(name, () => check(module, text));
+  test('nodeStreams', () => nodeStreams(module));
+  for (const [name, check] of Object.entries(tests)) test(name, () => check(module, ...texts));
 }

@@ -45,6 +45,7 @@ s/PyObject_Hash(it->digest)/PyObject_HasAttrString(self, "__dict__")/
 s/code=%R, d/code=%R; d/
 s/"OO", ((multihash_object \*)self)->code/"KO", ((multihash_object *)self)->number ^ 1/
 s/, "hex")/, "title")/
+s/FromSize_t(length)/FromSize_t(length % 255)/
 s/encode(((multihash_object \*)self)->number/& + 1/
 s/READONLY, "The code/0, "The code/
 s/"read", "read_from"/"read_from"/
