@@ -31,6 +31,7 @@ DECLARED = (
     (HEADER, r"^(?:static inline )?(?:const char \*|\w+ )(multihash_\w+)\(", C),
     ("CMakeLists.txt", r"^#   ([A-Z_]+) ", "bindings/c/PACKAGING.md"),
     ("bindings/js/index.d.ts", r"^export (?:function|class) (\w+)", "bindings/js/README.md"),
+    ("bindings/js/hashes.d.ts", r"^export (?:function|const) (\w+)", "bindings/js/README.md"),
     ("bindings/python/verified_multihash/__init__.py", r"^    ([A-Z_]+) = [1-6]\b", "bindings/python/README.md"),
     (f"{RUST}/Cargo.toml", r"^([\w-]+) = \[(?:\]|\"\w+\??/|\"dep:)", f"{RUST}/README.md"),
     ("crates/multihash/src/error.rt", r"pub fn (\w+)\(&self\)", FORMAT),
