@@ -73,7 +73,7 @@ try_linter() {
 {
   try "each script is in a list" are_known
   try "scripts that go on after a failure" diff <(comm -23 <(echo "$shell") <(echo "$ending")) \
-    <(printf '%s\n' .ci/run bindings/c/examples/test.sh checks/{bugs,js,mutants,pages,python,speed,tap,verdicts}.t)
+    <(printf '%s\n' .ci/run bindings/c/examples/test.sh checks/{bugs,js,pages,python,speed,tap,verdicts}.t)
   try_linter short long.js "long.js:1" "$(printf '%121s' .)" $shell $python $javascript
   try_linter are_run unused.sh "unused is not run" "unused() { true; } # unused" $shell
   try_linter chains chain.bash chain.bash:2 'set -e\nfalse && true\ntrue' $ending

@@ -1,6 +1,6 @@
 #!/usr/bin/env bash
-# 'rt ci': proves every crate and its tests, runs tests and programs. Each crate of crates.txt passes, and each test of
-# its sources was run.
+# 'rt ci': proves every crate and its tests, rejects the edits that must fail, runs tests and programs. Each crate of
+# crates.txt passes and each edit, and each test of the sources was run.
 # shellcheck source=checks/lib/tap.sh
 . "$(dirname "$0")/lib/tap.sh"
 
@@ -15,7 +15,8 @@ runs_all() {
   awk '/^test result: ok\. / { tests = $4 } /^rt: [a-z_]+: its tests passed$/ { sub(/:/, "", $2); print $2, tests }' \
     "$work/out" | sort > "$work/run"
   diff "$work/written" "$work/run"
-  tail -n 1 "$work/out" | diff - <(echo "$(grep -c '^[a-z]' crates.txt) passed, 0 failed")
+  all=$(cat <(grep '^[a-z]' crates.txt) <(ls crates/*/must-fail/*.edit) | wc -l)
+  tail -n 1 "$work/out" | diff - <(echo "$all passed, 0 failed")
 }
 
 # The kit is the one that tools/makers states.

@@ -1,10 +1,9 @@
 #!/usr/bin/env python3
 """Plants bugs in copies of the crates, and checks that their tests fail, and no others.
 
-They are in bugs.edits, each with what has to see it; mutants.py tries those of the proof:
+They are in bugs.edits, each with what has to see it:
 
     CRATE MODULE::TEST[=TEXT]..            these tests of the crate fail, and print a text
-    proof CRATE::FUNCTION GOAL..           exactly these goals of the function stay open
 
 A bug replaces whole lines, and keeps their words, of which one may differ. The bugs of one crate are planted in one
 copy.
@@ -27,7 +26,7 @@ BUGS = Path(__file__).with_name("bugs.edits")
 
 
 class Bug(NamedTuple):
-    """A bug, and what sees it: tests, or a function and its goals."""
+    """A bug, and the tests that see it."""
 
     name: str
     seen_by: list[str]
@@ -37,7 +36,7 @@ class Bug(NamedTuple):
 
 
 def read_bugs() -> dict[str, list[Bug]]:
-    """Returns the bugs by the crates whose tests see them, and those that the proof sees."""
+    """Returns the bugs by the crates whose tests see them."""
     found: dict[str, list[Bug]] = defaultdict(list)
     for name, seen, *edit in edits.rows(BUGS):
         where, *seen_by = seen.split()
@@ -122,8 +121,7 @@ def stated_errors() -> Iterator[tap.Result]:
 def results() -> Iterator[tap.Result]:
     """Runs tests over the bugs that they have to see."""
     for crate, bugs in read_bugs().items():
-        if crate != "proof":
-            yield crate, error_of(bugs, run_tests(crate, bugs))
+        yield crate, error_of(bugs, run_tests(crate, bugs))
     yield from stated_errors()
 
 

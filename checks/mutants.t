@@ -1,3 +1,0 @@
-#!/usr/bin/env bash
-# That the proof rejects mutants.
-exec "$(dirname "$0")/lib/mutants.py"
