@@ -22,7 +22,7 @@ use Rattle.multihash.specs.Multihash.{Fields, pair_of}
 use Rattle.multihash.proofs.WritingLemmas.{slice_writer_has_room}
 use Rattle.multihash.proofs.ReadingLemmas.{Consumes-told, Consumes-concatenated, IfSome-consumed}
 use Rattle.multihash.proofs.VerdictLemmas.{verdict_unique, whole_verdict_unique}
-use Rattle.multihash.proofs.VarintLemmas.{number_no_error, same_number}
+use Rattle.multihash.proofs.VarintLemmas.{error as wrong_front, front_unique, number_no_error, same_number, varint_unique}
 use Rattle.multihash.proofs.ScaleLemmas.{scale_split, scale_verdict_unique}
 use Rattle.multihash.proofs.StreamLemmas.{part_read, next_part, parts_unique}
 use Rattle.multihash.proofs.EncodingLemmas.{encoding_same, encoding_unique}
@@ -226,3 +226,28 @@ pub varint_fails : (before middle after : ℕ) (old new : Option (List ℕ)) (e 
     → ConsumesAtVarintError e old new → IfSome old (λ input. after ≡ middle → IsFrontError input e) → VarintFails before after e old new
 varint_fails before middle after old new e same cause consumed front =
     subst (λ k. VarintFails k after e old new) same (record { cause = cause; consumed = consumed; front = front })
+
+-- ---- parts at the front of an input
+
+-- two varints at the front of one input are the same, and so is what follows them
+pub number_unique : (m n : ℕ) (a b r s : List ℕ) → IsVarint m a → IsVarint n b → a ++ r ≡ b ++ s → (m ≡ n) × (a ≡ b) × (r ≡ s)
+number_unique m n a b r s is also e =
+    let both = same_number (a ++ r) m n r s (a, is, refl) (b, also, e) in
+    (both.0, varint_unique m a b is (subst (λ k. IsVarint k b) (sym both.0) also), both.1)
+
+-- bytes that start with a varint have no error at their front
+pub front_no_error : (n : ℕ) (a r bytes : List ℕ) (e : Refusal) → IsVarint n a → bytes ≡ a ++ r → IsFrontError bytes e → ⊥
+front_no_error n a r bytes e is cut (why, named, bad) = number_no_error bytes n r why (a, is, cut) bad
+
+-- the error of a front is one
+pub front_error_unique : (x : List ℕ) (e f : Refusal) → IsFrontError x e → IsFrontError x f → e ≡ f
+front_error_unique x e f (a, is_a, bad) (b, is_b, also) =
+    let same : wrong_front a ≡ wrong_front b = front_unique x (wrong_front a) (wrong_front b) bad also in
+    let also_same : a ≡ b = cc in
+    is_a ∙ (ap of_varint also_same ∙ sym is_b)
+
+-- bytes that start with an encoding that fits have no verdict that is an error
+pub encoding_no_error : (S : ℕ) (p : Pair) (a r bytes : List ℕ) (v : Verdict) (e : Refusal) → IsEncoding p a → FitsBuffer S p
+    → bytes ≡ a ++ r → HasVerdict S bytes v → IsErrorOf e v → ⊥
+encoding_no_error S p a r bytes v e is fits cut has names =
+    subst (IsErrorOf e) (verdict_unique S bytes v (accepted p) has (r, record { encoding = a; encodes = is; cut = cut }, fits)) names

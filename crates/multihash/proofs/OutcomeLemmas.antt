@@ -1,5 +1,5 @@
 -- What holds of the result if a `?` passes an error on.
-use Rattle.std.proofs.Common.{◌≡◌, Result, Ok, Err, MatchResult, OnErr, sym, subst}
+use Rattle.std.proofs.Common.{◌≡◌, Result, Ok, Err, MatchResult, IfErr, OnErr, sym, subst}
 use Rattle.std.specs.Result.{IsErrAnd}
 
 -- the returned error is the one that was passed on, so what holds of that one holds of it
@@ -16,3 +16,10 @@ OnErr-always (Err e) p = p
 pub passed_err : {T E : Type 0} (P : Result T E → Type 0) (r : Result T E) (e : E) → IsErrAnd r (λ x. x ≡ e) → P (Err e) → P r
 passed_err P (Ok t) e given p = absurd given
 passed_err P (Err x) e given p = subst (λ y. P (Err y)) (sym given) p
+
+-- what holds of each error of a kind holds of a result that is an error of it: for errors that a predicate of
+-- `from_gives` names, and for a clause that only one error is left
+pub only_error : {T E : Type 0} (r : Result T E) (Q : T → Type 0) (Given Kind P : E → Type 0) → IsErrAnd r Given → IfErr r Kind
+    → ((e : E) → Kind e → P e) → MatchResult r Q P
+only_error (Ok x) Q Given Kind P given kind weaker = absurd given
+only_error (Err e) Q Given Kind P given kind weaker = weaker e kind
