@@ -74,10 +74,11 @@ class Counted:
         """Returns what was printed with the status after it, and the numbers of allocations and of leaks."""
         counts = self.work / "counts"
         counts.write_text("0 1", "utf-8")
-        preload = {"LD_PRELOAD": f"{self.work}/memory.so", "COUNTS": str(counts), "FAIL": str(fail)}
+        # from the work folder, as blanks in LD_PRELOAD separate paths
+        preload = {"LD_PRELOAD": "./memory.so", "COUNTS": str(counts), "FAIL": str(fail)}
         files = os.open(stdin, os.O_RDONLY)
         ran = subprocess.run(
-            command, stdin=files, stdout=-1, stderr=subprocess.STDOUT, env=os.environ | preload, text=True, timeout=60
+            command, cwd=self.work, stdin=files, stdout=-1, stderr=-2, env=os.environ | preload, text=True, timeout=60
         )
         os.close(files)
         asked, live = map(int, counts.read_text("utf-8").split())
