@@ -161,8 +161,9 @@ rust_lints() {
 # Beside the same package each share of instructions is 1. A wrong result is found.
 rust_counts() {
   local copy=$work/repository/bindings/rust
-  [[ $(in_crate ./beside_upstream.py multihash --write) = "| Call"* ]]
-  sed '/^|/s/.\.[0-9]* to [0-9.]*/1.00 to 1.00/g' bindings/rust/multihash/README.md | diff - "$copy/multihash/README.md"
+  in_crate ./beside_upstream.py multihash > "$work/shares"
+  grep '^| Call' "$work/shares"
+  sed -E '1,2d; /^\|[^|]*(\| 1\.00 to 1\.00 ){3}\|$/d' "$work/shares" | diff /dev/null -
   sed -i "s/te(20)/te(19)/" "$copy/speed/main.rs"
   rejects "truncate 1 20" in_crate ./beside_upstream.py multihash
 }

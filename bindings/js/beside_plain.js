@@ -1,7 +1,5 @@
 // Times of each call beside plain JavaScript that copies its results, with the same checks, by turns, as minima.
-//   node beside_plain.js           prints the table of README.md
-//   node beside_plain.js --write   also writes it
-import { readFileSync, writeFileSync } from 'node:fs';
+//   node beside_plain.js   prints them as a table, and the number of results that were compared before
 import * as ours from './index.js';
 import { same } from './test/check.js';
 
@@ -205,7 +203,3 @@ let table = '| Call | Time | Plain JavaScript | Share |\n|---|---:|---:|---:|\n'
 for (const [name, [here, there]] of Object.entries(least))
   table += `| ${name} | ${here.toFixed(0)} ns | ${there.toFixed(0)} ns | ${(here / there).toFixed(2)} |\n`;
 console.log(`${table}${results} results`);
-if (process.argv[2] === '--write') {
-  const page = new URL('README.md', import.meta.url);
-  writeFileSync(page, readFileSync(page, 'utf8').replace(/\| Call \| Time (.+\n)+/, () => table));
-}

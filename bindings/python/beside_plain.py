@@ -1,6 +1,6 @@
 """Times of each call beside plain Python with the same checks: the least CPU time of each in turns.
 
-    python3 -I beside_plain.py   prints the table of README.md; the status is 1 if a call takes too long
+    python3 -I beside_plain.py   prints a table; the status is 1 if a call takes too long
 
 Before that the results of both are compared.
 """
@@ -13,7 +13,7 @@ from typing import Any, BinaryIO, Callable, Dict, Iterator, NamedTuple, Optional
 import verified_multihash as vm
 
 ROUNDS, CALLS = 40, 2000
-LIMIT = 0.6  # of a share: times vary, so it is more than the page says
+LIMIT = 0.6  # of a share: times vary, so it is more than each share
 DATA = bytes([18, 32]) + bytes(range(32))
 VARINTS = [bytes.fromhex(it) for it in ("", "00", "80", "80" * 9, "8000", "ff7f", "ff" * 8 + "7f", "ff01", "8002")]
 

@@ -51,11 +51,10 @@ installs() {
   "$python" -m pip install --quiet --disable-pip-version-check --no-index --no-build-isolation --force-reinstall "$1"
 }
 
-# What is timed has the same results, in the rows of README.md, and no call takes longer than a limit.
+# What is timed has the same results, and no call takes longer than a limit.
 beside_plain() {
   local other=$work/beside_plain.py
-  "$python" -I "$here/beside_plain.py" | sed 's/[0-9.]* µs.*//' |
-    diff <(sed -n '/^| Call | this/,$s/\([0-9.]* µs.*\)\?$//p' "$here/README.md") -
+  "$python" -I "$here/beside_plain.py"
   sed 's/= 0.6 /= 0 /; s/40, 2000/1, 99/' "$here/beside_plain.py" > "$other"
   rejects "| 0." "$python" -I "$other"
   sed 's/> 255/> 254/' "$here/beside_plain.py" > "$other"

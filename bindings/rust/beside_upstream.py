@@ -1,8 +1,7 @@
 #!/usr/bin/env python3
 """Counts the instructions of each call of the package multihash beside those of upstream's crate.
 
-    bindings/rust/beside_upstream.py UPSTREAM   prints the shares, all above 1 and the table of multihash/README.md
-    bindings/rust/beside_upstream.py UPSTREAM --write   also writes that table
+    bindings/rust/beside_upstream.py UPSTREAM   prints the shares above 1, and a table of all calls
 
 UPSTREAM is a folder with upstream's package, whose dependencies Cargo finds. Needs valgrind, on x86-64. A count is that
 of the default release profile, and of one with fat link-time optimization.
@@ -15,7 +14,6 @@ from pathlib import Path
 from typing import Dict, List, Tuple
 
 HERE = Path(__file__).resolve().parent
-PAGE = HERE / "multihash" / "README.md"
 CALLS = ["from_bytes", "read, slice", "read, Cursor", "read, BufReader", "read, dyn Read", "write, slice", "write, Vec",
          "to_bytes", "encoded_len", "wrap", "==", "cmp", "Hash", "truncate", "resize", "into_inner"]  # fmt: skip
 MANIFEST = """[package]
@@ -71,7 +69,7 @@ def shares(upstream: Path) -> Dict[Tuple[str, str, str], List[float]]:
 
 
 def table(found: Dict[Tuple[str, str, str], List[float]]) -> str:
-    """The rows of the page: for each call the least and the largest share, for codes of one byte and of more."""
+    """For each call the least and the largest share, for codes of one byte and of more."""
     rows = ["| Call | a code of one byte | of two to nine bytes | both, fat LTO |\n|---|---:|---:|---:|\n"]
     for call in CALLS:
         short = [value[0] for key, value in found.items() if key[0] == call and key[1] == "1"]
@@ -83,16 +81,13 @@ def table(found: Dict[Tuple[str, str, str], List[float]]) -> str:
 
 
 def main() -> None:
-    if sys.argv[1:2] in ([], ["-h"]) or sys.argv[2:] not in ([], ["--write"]):
+    if len(sys.argv) != 2 or sys.argv[1] == "-h":
         sys.exit(__doc__)
     found = shares(Path(sys.argv[1]).resolve())
     for key, values in sorted(found.items(), key=lambda item: -max(item[1])):
         if max(values) > 1:
             print(*key, *(f"{value:.2f}" for value in values))
-    print(table(found))
-    if sys.argv[2:]:
-        text = PAGE.read_text("utf-8")
-        PAGE.write_text(re.sub(r"\| Call \| a code.*\n(?:\|.*\n)+", lambda _: table(found), text), "utf-8")
+    print(table(found), end="")
 
 
 if __name__ == "__main__":
