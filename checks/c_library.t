@@ -158,8 +158,12 @@ by_hand() {
   build_and_run "$1" "" cc "${c_flags[@]}" -O2 -I "$work" "$c/speed/$1.c" "${tests[@]}"
 }
 
-# The example of the page is the one that is installed.
-example_in() { block_of bindings/c/README.md c | diff bindings/c/examples/show.c -; }
+# The first example of the page.
+example_in() {
+  block_of bindings/c/README.md c > "$work/example.c"
+  cc "${c_flags[@]}" -I "$c/include" "$work/example.c" "$library" -o "$work/example"
+  "$work/example" | diff <(echo "code 0, digest hello") -
+}
 
 # The reader of a stream that is installed, over pipes that are cut at each byte.
 stream_example() {

@@ -137,8 +137,7 @@ shows() {
 
 # The page of README.md, over the unpacked package.
 packed_page() {
-  printf 'page.html\tcode 22, size 32; MultihashError: unexpected_eof, incomplete: true\n' |
-    shows "$1"
+  printf 'page.html\tcode 18, size 2\n' | shows "$1"
 }
 
 demo() {

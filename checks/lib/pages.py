@@ -1,7 +1,6 @@
 #!/usr/bin/env python3
 """Compares the pages with the sources: docs/CONTRACTS.md, links, paths, names, versions and limits, what blocks and
-tables show; and runs README.md's commands and programs: mh_show as 'rt ci' built it, if BUILT says so, otherwise
-'rt run' builds it.
+tables show; and runs README.md's commands and programs.
 
 What a page says in its own words is not compared. Of each comparison one difference, of pages.edits, is planted.
 """
@@ -50,7 +49,7 @@ STATED = (
     (r"\| a digest \| 0 to `min\(S, (\d+)\)", HEADER, r"MULTIHASH_DIGEST_MAX (\d+)"),
     (r"\| an encoding \| 2 to (\d+)", HEADER, r"MULTIHASH_LENGTH_MAX (\d+)"),
     (r"\| both varints together \| 2 to (\d+)", HEADER, r"MULTIHASH_HEAD_MAX (\d+)"),
-    (r"\| a SCALE form \| 9 to (\d+)", HEADER, r"MULTIHASH_SCALE_LENGTH_MAX (\d+)"),
+    (r"\| a SCALE encoding \| 9 to (\d+)", HEADER, r"MULTIHASH_SCALE_LENGTH_MAX (\d+)"),
 )
 Texts = dict[str, str]
 
@@ -222,11 +221,8 @@ def command_errors(texts: Texts) -> Iterator[str]:
     with tempfile.TemporaryDirectory() as work:
         start.copy_repository(copy := Path(work) / "copy")
         for command in commands:
-            if os.environ.get("BUILT") == "rt ci":
-                command = command.replace("rt run", "out/mh_show")
-            where = TOP if "crates" in command else copy
-            ran = subprocess.run(["bash", "-c", command], cwd=where, capture_output=True, text=True)
-            if ran.returncode != 0 or not ran.stdout.startswith(shown):
+            ran = subprocess.run(["bash", "-c", command], cwd=copy, capture_output=True, text=True)
+            if ran.returncode != 0 or ran.stdout != shown:
                 yield f"{command}: status {ran.returncode}, printed {ran.stdout!r}, {ran.stderr[-300:]!r}"
 
 
