@@ -261,7 +261,7 @@ fn read_after<R: Read>(r: &mut R, first: u8) -> Result<u64, Error>
         R.failures r.new ≡ R.failures r.old → IfErr result (IsFrontError input)) }
 {
     let mut value = u64::from(first & 0x7f);
-    for i in 1..=MAX_CONTINUATION {
+    for i in 1..MAX_LEN {
         let Some(byte) = read_byte(r)? else {
             return Err(Error::insufficient());
         };
