@@ -1,6 +1,5 @@
 use crate::io;
 use core::fmt;
-use multihash_c::Error as Format;
 
 /// Why a call failed. [`source`](core::error::Error::source) is the error of the reader or the writer, if one
 /// of these failed.
@@ -52,20 +51,22 @@ impl Error {
         Self::new(kind)
     }
 
-    /// The error of a decoding.
+    /// The error of a proved function, without one of a reader or a writer.
     #[cold]
-    pub(crate) fn of_format(error: Format) -> Self {
-        match error {
-            Format::Insufficient => Self::insufficient(),
-            Format::Overflow => Self::new(Kind::Varint(Varint::Overflow)),
-            Format::NotMinimal => Self::new(Kind::Varint(Varint::NotMinimal)),
-            Format::InvalidSize(size) => Self::of_size(size),
-            Format::InvalidCode(code) => Self::of_code(code),
+    pub(crate) fn of(error: &crate::proved::Error) -> Self {
+        if let Some(size) = error.invalid_size() {
+            Self::of_size(size)
+        } else if let Some(code) = error.invalid_code() {
+            Self::of_code(code)
+        } else if error.is_insufficient() {
+            Self::insufficient()
+        } else if error.is_overflow() {
+            Self::new(Kind::Varint(Varint::Overflow))
+        } else if error.is_not_minimal() {
+            Self::new(Kind::Varint(Varint::NotMinimal))
+        } else {
             // the error of a reader with too few bytes
-            Format::UnexpectedEof => {
-                Self::io(io::Read::read_exact(&mut &[][..], &mut [0]).expect_err("there are no bytes"))
-            }
-            other => unreachable!("an error of a call that this crate does not make: {other}"),
+            Self::io(io::Read::read_exact(&mut &[][..], &mut [0]).expect_err("there are no bytes"))
         }
     }
 }
@@ -74,12 +75,12 @@ impl fmt::Display for Error {
     fn fmt(&self, f: &mut fmt::Formatter<'_>) -> fmt::Result {
         match &self.kind {
             Kind::Io(error) => write!(f, "{error}"), // without width and precision, as upstream
-            Kind::InvalidSize(size) => Format::InvalidSize(*size).fmt(f),
-            Kind::InvalidCode(code) => Format::InvalidCode(*code).fmt(f),
+            Kind::InvalidSize(size) => write!(f, "Invalid multihash size {size}."),
+            Kind::InvalidCode(code) => write!(f, "Invalid multihash code {code}."),
             #[cfg(not(feature = "std"))]
-            Kind::Varint(Varint::Insufficient) => Format::Insufficient.fmt(f),
-            Kind::Varint(Varint::Overflow) => Format::Overflow.fmt(f),
-            Kind::Varint(Varint::NotMinimal) => Format::NotMinimal.fmt(f),
+            Kind::Varint(Varint::Insufficient) => f.write_str("not enough input bytes"),
+            Kind::Varint(Varint::Overflow) => f.write_str("input bytes exceed maximum"),
+            Kind::Varint(Varint::NotMinimal) => f.write_str("encoding is not minimal"),
         }
     }
 }

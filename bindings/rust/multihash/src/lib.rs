@@ -15,9 +15,11 @@ mod error;
 mod multihash;
 #[cfg(not(feature = "std"))]
 pub mod no_std_io;
-mod read;
+#[allow(dead_code, unstable_name_collisions, clippy::all)]
+pub mod proved;
 #[cfg(feature = "serde")]
 mod serde;
+mod streams;
 
 #[cfg(not(feature = "std"))]
 use no_std_io as io;

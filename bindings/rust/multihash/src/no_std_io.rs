@@ -13,8 +13,8 @@ enum Kind {
 impl Error {
     const fn text(&self) -> &'static str {
         match self.0 {
-            Kind::UnexpectedEof => multihash_c::Error::UnexpectedEof.as_str(),
-            Kind::WriteZero => multihash_c::Error::NoRoom(0).as_str(),
+            Kind::UnexpectedEof => "failed to fill whole buffer",
+            Kind::WriteZero => "failed to write whole buffer",
         }
     }
 }

@@ -1,13 +1,14 @@
 //! The encoding as bytes, or as a sequence of numbers where a format has no bytes.
 use crate::Multihash;
 use core::fmt;
-use multihash_c::{MultihashRef, DIGEST_MAX, LENGTH_MAX};
 use serde::de::{Error, SeqAccess, Visitor};
 use serde::{Deserialize, Deserializer, Serialize, Serializer};
 
 impl<const S: usize> Serialize for Multihash<S> {
     fn serialize<T: Serializer>(&self, serializer: T) -> Result<T::Ok, T::Error> {
-        MultihashRef::from(self).with_encoding(|bytes| serializer.serialize_bytes(bytes))
+        let mut bytes = [0; LENGTH_MAX];
+        let length = self.write(&mut bytes[..]).expect("it has room");
+        serializer.serialize_bytes(&bytes[..length])
     }
 }
 
@@ -16,6 +17,10 @@ impl<'de, const S: usize> Deserialize<'de> for Multihash<S> {
         deserializer.deserialize_bytes(Bytes)
     }
 }
+
+/// The most bytes of an encoding and of a digest.
+const LENGTH_MAX: usize = 266;
+const DIGEST_MAX: usize = 255;
 
 struct Bytes<const S: usize>;
 

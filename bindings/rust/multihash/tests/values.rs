@@ -9,6 +9,10 @@ const CODE_MAX: u64 = (1 << 63) - 1;
 /// `wrap` in a constant.
 const WRAPPED: Result<Multihash<64>, Error> = Multihash::wrap(0x12, b"abc");
 
+fn as_ref<const S: usize>(it: &Multihash<S>) -> MultihashRef<'_> {
+    MultihashRef::wrap(it.code(), it.digest()).expect("each value has a valid code and digest")
+}
+
 fn of<const S: usize>(code: u64, digest: &[u8]) -> Multihash<S> {
     Multihash::wrap(code, digest).expect("it fits")
 }
@@ -45,8 +49,6 @@ fn limits() {
     assert_eq!((longest.encoded_len(), longest.to_bytes().len()), (LENGTH_MAX, LENGTH_MAX));
     assert_eq!(text(Multihash::<300>::wrap(1, &[7; DIGEST_MAX + 1])), "Invalid multihash size 256.");
     assert_eq!(text(Multihash::<3>::wrap(u64::MAX, b"abcd")), "Invalid multihash size 4.");
-    let borrowed = MultihashRef::wrap(1, b"abc").expect("a multihash");
-    assert_eq!(text(Multihash::<2>::try_from(borrowed)), "Invalid multihash size 3.");
     assert_eq!(text(Multihash::<4>::wrap(1 << 63, b"abcd")), "Invalid multihash code 9223372036854775808.");
 }
 
@@ -79,8 +81,8 @@ fn order_and_hash() {
             let order = at.cmp(&to);
             assert_eq!((left.partial_cmp(&right), left.cmp(&right)), (Some(order), order));
             assert_eq!(left.resize().expect("it fits").cmp(&longer), order);
-            assert_eq!(MultihashRef::from(&left).partial_cmp(&borrowed), Some(order));
-            let are_equal = [left == right, left == longer, MultihashRef::from(&left) == borrowed];
+            assert_eq!(as_ref(&left).partial_cmp(&borrowed), Some(order));
+            let are_equal = [left == right, left == longer, as_ref(&left) == borrowed];
             assert_eq!(are_equal, [at == to; 3]);
             let hashes = [hasher.hash_one(right), hasher.hash_one(longer), hasher.hash_one(borrowed)];
             assert_eq!(hashes.map(|it| it == hasher.hash_one(left)), [at == to; 3]);

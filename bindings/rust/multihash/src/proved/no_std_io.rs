@@ -1,0 +1,12 @@
+//! Readers and writers that need no operating system, and their error.
+#[allow(unused_imports)]
+use crate::proved::rattle::{std, *};
+
+mod error;
+mod impls;
+mod slice_writer;
+mod traits;
+
+pub use error::Error;
+pub use slice_writer::SliceWriter;
+pub use traits::{Read, Write};

@@ -1,0 +1,175 @@
+//! What the sources use of Rattle's `std` and is not in Rust's `core`: a vector whose allocations may fail,
+//! vectors of bytes, the text of a number, and `as_array` of Rust 1.93.
+
+/// `std`, as far as it is used.
+pub mod std {
+    pub use core::*;
+    pub mod alloc {
+        pub use crate::proved::rattle::{AllocError, AllocFailed, Global};
+    }
+    pub mod simd {
+        pub use crate::proved::rattle::simd as prelude;
+    }
+}
+
+/// The allocator.
+#[derive(Clone, Copy, Debug, Default)]
+pub struct Global;
+
+/// Out of memory.
+#[derive(Clone, Copy, Debug)]
+pub struct AllocError;
+
+/// Out of memory: the value that was not stored.
+#[derive(Debug)]
+pub struct AllocFailed<T>(pub T);
+
+#[cfg(feature = "alloc")]
+mod vec {
+    use super::{AllocError, AllocFailed, Global};
+    extern crate alloc;
+
+    /// A vector each of whose allocations may fail.
+    #[derive(Clone, Debug, Default, PartialEq, Eq)]
+    #[repr(transparent)]
+    pub struct Vec<T>(pub alloc::vec::Vec<T>);
+
+    impl<T> Vec<T> {
+        #[inline]
+        pub fn with_capacity(_: Global, capacity: usize) -> Result<Self, AllocError> {
+            let mut vec = alloc::vec::Vec::new();
+            vec.try_reserve_exact(capacity).map_err(|_| AllocError)?;
+            Ok(Self(vec))
+        }
+
+        #[inline]
+        pub fn push(&mut self, value: T) -> Result<(), AllocFailed<T>> {
+            if self.0.len() == self.0.capacity() && self.0.try_reserve(1).is_err() {
+                return Err(AllocFailed(value));
+            }
+            self.0.push(value);
+            Ok(())
+        }
+
+        #[inline]
+        pub fn push_reserved(&mut self, value: T) {
+            assert!(self.0.len() < self.0.capacity());
+            self.0.push(value);
+        }
+    }
+
+    impl Vec<u8> {
+        #[inline]
+        pub fn extend_from_slice(&mut self, bytes: &[u8]) -> Result<(), AllocError> {
+            self.0.try_reserve(bytes.len()).map_err(|_| AllocError)?;
+            self.0.extend_from_slice(bytes);
+            Ok(())
+        }
+    }
+}
+
+#[cfg(not(feature = "alloc"))]
+mod vec {
+    use super::{AllocError, AllocFailed, Global};
+
+    /// A vector that is always out of memory.
+    #[derive(Clone, Debug, PartialEq, Eq)]
+    pub struct Vec<T>(core::convert::Infallible, core::marker::PhantomData<T>);
+
+    impl<T> Vec<T> {
+        pub fn with_capacity(_: Global, _: usize) -> Result<Self, AllocError> {
+            Err(AllocError)
+        }
+
+        pub fn push(&mut self, value: T) -> Result<(), AllocFailed<T>> {
+            Err(AllocFailed(value))
+        }
+
+        pub fn push_reserved(&mut self, _: T) {
+            match self.0 {}
+        }
+
+        pub fn extend_from_slice(&mut self, _: &[T]) -> Result<(), AllocError> {
+            match self.0 {}
+        }
+    }
+}
+
+pub use vec::Vec;
+
+/// Vectors of sixteen bytes.
+pub mod simd {
+    #[allow(non_camel_case_types)]
+    #[derive(Clone, Copy)]
+    pub struct u8x16([u8; 16]);
+
+    /// The places at which two vectors differ.
+    pub struct Unlike(u8x16, u8x16);
+
+    impl u8x16 {
+        #[inline(always)]
+        pub fn from_slice(bytes: &[u8]) -> Self {
+            Self(*bytes.first_chunk().unwrap())
+        }
+
+        #[inline(always)]
+        pub fn simd_ne(self, other: Self) -> Unlike {
+            Unlike(self, other)
+        }
+    }
+
+    impl Unlike {
+        #[inline(always)]
+        pub fn to_bitmask(self) -> u64 {
+            if self.0 .0 == self.1 .0 {
+                return 0;
+            }
+            let [a, b] = [self.0, self.1].map(|it| u128::from_le_bytes(it.0));
+            bits((a ^ b) as u64) | bits(((a ^ b) >> 64) as u64) << 8
+        }
+    }
+
+    /// A bit for each byte that is not zero.
+    #[inline(always)]
+    fn bits(bytes: u64) -> u64 {
+        const LOW: u64 = 0x7f7f_7f7f_7f7f_7f7f;
+        let high = (((bytes & LOW) + LOW) | bytes) & !LOW;
+        (high >> 7).wrapping_mul(0x0102_0408_1020_4080) >> 56
+    }
+}
+
+/// `as_array` of slices: Rust has it from 1.93 on.
+#[allow(dead_code)]
+pub trait AsArray {
+    fn as_array<const N: usize>(&self) -> Option<&[u8; N]>;
+}
+
+impl AsArray for [u8] {
+    #[inline(always)]
+    fn as_array<const N: usize>(&self) -> Option<&[u8; N]> {
+        self.try_into().ok()
+    }
+}
+
+/// The digits of a number.
+pub mod itoa {
+    pub struct Buffer([u8; 20]);
+
+    impl Buffer {
+        pub fn new() -> Self {
+            Self([0; 20])
+        }
+
+        pub fn format(&mut self, mut number: u64) -> &str {
+            let mut at = self.0.len();
+            loop {
+                at -= 1;
+                self.0[at] = b'0' + (number % 10) as u8;
+                number /= 10;
+                if number == 0 {
+                    return core::str::from_utf8(&self.0[at..]).unwrap();
+                }
+            }
+        }
+    }
+}

@@ -1,0 +1,64 @@
+//! Readers and writers of `std::io` or `no_std_io` as those of the proved functions, whose error has a text alone: the
+//! caller's error is kept beside.
+use crate::proved::{self, no_std_io as bare};
+use crate::{io, Error};
+
+pub(crate) struct Kept<T> {
+    stream: T,
+    error: Option<io::Error>,
+}
+
+impl<T> Kept<T> {
+    #[inline(always)]
+    pub(crate) fn new(stream: T) -> Self {
+        Self { stream, error: None }
+    }
+
+    /// The caller's error, if there was one, else the other.
+    #[cold]
+    #[inline(never)]
+    pub(crate) fn error(self, error: proved::Error) -> Error {
+        self.error.map_or_else(|| Error::of(&error), Error::io)
+    }
+
+    #[inline(always)]
+    fn keep<V>(&mut self, result: Result<V, io::Error>) -> Result<V, bare::Error> {
+        match result {
+            Ok(value) => Ok(value),
+            Err(error) => {
+                self.error = Some(error);
+                Err(bare::Error::other(""))
+            }
+        }
+    }
+}
+
+impl<R: io::Read> bare::Read for Kept<R> {
+    #[inline(always)]
+    fn read(&mut self, buf: &mut [u8]) -> Result<usize, bare::Error> {
+        let result = self.stream.read(buf);
+        self.keep(result)
+    }
+
+    #[inline(always)]
+    fn read_exact(&mut self, buf: &mut [u8]) -> Result<(), bare::Error> {
+        let result = self.stream.read_exact(buf);
+        self.keep(result)
+    }
+}
+
+impl<W: io::Write> bare::Write for Kept<W> {
+    const ALLOCATES: bool = true;
+
+    #[inline(always)]
+    fn write(&mut self, buf: &[u8]) -> Result<usize, bare::Error> {
+        let result = self.stream.write(buf);
+        self.keep(result)
+    }
+
+    #[inline(always)]
+    fn write_all(&mut self, buf: &[u8]) -> Result<(), bare::Error> {
+        let result = self.stream.write_all(buf);
+        self.keep(result)
+    }
+}
