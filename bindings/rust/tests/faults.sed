@@ -1,25 +1,12 @@
 # Faults of the sources of both packages, each of which alone the tests have to see.
-s/_ => Error::io(error)/_ => Error::insufficient()/
 s/ErrorKind::UnexpectedEof.into()/ErrorKind::NotFound.into()/
-s/Insufficient => Self::insufficient()/Insufficient => Self::new(Kind::Varint(Varint::Overflow))/
 s/io::Read::read_exact(&mut &\[\]\[..\], &mut \[0\])/io::Write::write_all(\&mut \&mut [0; 0][..], \&[0])/
 s/_ => None,/Kind::InvalidSize(_) => Some(\&Format::Overflow), &/
-s/held\[at\] = digest\[at\]/& ^ at as u8 % 2/
 /fn code/,/}/s/self.code$/& ^ 2/
 s/as u8 .. at most 255/as u8 ^ 1/
-s/&mut digest\[..size.into()\]).map_err(Error::io)/\&mut digest[(size == 1).into()..size.into()]).map_err(|it| { let _ = r.read(\&mut [0]); Error::io(it) })/
-s/Ok(Self { code, size, digest })/Ok(Self { code: code ^ 4, size, digest })/
-s/Ok(length + usize/Ok(1 + length + usize/
-s/=> Ok(bytes.len()/& + 1/
-s/varint_len(self.code) +/& 1 +/
 s/with_encoding(<\[u8\]>::to_vec)/with_encoding(|it| { let mut it = it.to_vec(); it[0] ^= 32; it })/
-s/self.size.min(size)/&.saturating_sub((size != 199).into())/
-s/Multihash { code: self.code/& ^ 16/
-s/(self.code, self.digest, self.size)/(self.code ^ 8, self.digest, self.size.saturating_sub(1))/
-s/code: 0, size: 0/code: 1, size: S.min(1) as u8/
 s/self.digest() == other.digest()/self.digest().len() > 99/
 s/self.digest().hash(state)/self.digest().len().hash(state)/
-s/cmp(&other.digest\[..size\])/&.then(Ordering::Less)/
 s/Some(self.cmp(other))/(self.cmp(other) as i8 > 9).then_some(Ordering::Less)/
 s/numbers.next_element()/&.map_err(|it| if length % 12 == 1 { A::Error::custom("none") } else { it })/
 s/LENGTH_MAX };/LENGTH_MAX + 1 };/
@@ -50,5 +37,4 @@ s/offset: 0, \.\./offset: (found.digest().len() > 8) as u8, ../
 /ffi::head(bytes)/{n;s/status/& % 3/}
 /Ok(found.digest_length/{n;s/status,/status % 3 + 1,/}
 s/("code", &self.code)/("code", \&self.size())/
-s/count => \(out = .*\),/count => if count == 1 \&\& out[0] == 22 { break } else { \1 },/
 s/count => \(buf = .*\),/count => if count < 999 { \1 } else { break },/
