@@ -46,7 +46,7 @@ the module has the globals|sed -i -E 's/w2c_in_call = 0u/w2c_in_call = 1u/' call
 each access is a call|sed -i -E '0,/\(\*Z_memoryZ_i64_store\).*;$/s///' calls.c
 each access is a call|sed -i -E '0,/i64\.load .*$/s//& more/' linked.wat
 each access is a call|sed -i -E '0,/memory\.copy/s//& more/' linked.wat
-the module has the functions that are placed|sed -i -E 's/w2c_multihash_head\(/w2c_more(/' calls.c
+the module lacks|sed -i -E 's/w2c_multihash_head\(/w2c_more(/' calls.c
 memory.h has I64_POPCNT|sed -i -E 's/I64_CTZ\(/I64_POPCNT(/' calls.c
 END
 }
