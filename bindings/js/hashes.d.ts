@@ -1,7 +1,7 @@
-// Names of codes, and multihashes of data by WebCrypto. A program also imports an entry, as 'verified-multihash'.
+// Hash functions of WebCrypto. A program also imports an entry, such as 'verified-multihash'.
 import type { Multihash } from './index.js';
 
-/** The code of each name: those of the multicodec table that are here or in the package for Python. */
+/** The code of each function here by its name in the multicodec table. */
 export const CODES: Readonly<Record<string, number | undefined>>;
 /** The name of each code. */
 export const NAMES: Readonly<Record<number, string | undefined>>;
@@ -10,19 +10,18 @@ export const NAMES: Readonly<Record<number, string | undefined>>;
 export interface MultihashHasher<Code extends number = number> {
   readonly name: string;
   readonly code: Code;
-  /** The multihash of the bytes. Rejected with an error in a page that lacks `crypto.subtle`, as without HTTPS. */
+  /** Returns the multihash of the bytes. */
   digest(bytes: Uint8Array): Promise<Multihash<Code>>;
 }
 
-/** The bytes themselves, at most 255 of them. */
+/** The bytes themselves, at most 255 of them, are the digest. */
 export const identity: MultihashHasher<0>;
-export const sha1: MultihashHasher<0x11>;
 export const sha256: MultihashHasher<0x12>;
 export const sha384: MultihashHasher<0x20>;
 export const sha512: MultihashHasher<0x13>;
 
 /**
- * Whether a multihash, or its encoding, is that of the bytes by a function above: a digest that is cut off is not.
- * Another code is a `RangeError`. How long it takes does not depend on the bytes of equal lengths.
+ * Returns whether a multihash, or its encoding, is that of the bytes by a function above; false for a truncated digest.
+ * Another code is a `RangeError`. The time for digests of equal lengths does not depend on their bytes.
  */
 export function verify(multihash: Multihash | Uint8Array, bytes: Uint8Array): Promise<boolean>;

@@ -53,14 +53,11 @@ s/, version,/,/
 s/functions.memory.buffer/&.valueOf()/
 s/#end ??= () => {/#end = () => {/
 s/else if (!stream.locked)/else/
-s/0xb240/0xb241/
-s/size <= 64/size < 64/
-s/__proto__: null, identity/identity/
-s/NAMES\[CODES\[name\]\] = name/NAMES[CODES[name]] = 1/
-s/'sha2-512', 'SHA-512'/'sha2-384', 'SHA-512'/
-s/code in functions/code in NAMES/
+s/CODES = { __proto__: null }/CODES = {}/
+s/NAMES\[code\] = name/NAMES[code] = code/
+s/0x13, 'SHA-512'/0x13, 'SHA-384'/
+s/code in algorithms/code >= 0/
 s/^  checkedLength(bytes);$//
 s/digest.length ^ wanted.length/0/
 s/difference |=/difference =/
 s/index = 0; index < wanted/index = 0; index + 1 < wanted/
-s/crypto?.subtle/crypto.subtle/

@@ -135,14 +135,6 @@ static PyObject *multihash_bytes(PyObject *self, PyObject *unused)
     return PyBytes_FromStringAndSize((const char *)out, (Py_ssize_t)made.length); /* a Multihash has an encoding */
 }
 
-static PyObject *multihash_size(PyObject *self, void *unused)
-{
-    size_t length;
-    (void)unused;
-    digest_of(self, &length);
-    return PyLong_FromSize_t(length);
-}
-
 static PyMethodDef multihash_methods[] = {
     {"__bytes__", multihash_bytes, METH_NOARGS, "The encoding."},
     {"__getnewargs__", multihash_arguments, METH_NOARGS, "For pickle and copy: the arguments of the class."},
@@ -160,11 +152,6 @@ static PyMemberDef multihash_members[] = {
     {NULL, 0, 0, 0, NULL},
 };
 
-static PyGetSetDef multihash_attributes[] = {
-    {"size", multihash_size, NULL, "The digest's length.", NULL},
-    {NULL, NULL, NULL, NULL, NULL},
-};
-
 static const char multihash_doc[] =
     "Multihash(code, digest)\n--\n\n"
     "A code below 2**63, which identifies the hash function, and a digest of at most DIGEST_MAX bytes.\n\n"
@@ -180,7 +167,6 @@ static PyType_Slot multihash_slots[] = {
     {Py_tp_richcompare, multihash_compared},
     {Py_tp_methods, multihash_methods},
     {Py_tp_members, multihash_members},
-    {Py_tp_getset, multihash_attributes},
     {0, NULL},
 };
 

@@ -45,7 +45,6 @@ s/PyObject_Hash(it->digest)/PyObject_HasAttrString(self, "__dict__")/
 s/code=%R, d/code=%R; d/
 s/"OO", ((multihash_object \*)self)->code/"KO", ((multihash_object *)self)->number ^ 1/
 s/, "hex")/, "title")/
-s/FromSize_t(length)/FromSize_t(length % 255)/
 s/encode(((multihash_object \*)self)->number/& + 1/
 s/READONLY, "The code/0, "The code/
 s/"read", "read_from"/"read_from"/
@@ -70,7 +69,7 @@ s/"sha2-224": 0x1013/"sha2-224": 0x1012/
 s/{code: name for name/{code: code for name/
 s/name not in CODES/name is None/
 s/code not in NAMES/code < 0/
-s/compare_digest(its.digest, _hashed(data, NAMES\[its.code\]))/compare_digest(its.digest[:9], _hashed(data, NAMES[its.code])[:9])/
+s/compare_digest(claimed.digest, _hashed(data, NAMES\[claimed.code\]))/compare_digest(claimed.digest[:9], _hashed(data, NAMES[claimed.code])[:9])/
 s/, text) :/, text) + 1 :/
 s/return 1$/return 2/
 s/argv\[1:\] else/argv[2:] else/

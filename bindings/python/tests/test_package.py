@@ -201,11 +201,10 @@ class Values(unittest.TestCase):
             source[0] = 0
             self.assertEqual((repr(value), hash(value)), ("%s(code=1, digest=b'abc')" % kind.__qualname__, hash(VALUE)))
             self.assertEqual((vm.compare(value, VALUE), bytes(value), value.hexdigest()), (0, b"\1\3abc", "616263"))
-            self.assertEqual([Multihash(1, bytes(size)).size for size in (0, 1, 255)], [0, 1, 255])
             source[0] = ord("a")
             value.__init__(2, b"")
             self.assertEqual((value, type(value.code)), (VALUE, int))
-            for name in ("code", "digest", "size", *["more"] * (kind is Multihash)):
+            for name in ("code", "digest", *["more"] * (kind is Multihash)):
                 for call in (setattr, object.__setattr__):
                     self.assertRaises(AttributeError, call, value, name, 2)
                 self.assertRaises(AttributeError, delattr, value, name)

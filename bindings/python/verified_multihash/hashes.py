@@ -22,15 +22,14 @@ _CODES: Dict[str, int] = {
 }  # fmt: skip
 
 
-def _its_name(name: str) -> str:
-    """The name in hashlib."""
+def _in_hashlib(name: str) -> str:
     return name.replace("sha2-", "sha").replace("-", "_")
 
 
 # The code of each name, and the name of each code.
 CODES: Mapping[str, int] = {
     "identity": 0,
-    **{name: code for name, code in _CODES.items() if _its_name(name) in hashlib.algorithms_available},
+    **{name: code for name, code in _CODES.items() if _in_hashlib(name) in hashlib.algorithms_available},
     **{"blake2b-%d" % (8 * size): 0xB200 + size for size in range(1, 65)},
     **{"blake2s-%d" % (8 * size): 0xB240 + size for size in range(1, 33)},
 }
@@ -41,13 +40,11 @@ def _hashed(data: Buffer, name: str) -> bytes:
     kind, _, bits = name.partition("-")
     if kind == "identity":
         return memoryview(data).tobytes()
-    if kind == "blake2b":
-        return hashlib.blake2b(data, digest_size=int(bits) // 8).digest()
-    if kind == "blake2s":
-        return hashlib.blake2s(data, digest_size=int(bits) // 8).digest()
+    if kind in ("blake2b", "blake2s"):
+        return (hashlib.blake2b if kind == "blake2b" else hashlib.blake2s)(data, digest_size=int(bits) // 8).digest()
     if kind == "shake":
         return (hashlib.shake_128 if bits == "128" else hashlib.shake_256)(data).digest(int(bits) // 4)
-    return hashlib.new(_its_name(name), data).digest()
+    return hashlib.new(_in_hashlib(name), data).digest()
 
 
 def digest(data: Buffer, name: str) -> Multihash:
@@ -61,11 +58,11 @@ def digest(data: Buffer, name: str) -> Multihash:
 
 
 def verify(multihash: Union[Multihash, Buffer], data: Buffer) -> bool:
-    """Returns whether the multihash, or its encoding, is that of the data: a digest that is cut off is not.
+    """Returns whether the multihash, or its encoding, is that of the data: False for a truncated digest.
 
-    A code that is not in NAMES is a ValueError. How long it takes does not depend on the bytes of equal lengths.
+    A code that is not in NAMES is a ValueError. The time for digests of equal lengths does not depend on their bytes.
     """
-    its = multihash if isinstance(multihash, Multihash) else decode(multihash)
-    if its.code not in NAMES:
-        raise ValueError("not in NAMES: %#x" % its.code)
-    return hmac.compare_digest(its.digest, _hashed(data, NAMES[its.code]))
+    claimed = multihash if isinstance(multihash, Multihash) else decode(multihash)
+    if claimed.code not in NAMES:
+        raise ValueError("not in NAMES: %#x" % claimed.code)
+    return hmac.compare_digest(claimed.digest, _hashed(data, NAMES[claimed.code]))
