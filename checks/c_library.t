@@ -172,6 +172,22 @@ stream_example() {
   "$work/stream"
 }
 
+# The example that hashes, over each row of hashes.tsv: it has no function for some, as OpenSSL has none of that name.
+verify_example() {
+  local code name digest hex wanted
+  cc "${c_flags[@]}" "${sanitize[@]}" -I "$c/include" "$c/examples/verify.c" "$library" -lcrypto -o "$work/verify"
+  while IFS=$'\t' read -r code name digest; do
+    hex=
+    for ((code = code; code > 127; code >>= 7)); do hex+=$(printf %02x $((code & 127 | 128))); done
+    hex+=$(printf %02x%02x "$code" $((${#digest} / 2)))
+    wanted="the same"
+    [[ $name != @(identity|shake-*|blake2b-8|blake2b-256|blake2s-8|blake2s-128) ]] || wanted="no hash function"
+    { printf abc | "$work/verify" "$hex$digest" 2>&1 || true; } | grep "^$wanted"
+    [ "$wanted" != "the same" ] || rejects "another content" "$work/verify" "$hex$digest" <<< abc
+  done < <(sed 1d "$top/crates/vectors/data/hashes.tsv")
+  rejects "another content" "$work/verify" 1201ba < <(printf abc)
+}
+
 # ---- all of it
 
 try "static library" build_library
@@ -191,4 +207,5 @@ try "C by hand" by_hand plain
 try "fast C by hand" by_hand fast
 try "the example of the page" example_in
 try "the reader of a stream" stream_example
+needs=/usr/include/openssl/evp.h try "the example that hashes" verify_example
 try "faults" sees_faults "$c/tests/faults.sed" "$c" "src/multihash.c examples/stream.c" source_tests "$work/faults"

@@ -20,7 +20,7 @@ files_in() {
   local libdir=$1
   printf './%s\n' "$include"/multihash.h "$libdir"/libmultihash_c.{a,so,so."$major",so."$version"} \
     "$libdir"/cmake/multihash_c/multihash_c-config{,-release,-version}.cmake "$libdir/pkgconfig/multihash_c.pc" \
-    "$document"/{README.md,changelog,copyright,examples/{show.c,stream.c,test.sh}} "${@:2}"
+    "$document"/{README.md,changelog,copyright,examples/{show.c,stream.c,test.sh,verify.c}} "${@:2}"
   { checks/header.t --exports; printf '%s\n' multihash{,_status_text}; } | sed "s,.*,./$man/man3/&.3,"
 }
 

@@ -1,0 +1,59 @@
+/* Verifies content by a multihash: verify HEX < CONTENT. The hash functions are those of OpenSSL 3. */
+#include "multihash.h"
+
+#include <openssl/crypto.h>
+#include <openssl/evp.h>
+#include <stdio.h>
+
+/* The names of OpenSSL for codes of the multicodec table. */
+static const struct {
+    uint64_t code;
+    const char *name;
+} functions[] = {
+    {0x11, "SHA1"}, {0x12, "SHA2-256"}, {0x13, "SHA2-512"}, {0x14, "SHA3-512"}, {0x15, "SHA3-384"},
+    {0x16, "SHA3-256"}, {0x17, "SHA3-224"}, {0x20, "SHA2-384"}, {0xd5, "MD5"}, {0x1013, "SHA2-224"},
+    {0x1014, "SHA2-512/224"}, {0x1015, "SHA2-512/256"}, {0xb240, "BLAKE2B-512"}, {0xb260, "BLAKE2S-256"},
+};
+
+/* Returns the function of a code, which EVP_MD_free frees, or NULL. */
+static EVP_MD *function_of(uint64_t code)
+{
+    for (size_t i = 0; i < sizeof functions / sizeof *functions; i++)
+        if (functions[i].code == code) return EVP_MD_fetch(NULL, functions[i].name, NULL);
+    return NULL;
+}
+
+/* Writes the digest of a stream to `digest`. Returns its length, or 0 if that fails. */
+static unsigned hash_stream(FILE *from, const EVP_MD *function, uint8_t *digest)
+{
+    uint8_t part[4096];
+    size_t got;
+    unsigned length = 0;
+    EVP_MD_CTX *context = EVP_MD_CTX_new();
+    int is_good = context != NULL && EVP_DigestInit_ex2(context, function, NULL);
+    while (is_good && (got = fread(part, 1, sizeof part, from)) > 0)
+        is_good = EVP_DigestUpdate(context, part, got);
+    is_good = is_good && !ferror(from) && EVP_DigestFinal_ex(context, digest, &length);
+    EVP_MD_CTX_free(context);
+    return is_good ? length : 0;
+}
+
+int main(int count, char **words)
+{
+    long length = 0;
+    uint8_t *bytes = count == 2 ? OPENSSL_hexstr2buf(words[1], &length) : NULL;
+    if (bytes == NULL) return fprintf(stderr, "usage: verify HEX < CONTENT\n"), 2;
+    multihash_decoded found = multihash_from_bytes(bytes, (size_t)length);
+    if (found.status != MULTIHASH_OK) return fprintf(stderr, "%s\n", multihash_status_text(found.status)), 2;
+    EVP_MD *function = function_of(found.code);
+    if (function == NULL) return fprintf(stderr, "no hash function has that code\n"), 2;
+    uint8_t digest[EVP_MAX_MD_SIZE];
+    unsigned size = hash_stream(stdin, function, digest);
+    if (size == 0) return fprintf(stderr, "the content cannot be hashed\n"), 2;
+    /* a truncated digest is not that of the content */
+    int is_same = size == found.digest_length && CRYPTO_memcmp(digest, bytes + found.digest_offset, size) == 0;
+    EVP_MD_free(function);
+    OPENSSL_free(bytes);
+    puts(is_same ? "the same" : "another content");
+    return !is_same;
+}
