@@ -1,7 +1,7 @@
 // Times of each call beside plain JavaScript that copies its results, with the same checks, by turns, as minima.
 //   node beside_plain.js   prints them as a table, and the number of results that were compared before
 import * as ours from './index.js';
-import { same } from './test/check.js';
+import { same } from './tests/check.js';
 
 const ROUNDS = 30;
 const CALLS = 1000;

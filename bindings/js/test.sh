@@ -8,10 +8,11 @@ here=$(dirname "$(readlink -f "${BASH_SOURCE[0]}")")
 top=$PWD
 vectors=$top/crates/vectors/data
 node=node=20.16+ # that of package.json
+demo_page=node_modules/verified-multihash/demo.html # packed
 export MULTIHASH_VERDICTS=$vectors/verdicts.tsv
 
-# All tests of a folder.
-npm_test() { (cd "$1"; timeout 600 npm test); }
+# All tests of a folder. No process may take more than that CPU time.
+npm_test() { (cd "$1"; ulimit -t 600; npm test); }
 
 lists_engines() {
   echo "after $2"
@@ -109,30 +110,24 @@ packed_script() {
 # The types of what is packed, which need none of pages.
 packed_types() {
   local strict=(tsc --noEmit --strict --exactOptionalPropertyTypes --target es2022 --module nodenext
-    --moduleResolution nodenext) text line
+    --moduleResolution nodenext)
   cd "$work/elsewhere"
-  cp "$here/test/example.ts" .
+  cp "$here/tests/types.ts" .
   echo '{ "type": "module" }' > package.json
-  "${strict[@]}" --lib es2022 node_modules/verified-multihash/module.d.ts
-  "${strict[@]}" --lib es2022,dom,dom.iterable example.ts
+  "${strict[@]}" --lib es2022,dom,dom.iterable types.ts
+  printf '%s\n' "export * from 'verified-multihash/module';" "// @ts-expect-error no types of pages are there" \
+    "export type Compiled = WebAssembly.Module;" > no_page.ts
+  "${strict[@]}" --lib es2022 no_page.ts
   printf "export * from 'verified-multihash/%s';\n" inline module hashes > entries.ts
   tsc --noEmit --strict --target es2022 --module es2022 --moduleResolution node entries.ts
-  while IFS='|' read -r text line; do
-    echo "$line" > planted.ts
-    rejects "$text" "${strict[@]}" --lib es2022 planted.ts
-  done << 'END'
-Cannot find namespace 'WebAssembly'|export declare const planted: WebAssembly.Module;
-exactOptionalPropertyTypes|export const planted: { rest?: number } = { rest: undefined };
-Type 'null' is not assignable|export const planted: number = null;
-END
 }
 
-# In a browser, pages show texts: each line of standard input is a page, and texts after tabs, some of which are actions
-# of page.html.
+# In a browser, pages show texts, after a minute at most or `$2` times 50 ms: each line of standard input is a page, and
+# texts after tabs, some of which are actions of page.html.
 shows() {
   mkdir -p "$work/frames"
   cat > "$work/frames/frames"
-  node "$here/test/browser.js" "$1" 'test/page.html?frames' "$here" "$work/frames" "$work/elsewhere"
+  node "$here/tests/browser.js" "$1" "tests/page.html?frames=${2:-1200}" "$here" "$work/frames" "$work/elsewhere"
 }
 
 # The page of README.md, over the unpacked package.
@@ -144,7 +139,7 @@ demo() {
   local example bytes
   example=$(cat "$top/crates/mh_show/stdin")
   bytes=$(printf '07%.0s' {1..301})
-  sed 's/^/demo.html#/; s/|/\t/g' << END | shows "$1"
+  sed "s|^|$demo_page#|; s/|/\t/g" << END | shows "$1"
 $example|Valid: code 22, digest of 32 bytes.
 ${example}00|1 byte follows the multihash.|Byte 35 of 35: 00|The first 34 bytes are a multihash.
 ${example}0000|2 bytes follow|invalid_size: Invalid multihash size 2.
@@ -172,12 +167,12 @@ END
 }
 
 another_text() {
-  printf 'demo.html#1200\tNot valid\ndemo.html#1200\t! Valid\ndemo.html#1200\t~ .following\n' | shows "$1"
+  printf '%s\n' 'Not valid' '! Valid' '~ .following' | sed "s|^|$demo_page#1200\t|" | shows "$1" 20
 }
 
 test_browser() {
   local name=$1 tools="$node $2"
-  needs=$tools try "in $name" node "$here/test/browser.js" "$name" test/page.html "$here" "$vectors"
+  needs=$tools try "in $name" node "$here/tests/browser.js" "$name" tests/page.html "$here" "$vectors"
   needs=$tools try "the packed package's page in $name" packed_page "$name"
   needs=$tools try "the demo page in $name" demo "$name"
 }
@@ -187,7 +182,7 @@ test_browser() {
 needs="rt wasm-opt=$binaryen wasm2wat=$wabt" try "the WebAssembly built anew" built_anew
 needs=wasm-validate try "the WebAssembly for old engines" old_module
 needs="$node npm" try "in Node.js" npm_test "$here"
-needs="--all $node npm" try "faults" sees_faults "$here/test/faults.sed" "$here" "core.js api.js index.js hashes.js" \
+needs="--all $node npm" try "faults" sees_faults "$here/tests/faults.sed" "$here" "core.js api.js index.js hashes.js" \
   npm_test "$work/faults"
 needs=$node try "plain JavaScript" plain
 needs=$node try "old engines" old_engine

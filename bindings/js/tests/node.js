@@ -64,13 +64,15 @@ function statesNames(module, file, more) {
   return types;
 }
 
-/** The names, numbers and version that *.d.ts and package.json state. */
-function declared(module, more) {
+/** The names, numbers and version that *.d.ts and package.json state, and the entries that connect, for bundlers. */
+function declared(module, which) {
   statesNames(hashes, 'hashes.d.ts', []);
-  const types = statesNames(module, 'index.d.ts', more);
+  const types = statesNames(module, 'index.d.ts', which === 'module' ? ['connect'] : []);
   const numbers = types.matchAll(/^export const (\w+): (\d+);$/gm);
   for (const [, name, value] of numbers) same(module[name], Number(value), name);
-  same(module.version, JSON.parse(bytesOf('package.json')).version, 'the version');
+  const { version, sideEffects } = JSON.parse(bytesOf('package.json'));
+  same(module.version, version, 'the version');
+  same(sideEffects.includes(`./${which}.js`), which !== 'module', `sideEffects: ${which}.js`);
 }
 
 /** Each entry compiles in its own way, if it does: index.js also in pages of Chrome before 115, with this error. */
@@ -90,7 +92,7 @@ export async function run(which) {
   const compiled = which === 'module' && new Module(bytesOf('multihash.wasm'));
   const module = await load(which, compiled);
   const texts = [vectors, join(dirname(vectors), 'hashes.tsv')].map((path) => readFileSync(path, 'utf8'));
-  test('declared', () => declared(module, compiled ? ['connect'] : []));
+  test('declared', () => declared(module, which));
   if (compiled) test('compiledBefore', compiledBefore);
   test('nodeStreams', () => nodeStreams(module));
   for (const [name, check] of Object.entries(tests)) test(name, () => check(module, ...texts));

@@ -19,6 +19,7 @@ const commands = {
 };
 
 async function serve(request, response) {
+  clearTimeout(startLimit);
   if (request.method === 'POST' && request.url === '/report') {
     let text = '';
     for await (const chunk of request) text += chunk;
@@ -34,14 +35,16 @@ async function serve(request, response) {
   response.end(file && readFileSync(file));
 }
 
-// On a busy machine Chromium sometimes hangs at its start, so another one is started with a new profile. timeout ends
-// a browser and what it has started.
+// On a busy machine Chromium sometimes hangs at its start, before it asks for the page, so another one is started with
+// a new profile. timeout ends a browser and what it has started.
 function start(attempt) {
   const profile = mkdtempSync(join(tmpdir(), `${name}-`));
   const words = commands[name](profile, `http://127.0.0.1:${server.address().port}/${path}`);
   const env = { ...process.env, HOME: profile, TMPDIR: profile };
-  browser = spawn('timeout', ['--kill-after=1', '120', ...words], { stdio: 'ignore', env });
+  browser = spawn('timeout', ['--kill-after=1', '1800', ...words], { stdio: 'ignore', env });
+  startLimit = setTimeout(() => browser.kill(), 120_000);
   browser.on('exit', () => {
+    clearTimeout(startLimit);
     rmSync(profile, { recursive: true, force: true, maxRetries: 20, retryDelay: 100 });
     if (process.exitCode === undefined && attempt < 3) return start(attempt + 1);
     process.exitCode ??= 1;
@@ -49,5 +52,5 @@ function start(attempt) {
   });
 }
 
-let browser;
+let browser, startLimit;
 const server = createServer(serve).listen(0, '127.0.0.1', () => start(1));

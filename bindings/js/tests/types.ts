@@ -1,0 +1,137 @@
+// What tsc --strict --exactOptionalPropertyTypes accepts. After each @ts-expect-error is a line that it rejects.
+import * as index from 'verified-multihash';
+import { Multihash, MultihashError, MultihashReader, compare, decode, encode, encodedLength, head, read, scaleDecode,
+  scaleEncode } from 'verified-multihash';
+import type { ByteStream, Details, Head, Read, Status, Wide } from 'verified-multihash';
+import { CODES, NAMES, identity, sha1, sha256, sha384, sha512, verify } from 'verified-multihash/hashes';
+import * as inline from 'verified-multihash/inline';
+import * as module from 'verified-multihash/module';
+
+type Same<A, B> = (<T>() => T extends A ? 1 : 2) extends <T>() => T extends B ? 1 : 2 ? true : false;
+/** The value has this type and no other, such as `any` or a union with more. */
+const is = <A>() => <B>(value: B, ..._: Same<A, B> extends true ? [] : [never]): B => value;
+
+const bytes = new Uint8Array([0x12, 0]);
+const found = is<Multihash>()(decode(bytes));
+// @ts-expect-error bytes are no text
+decode('1200');
+is<Read>()(read(bytes, 2n ** 60n));
+// @ts-expect-error a limit is no text
+read(bytes, '255');
+is<{ multihash: Multihash; taken: number }>()({ ...read(bytes) });
+is<Head>()(head(bytes));
+// @ts-expect-error bytes are no array of numbers
+head([18, 0]);
+is<{ code: Wide; digestLength: Wide; taken: number }>()({ ...head(bytes) });
+is<Uint8Array>()(encode(0x12, bytes));
+// @ts-expect-error a digest is no text
+encode(1, '');
+is<number>()(encodedLength(2n ** 60n, 32));
+// @ts-expect-error a length is no digest
+encodedLength(18, bytes);
+is<-1 | 0 | 1>()(compare(found, found));
+// @ts-expect-error an encoding is no multihash
+compare(found, bytes);
+is<Read>()(scaleDecode(bytes));
+// @ts-expect-error a buffer is no view
+scaleDecode(new ArrayBuffer(9));
+is<Uint8Array>()(scaleEncode(1n, bytes));
+// @ts-expect-error a code is no name
+scaleEncode('sha2-256', bytes);
+is<255>()(index.DIGEST_MAX);
+is<18>()(index.HEAD_MAX);
+is<266>()(index.LENGTH_MAX);
+is<264>()(index.SCALE_LENGTH_MAX);
+is<string>()(index.version);
+
+is<Multihash<number>>()(Multihash.of(0x12, bytes));
+is<Multihash<Wide>>()(Multihash.of(2n ** 60n, bytes));
+// @ts-expect-error a code is no name
+Multihash.of('sha2-256', bytes);
+// @ts-expect-error Multihash.of makes one
+new Multihash();
+is<number | bigint>()(found.code);
+is<number>()(found.size);
+is<Uint8Array>()(found.digest);
+is<Uint8Array>()(found.bytes);
+// @ts-expect-error a multihash is not changed
+found.code = 3;
+// @ts-expect-error nor is its digest replaced
+found.digest = bytes;
+is<boolean>()(found.equals('any value'));
+is<Multihash<number>>()(found.narrow());
+is<{ code: number | string; size: number; digest: string }>()(found.toJSON());
+
+const error = new MultihashError('invalid_size', { size: 2n ** 60n });
+export const plain: Error = error;
+// @ts-expect-error 'ok' is the status of no error
+new MultihashError('ok');
+// @ts-expect-error a field may be absent, not undefined
+new MultihashError('overflow', { taken: undefined });
+is<Status>()(error.status);
+is<Wide | undefined>()(error.size);
+is<Wide | undefined>()(error.code);
+is<number | undefined>()(error.taken);
+is<boolean>()(error.isIncomplete);
+is<Details & { readonly status: Status }>()(error.cause);
+is<MultihashError | undefined>()(MultihashError.from({}));
+is<number | string | undefined>()(error.toJSON().size);
+// @ts-expect-error an error is not changed
+error.status = 'overflow';
+
+declare const stream: ReadableStream<Uint8Array>;
+const reader = new MultihashReader(stream, { limit: 64, rest: bytes });
+export const source: ByteStream = stream;
+export const iterable = (chunks: AsyncIterable<Uint8Array>): MultihashReader => new MultihashReader(chunks);
+// @ts-expect-error chunks are no texts
+export const texts = (stream: ReadableStream<string>): MultihashReader => new MultihashReader(stream);
+// @ts-expect-error an option that is none
+new MultihashReader(stream, { most: 64 });
+is<Multihash | null>()(await reader.read());
+// @ts-expect-error null is the end
+export const next: Multihash = await reader.read();
+for await (const each of reader) is<Multihash>()(each);
+is<Uint8Array>()(reader.rest);
+// @ts-expect-error rest is a copy
+reader.rest = bytes;
+is<void>()(reader.release());
+is<Promise<void>>()(reader.cancel('a reason'));
+is<Promise<void>>()(reader[Symbol.asyncDispose]());
+
+is<void>()(module.connect(await WebAssembly.compileStreaming(fetch('multihash.wasm'))));
+// @ts-expect-error bytes are compiled before
+module.connect('multihash.wasm');
+export const entries: (typeof index)[] = [inline, module];
+
+/** As in js-multiformats, whose `CID.create` takes it. */
+interface MultihashDigest<Code extends number = number> {
+  code: Code;
+  size: number;
+  digest: Uint8Array;
+  bytes: Uint8Array;
+}
+interface MultihashHasher<Code extends number = number> {
+  name: string;
+  code: Code;
+  digest(input: Uint8Array): Promise<MultihashDigest<Code>> | MultihashDigest<Code>;
+}
+export const theirs: MultihashDigest[] = [found.narrow(), Multihash.of(0x12, bytes)];
+// @ts-expect-error the code may be a bigint
+export const wide: MultihashDigest = found;
+export const hashers: MultihashHasher[] = [sha256, identity];
+is<0>()(identity.code);
+is<0x11>()(sha1.code);
+is<0x12>()(sha256.code);
+is<0x20>()(sha384.code);
+is<0x13>()(sha512.code);
+is<Multihash<0x12>>()(await sha256.digest(bytes));
+// @ts-expect-error a text has to be encoded before
+sha256.digest('abc');
+is<boolean>()(await verify(found, bytes));
+is<boolean>()(await verify(bytes, bytes));
+// @ts-expect-error an encoding is no text
+verify('1200', bytes);
+is<string | undefined>()(NAMES[18]);
+is<number | undefined>()(CODES['sha2-256']);
+// @ts-expect-error a list is not changed
+CODES['sha2-256'] = 3;
