@@ -3,7 +3,7 @@ import * as index from 'verified-multihash';
 import { Multihash, MultihashError, MultihashReader, compare, decode, encode, encodedLength, head, read, scaleDecode,
   scaleEncode } from 'verified-multihash';
 import type { ByteStream, Details, Head, Read, Status, Wide } from 'verified-multihash';
-import { CODES, NAMES, identity, sha1, sha256, sha384, sha512, verify } from 'verified-multihash/hashes';
+import { CODES, NAMES, identity, sha256, sha384, sha512, verify } from 'verified-multihash/hashes';
 import * as inline from 'verified-multihash/inline';
 import * as module from 'verified-multihash/module';
 
@@ -120,7 +120,6 @@ export const theirs: MultihashDigest[] = [found.narrow(), Multihash.of(0x12, byt
 export const wide: MultihashDigest = found;
 export const hashers: MultihashHasher[] = [sha256, identity];
 is<0>()(identity.code);
-is<0x11>()(sha1.code);
 is<0x12>()(sha256.code);
 is<0x20>()(sha384.code);
 is<0x13>()(sha512.code);
