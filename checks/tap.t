@@ -103,7 +103,8 @@ expect "all checks need rt=99+: see docs/ARCHITECTURE.md#tools\n2" \
 expect "1\ndid not pass: checks/lint.t" \
   "ran 'echo ok 1' 'cp checks/rt.t checks/lint.t; sed -i \"s|timer checks|&/rt.t|\" .ci/run'; grep ^did out"
 # ended, it ends checks
-expect "0\n143\na" "ran 'echo ok 1'; rm -f [ab]; echo 'echo 1..1; touch ../a; sleep 1; touch ../b' > checks/rt.t
-    .ci/run > out & until [ -e a ]; do sleep .1; done; kill \$!; wait \$!; echo \$?; sleep 1.2; ls [ab]"
+expect "0\n143\na" "ran 'echo ok 1'; rm -f [abc]
+    echo 'echo 1..1; touch ../a; until [ -e ../b ]; do sleep .1; done; touch ../c' > checks/rt.t
+    .ci/run > out & until [ -e a ]; do sleep .1; done; kill \$!; wait \$!; echo \$?; touch b; sleep 1; rm b; ls [abc]"
 echo "1..$number"
 [ $failed = 0 ]
