@@ -227,6 +227,18 @@ def command_errors(texts: Texts) -> Iterator[str]:
                 yield f"{command}: status {ran.returncode}, printed {ran.stdout!r}, {ran.stderr[-300:]!r}"
 
 
+def verify_results(program: start.Program, project: start.Project, page: str) -> Iterator[tap.Result]:
+    """Runs a page's program that verifies content; plants one that accepts any content."""
+    name = f"{program.page}, content"
+    if gone := tap.missing(start.VERIFY[program.language]):
+        yield tap.left_out(name, gone)
+        return
+    yield name, "\n".join(start.verify(project, page))
+    if program.language == "Python":
+        accepts = page.replace("print(hashes.verify(", "print(True or (")
+        yield tap.planted("a program that accepts any content", [*start.verify(project, accepts)])
+
+
 def program_results(texts: Texts) -> Iterator[tap.Result]:
     """Installs each package and runs its program; plants a program that fails, a row less and another output."""
     shown = {}
@@ -237,10 +249,12 @@ def program_results(texts: Texts) -> Iterator[tap.Result]:
             if gone := tap.missing(start.TOOLS[program.language]):
                 yield tap.left_out(name, gone)
                 continue
-            error, shown[program.language] = start.run(program, copy, Path(work) / program.language)
+            project, error, shown[program.language] = start.run(program, copy, Path(work) / program.language)
             yield name, error
+            if program.language in start.VERIFY:
+                yield from verify_results(program, project, texts[program.page])
         fails = start.programs(texts[README])[-1]._replace(install="true", command="false")
-        yield tap.planted("a program that fails", start.run(fails, copy, Path(work) / "fails")[0])
+        yield tap.planted("a program that fails", start.run(fails, copy, Path(work) / "fails")[1])
     yield "what the programs print", "\n".join(start.judge(texts[README], shown))
     yield tap.planted(f"{README}: a row less", [*start.judge(texts[README].replace("| [C, C++]", "| C"), shown)])
     yield tap.planted("another output", [*start.judge(texts[README], {"C": "code 1, digest hello"})])

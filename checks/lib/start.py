@@ -2,7 +2,8 @@
 
 Each row of its first table has a program, in the same order: the program's first line has the name
 of its file and the command that runs it. Nothing uses a network. What the programs print is compared
-with the line that the page says they print.
+with the line that the page says they print. The page of a language has a program that verifies
+content by a CID: it runs in the same folder, after the commands of the block before it.
 """
 import os
 import re
@@ -14,7 +15,7 @@ from typing import NamedTuple
 
 TOP = Path(__file__).resolve().parents[2]
 FENCE = re.compile(r"^ *```(\S*)[^\n]*\n(.*?)^ *```$", re.M | re.S)
-ROW = re.compile(r"^\| \[(\w+)[^\]]*\]\([^)]*\) \| `([^`]+)` \|", re.M)
+ROW = re.compile(r"^\| \[(\w+)[^\]]*\]\(([^)]*)\) \| `([^`]+)` \|", re.M)
 HEAD = re.compile(r"(?://|#) (\S+): (.*)\n")
 SHOWN = "code 0, digest hello"
 REGISTRY = Path("/usr/share/cargo/registry")  # of Debian, for crates that the packages for Rust need
@@ -26,12 +27,15 @@ TOOLS = {
     "C": ("cc", "cmake", "pkg-config"),
     "Rattle": ("rt",),
 }
+# what the program that verifies content needs besides, in languages whose page has one
+VERIFY = {"JavaScript": (), "Python": (), "C": ("/usr/include/openssl/evp.h",)}
 
 
 class Program(NamedTuple):
     """A program of the page, what runs it, and the lines of crates.txt, which Rattle needs."""
 
     language: str
+    page: str
     install: str
     file: str
     command: str
@@ -46,7 +50,7 @@ def programs(readme: str) -> list[Program]:
     heads = [(HEAD.match(text), text) for text in blocks]
     named = [(head[1], head[2], text) for head, text in heads if head]
     rows = zip(ROW.findall(readme), named)
-    return [Program(row[0], row[1], *rest, crates) for row, rest in rows]
+    return [Program(row[0], row[1], row[2], *rest, crates) for row, rest in rows]
 
 
 def copy_repository(to: Path) -> None:
@@ -85,24 +89,53 @@ def prepare(program: Program, folder: Path) -> dict[str, str]:
     return {}
 
 
-def run(program: Program, repository: Path, folder: Path) -> tuple[str, str]:
-    """Installs the package of a clone, $MH, in a new folder, and runs the program there. Returns what is wrong.
+class Project(NamedTuple):
+    """A folder in which a package is installed, and the environment of commands there."""
 
-    The other text is what the program has printed last.
-    """
-    folder.mkdir()
-    environment = {**os.environ, "MH": str(repository), **prepare(program, folder)}
-    file = folder / program.file
-    file.parent.mkdir(parents=True, exist_ok=True)
-    file.write_text(program.text, "utf-8")
-    shown = ""
-    for command in (program.install, program.command):
+    folder: Path
+    environment: dict[str, str]
+
+    def run(self, command: str) -> tuple[str, str]:
+        """Runs a command. Returns what is wrong, and what it has printed."""
         words = ["bash", "-c", command]
-        ran = subprocess.run(words, cwd=folder, env=environment, capture_output=True, text=True)
+        ran = subprocess.run(words, cwd=self.folder, env=self.environment, capture_output=True, text=True)
         if ran.returncode:
             return f"{command}: status {ran.returncode}\n{(ran.stdout + ran.stderr)[-900:]}", ""
-        shown = ran.stdout
-    return "", shown
+        return "", ran.stdout
+
+    def run_file(self, name: str, text: str, command: str) -> tuple[str, str]:
+        """Does the same with a file of that text."""
+        file = self.folder / name
+        file.parent.mkdir(parents=True, exist_ok=True)
+        file.write_text(text, "utf-8")
+        return self.run(command)
+
+
+def run(program: Program, repository: Path, folder: Path) -> tuple[Project, str, str]:
+    """Installs the package of a clone, $MH, in a new folder, and runs the program there. Returns what is wrong.
+
+    The other text is what the program has printed.
+    """
+    folder.mkdir()
+    project = Project(folder, {**os.environ, "MH": str(repository), **prepare(program, folder)})
+    error, shown = project.run(program.install)
+    if not error:
+        error, shown = project.run_file(program.file, program.text, program.command)
+    return project, error, shown
+
+
+def verify(project: Project, page: str) -> Iterator[str]:
+    """Runs the program of a page that verifies content by a CID, of that content and of another one."""
+    blocks = [text for _, text in FENCE.findall(page)]
+    found = [(before, text) for before, text in zip(blocks, blocks[1:]) if "$CID" in text.partition("\n")[0]]
+    if len(found) != 1 or not (head := HEAD.match(found[0][1])):
+        yield "the page has no program, or more than one, that verifies content by a CID"
+        return
+    before, text = found[0]
+    for content, wanted in (("hello world", "true"), ("hello worlds", "false")):
+        error, shown = project.run_file(head[1], text, before.replace("hello world", content) + head[2])
+        if error or shown.lower().split()[-1:] != [wanted]:
+            yield f"{content}: {error} {shown!r}, wanted {wanted}"
 
 
 def judge(readme: str, shown: dict[str, str]) -> Iterator[str]:
