@@ -11,7 +11,7 @@ require cc python3 rt
 . checks/lib/warnings.sh
 top=$PWD
 c=$top/bindings/c
-library=$PROVED/crates/multihash_c/out/libmultihash_c.a
+library=$c/prebuilt/x86_64/libmultihash_c.a
 list=$top/crates/vectors/data/verdicts.tsv
 tests=("$c"/tests/{test,verdicts,models,draws,buffer}.c)
 valgrind=(valgrind --error-exitcode=9)
@@ -19,17 +19,16 @@ valgrind=(valgrind --error-exitcode=9)
 # ---- the library
 
 build_library() {
-  rm -f "$library"
-  env -C "$PROVED/crates/multihash_c" rt lib --cpu=x86-64
+  (cd "$PROVED/crates/multihash_c"; rm -rf out/*.a; rt lib --cpu=x86-64)
   if [ -n "${KEPT-}" ]; then
     cp -a "$PROVED" "$KEPT/part"
     mv "$KEPT/part" "$KEPT/copy"
   fi
+  cmp {"$PROVED/crates/multihash_c/out","$c/prebuilt/x86_64"}/libmultihash_c.a
 }
 
-# The archives in a copy of the repository have the bytes of this library, and of a second build, which makes both anew.
+# The archives in a copy of the repository have the bytes of a second build, which makes both anew.
 prebuilt_archives() {
-  cmp "$library" "$1/bindings/c/prebuilt/x86_64/libmultihash_c.a"
   STEPS=$work/steps "$1/tools/generate" --check archives | tee "$work/same"
   sed 's/^the same.*: //' "$work/same" | sort | diff <(git ls-files bindings/c/prebuilt) -
 }
@@ -145,10 +144,12 @@ old_processor() {
 }
 
 # The tests of a folder's portable source, and of its reader of a stream, which is installed.
-source_tests() {
+build_source() {
   cc -O1 -I "$c/include" "$1/src/multihash.c" "${tests[@]}" -o "$work/of_source"
-  "$work/of_source" "$list" 1 2000
   cc -I "$c/include" -I "$1/examples" "$c/tests/stream.c" "$1/src/multihash.c" -o "$work/of_stream"
+}
+test_source() {
+  "$work/of_source" "$list" 1 2000
   "$work/of_stream"
 }
 
@@ -208,4 +209,6 @@ try "fast C by hand" by_hand fast
 try "the example of the page" example_in
 try "the reader of a stream" stream_example
 needs=/usr/include/openssl/evp.h try "the example that hashes" verify_example
-try "faults" sees_faults "$c/tests/faults.sed" "$c" "src/multihash.c examples/stream.c" source_tests "$work/faults"
+try "faults" sees_faults "$c/tests/faults.sed" "$c" "src/multihash.c examples/stream.c" build_source \
+  test_source
+finish

@@ -323,3 +323,4 @@ test_installation
 test_programs
 needs="aarch64-linux-gnu-gcc qemu-aarch64" try "building for aarch64" builds_for_aarch64
 needs="x86_64-w64-mingw32-gcc wine" try "building for Windows" builds_for_windows
+finish

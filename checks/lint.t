@@ -86,3 +86,4 @@ try_linter() {
   needs=tsc try_linter names unused.js TS6133 "export {};\nconst number = 1;" $javascript
   try "scripts with wrong words" states_words
 }
+finish

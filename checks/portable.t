@@ -182,3 +182,4 @@ needs=--all on_machine aarch64 aarch64-linux-gnu qemu-aarch64
 needs=--all on_machine riscv64 riscv64-linux-gnu qemu-riscv64
 on_machine "armhf, 32 bits" arm-linux-gnueabihf qemu-arm
 on_machine "s390x, big-endian" s390x-linux-gnu qemu-s390x
+finish

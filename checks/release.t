@@ -221,3 +221,4 @@ test_release() {
 
 test_packages
 needs="aarch64-linux-gnu-gcc qemu-aarch64 cargo rustc=1.82+ $crates npm node=20.16+ $modules" test_release
+finish

@@ -29,3 +29,4 @@ is_stated() {
 try "rt ci" passes
 try "the kit" is_stated
 try "all crates and tests" runs_all
+finish

@@ -34,12 +34,16 @@ rust_binding() {
   prints_all "multihash" cargo tree -p multihash -e normal,features
 }
 
-# The tests over the sources of a folder.
+# The tests over the sources of a folder, as words after 'cargo test'.
 test_sources() {
+  in_crate RUSTFLAGS= cargo test --features serde --tests "${@:2}"
+  in_crate RUSTFLAGS= cargo test --no-default-features --tests "${@:2}"
+}
+build_sources() {
   local file copy=$work/repository/bindings/rust
+  in_crate true
   for file in $sources; do cmp -s "$1/$file" "$copy/$file" || cp "$1/$file" "$copy/$file"; done
-  in_crate RUSTFLAGS= cargo test --features serde --tests
-  in_crate RUSTFLAGS= cargo test --no-default-features --tests
+  test_sources "$1" --no-run
 }
 
 # A clone without archives has the portable source, each file of which is watched, and uses the compiler that CC names.
@@ -223,4 +227,6 @@ needs=cargo-clippy try "lints" rust_lints
 needs=cargo-clippy try "a warning of each command" planted_warnings
 needs="python3=3.11+ valgrind /lib64/ld-linux-x86-64.so.2" try "instructions" rust_counts
 sources=$(cd bindings/rust; echo */src/*.rs)
-try "faults" sees_faults bindings/rust/tests/faults.sed bindings/rust "$sources" test_sources "$work/faults"
+try "faults" sees_faults bindings/rust/tests/faults.sed bindings/rust "$sources" build_sources \
+  test_sources
+finish

@@ -18,7 +18,7 @@ expect() {
 }
 
 # Runs a text after tap.sh: its results, and 'status' and the exit status.
-tries() { expect "$1" "(. checks/lib/tap.sh; $2); echo status \$?"; }
+tries() { expect "$1" "(. checks/lib/tap.sh; $2; finish); echo status \$?"; }
 
 [[ $(expect 1 "echo 2" 2> /dev/null) = "not ok"* ]] || exit 2
 tries "not ok 1 - a\nok 2 - b\n1..2\nstatus 1" "try a false; try b true"
@@ -45,6 +45,22 @@ rejects b echo a; true
 rejects a c; true
 END
 tries "ok 1 - a\nstatus 1" "try a true; false; try b true"
+tries "ok 1 - a\nstatus 1" "try a true; exit 0; try b true"
+tries "ok 1 - b c\nok 2 - d\n1..2\nstatus 0" "ONLY=^b; try a b false; try 'b c' true; ONLY='' try d true"
+# Faults, with commas between them, of a file with the lines 1 and 2, a command that builds it and one that tests it.
+while IFS='|' read -r wanted faults build test; do
+  expect "$wanted" "mkdir -p of; seq 2 > of/it; echo '$faults' | tr , '\n' > list; build() { $build; }
+    has_1() { $test; }; (. checks/lib/tap.sh; try a sees_faults list of it build has_1; finish) 2>&1 |
+    sed -n 's/^# > //p; s/^ok.*/ok/p; s/^not ok.*/red/p'"
+done << 'END'
+ok|s/1/4/,# s/2/5/,s/^1//|true|grep 1 "$1/it"
+red|# none|true|grep 1 "$1/it"
+red|s/1/4/|true|false
+red|s/1/4/|false|grep 1 "$1/it"
+red\nnot seen: s/2/5/|s/1/4/,s/2/5/|true|grep 1 "$1/it"
+red\nnot seen: s/3/5/|s/3/5/,s/1/4/|true|grep 1 "$1/it"
+red\nnot built: s/1/3/|s/1/3/,s/1/4/|sed -n /3/q1 "$1/it"|grep 1 "$1/it"
+END
 tries "1..0\nstatus 1" true
 tries "a\nb\n1..0\nstatus 1" "block_of <(printf '\`\`\`%s\n' \$'c\nx' '' \$'js\na\nb' '' js) js"
 for text in no_such_tool no_such_tool=0+ bash=1.0 bash=10+ /bin/no_such_* python:no_such cpu:no_such --all; do

@@ -11,6 +11,9 @@ node=node=20.16+ # that of package.json
 demo_page=node_modules/verified-multihash/demo.html # packed
 export MULTIHASH_VERDICTS=$vectors/verdicts.tsv
 
+# The module of a folder is imported.
+imported() { node --no-warnings "$1/index.js"; }
+
 # All tests of a folder. No process may take more than that CPU time.
 npm_test() { (cd "$1"; ulimit -t 600; npm test); }
 
@@ -183,7 +186,7 @@ needs="rt wasm-opt=$binaryen wasm2wat=$wabt" try "the WebAssembly built anew" bu
 needs=wasm-validate try "the WebAssembly for old engines" old_module
 needs="$node npm" try "in Node.js" npm_test "$here"
 needs="--all $node npm" try "faults" sees_faults "$here/tests/faults.sed" "$here" "core.js api.js index.js hashes.js" \
-  npm_test "$work/faults"
+  imported npm_test
 needs=$node try "plain JavaScript" plain
 needs=$node try "old engines" old_engine
 needs="$node npm" try "the packed package's script" packed_script
@@ -192,3 +195,4 @@ test_browser chromium chromium
 needs="$node chromium" try "another text than the demo page's" rejects "1 passed, 3 failed" another_text chromium
 test_browser firefox firefox-esr
 test_browser webkit "WebKitWebDriver xvfb-run"
+finish

@@ -160,9 +160,15 @@ planted() {
   sed -i "$1" "$work/planted/src/core.c"
 }
 
-# The tests of a folder that is installed, up to the first that fails.
-installed_tests() {
+# A folder is installed and imported.
+installs_imported() {
   installs "$1"
+  cd "$work"
+  "$python" -c 'import verified_multihash'
+}
+
+# Its tests, up to the first that fails.
+installed_tests() {
   cd "$work"
   timeout 600 "$python" -m unittest discover --failfast -s "$here/tests"
 }
@@ -220,4 +226,5 @@ try "a read after the end of the input" rejects AddressSanitizer planted_read
 needs=--all try "faults" sees_faults "$here/tests/faults.sed" "$work/sdist" \
   "src/arguments.c src/core.c src/reader.c src/value.c verified_multihash/__init__.py verified_multihash/__main__.py \
   verified_multihash/hashes.py" \
-  installed_tests "$work/faults"
+  installs_imported installed_tests
+finish

@@ -1,40 +1,53 @@
 # shellcheck shell=bash
 # Prints results as TAP, for prove. A script that sources this is at the top of the repository then. A command that
-# fails ends its check, and outside of one the script: lint.t rejects what bash would go on after. The last line that is
-# printed is the plan, so a script that ends early has none.
+# fails ends its check, and outside of one the script: lint.t rejects what bash would go on after.
 #
 #   try NAME COMMAND..             a check
 #   needs="TOOL.." try ..          is left out without one of these tools, in the forms of is_there.sh
-#   require TOOL..                 all checks are
+#   ONLY='' try ..                 is run whatever ONLY is, since other checks need it
+#   require TOOL..                 all checks are left out without one of these
 #   prints TEXT COMMAND..          in a check: the command ends with status 0, and prints the text
 #   rejects TEXT COMMAND..         it ends with another status
+#   finish                         the last line of the script: prints the plan, without which prove fails
 #
-# What is left out is summed up on the standard error.
+# The variable ONLY is a regular expression: checks with other names are not run. What is left out is summed up on the
+# standard error.
 set -euo pipefail
 shopt -s inherit_errexit
 cd "$(dirname "${BASH_SOURCE[0]}")/../.."
 # shellcheck source=checks/lib/is_there.sh
 . checks/lib/is_there.sh
 export LC_ALL=C.UTF-8
-number=0 failed=0 left=0 gone="" without="" needs=""
+number=0 failed=0 left=0 is_finished=0 gone="" without="" needs=""
 work=$(mktemp -d)
-
 finish() {
+  [ $left = 0 ] || echo "# ${CHECK:-${0##*/}}: left out $left of $number: no $(sort -u <<< "$gone" | list)" >&2
+  echo "1..$number"
+  is_finished=1
+}
+end() {
   local ended=$?
   rm -rf "$work"
-  [ $left = 0 ] || echo "# ${CHECK:-${0##*/}}: left out $left of $number: no $(sort -u <<< "$gone" | list)" >&2
-  [ $ended != 0 ] || echo "1..$number"
-  exit $((ended || failed || number == 0))
+  exit $((ended || failed || !is_finished || number == 0))
 }
-trap finish EXIT
+trap end EXIT
 
 require() { without=$(missing "$@"); }
 
 # Joins lines that are not empty.
 list() { sed '/^$/d' | paste -sd, | sed 's/,/, /g'; }
 
+# Runs a command, what it prints goes to a file, and sets `ended` to its status.
+run() {
+  local -
+  set +e
+  (set -e; "${@:2}") > "$1" 2>&1
+  ended=$?
+}
+
 try() {
-  local - lack ended result=ok
+  local lack ended result=ok
+  [[ $1 =~ ${ONLY-} ]] || return 0
   number=$((number + 1))
   # shellcheck disable=SC2086 # words
   lack=$without$'\n'$(missing $needs)
@@ -43,24 +56,20 @@ try() {
     echo "ok $number - $1 # SKIP no $(list <<< "$lack")"
     return
   fi
-  set +e
-  (set -e; "${@:2}") > "$work/log" 2>&1
-  ended=$?
-  [ $ended = 0 ] || result="not ok" failed=1
+  run "$work/log" "${@:2}"
+  [ "$ended" = 0 ] || result="not ok" failed=1
   echo "$result $number - $1"
-  [ $ended = 0 ] || sed 's/^/# /' "$work/log" >&2
+  [ "$ended" = 0 ] || sed 's/^/# /' "$work/log" >&2
 }
 
 prints() { ends 0 "$@"; }
 rejects() { ends 1 "$@"; }
 ends() {
-  local - failed printed
+  local ended printed
   printed=$(mktemp -p "$work")
-  set +e
-  (set -e; "${@:3}") > "$printed" 2>&1
-  failed=$(($? != 0))
-  if [ $failed = "$1" ] && grep -qF -- "$2" "$printed"; then return; fi
-  echo "status $failed, or without the text: $2"
+  run "$printed" "${@:3}"
+  if [ $((ended != 0)) = "$1" ] && grep -qF -- "$2" "$printed"; then return; fi
+  echo "status $ended, or without the text: $2"
   cat "$printed"
   return 1
 }
@@ -77,21 +86,24 @@ rejects_edits() {
   done
 }
 
-# A command passes in a copy of a folder, "$work/faults", and fails after each line of a list, an edit of sed, alone.
-#   sees_faults LIST FOLDER "FILE.." COMMAND..    these files are edited
+# A copy of a folder, "$work/faults", is built, and its tests pass. With each line of a list, an edit of sed, alone, it is
+# built, and its tests fail.
+#   sees_faults LIST FOLDER "FILE.." BUILD TEST    these files are edited; the two commands get the path of the copy
 sees_faults() {
-  local - edit file ended copy=$work/faults
+  local edit edits ended file copy=$work/faults
   cp -r "$2" "$copy"
-  "${@:4}"
+  "$4" "$copy"
+  "$5" "$copy"
   sed '/^#/d' "$1" > "$work/edits"
-  while IFS= read -r edit; do
+  [ -s "$work/edits" ]
+  mapfile -t edits < "$work/edits"
+  for edit in "${edits[@]}"; do
     for file in $3; do sed "$edit" "$2/$file" > "$copy/$file"; done
-    set +e
-    (set -e; "${@:4}") > "$work/tested" 2>&1 < /dev/null
-    ended=$?
-    set -e
-    [ $ended != 0 ] || echo "not seen: $edit"
-  done < "$work/edits" > "$work/unseen"
+    run "$work/tested" "$4" "$copy"
+    [ "$ended" = 0 ] || { echo "not built: $edit"; tail "$work/tested"; }
+    run "$work/tested" "$5" "$copy"
+    [ "$ended" != 0 ] || echo "not seen: $edit"
+  done > "$work/unseen"
   diff /dev/null "$work/unseen"
 }
 
