@@ -99,11 +99,14 @@ build_and_run() {
   prints "$(($(wc -l < "$list") - 1)) lines, drawn: 20000" $2 "$work/$1" "$list" 1 20000
 }
 
-# C by hand that reads a byte after an input, by a command that runs it, and options of the compiler.
+# Under valgrind, which sees each access to a buffer's neighbours: the program `$1` of the tests and the other words.
+under_valgrind() { build_and_run "$1" "${valgrind[*]}" cc "${c_flags[@]}" "${heap[@]}" "${tests[@]}" "${@:2}"; }
+
+# C by hand that reads a byte after an input, built and run by a command.
 overread() {
   sed "s/multihash_front front = {0};/& volatile int most = length ? bytes[length] : 0; (void)most;/" \
     "$c/speed/plain.c" > "$work/overread.c"
-  build_and_run overread "$1" cc "${@:2}" "$work/overread.c" "${tests[@]}"
+  "$@" "$work/overread.c"
 }
 
 # The compiler has put both sanitizers into a program.
@@ -132,6 +135,7 @@ test_compilers() {
     set_compile "$name"
     needs=$name
     try "$name, header alone" stands_alone "$c/include" "${compile[@]}"
+    [[ $name != *++ ]] || try "$name, types" "${compile[@]}" -I "$c/include" -fsyntax-only "$c/tests/types.cpp"
     try "$name, plain" build_and_run "$name" "" "${compile[@]}" -O2 "${tests[@]}" -x none "$library"
     try "$name, address and undefined-behaviour sanitizers" sanitized "$name-san" "${compile[@]}"
   done
@@ -197,11 +201,12 @@ try "planted archives of them" planted_prebuilt
 needs="nm objdump ar" look_at_library
 try "tests of the exports" calls_each
 test_compilers
-try "a read after an input" rejects heap-buffer-overflow overread "" "${sanitize[@]}"
+try "a read after an input" rejects heap-buffer-overflow overread build_and_run overread "" cc "${sanitize[@]}" \
+  "${tests[@]}"
 # each access of the library, which the compilers' sanitizers do not see
-needs=valgrind try valgrind build_and_run valgrind "${valgrind[*]}" cc "${c_flags[@]}" "${heap[@]}" "${tests[@]}" \
-  "$library"
-needs=valgrind try "a read that valgrind sees" rejects "Invalid read" overread "${valgrind[*]}" "${heap[@]}"
+needs=valgrind try valgrind under_valgrind valgrind "$library"
+needs=valgrind try "a read that valgrind sees" rejects "0 bytes after a block of size" overread \
+  under_valgrind overread
 needs=qemu-x86_64 try "a processor of the baseline" old_processor
 # what is counted beside the library
 try "C by hand" by_hand plain

@@ -18,14 +18,14 @@ build() {
   local to=$work/$1
   cmake -S "$top" -B "$to" "${@:2}"
   cmake --build "$to"
-  prints '100% tests passed, 0 tests failed out of 2' ctest --output-on-failure --test-dir "$to"
+  prints '100% tests passed, 0 tests failed out of ' ctest --output-on-failure --test-dir "$to"
 }
 
 install_built() { cmake --install "$work/$1" "${@:2}"; }
 
 # In the configured prefix, whose name has a blank. The tests draw inputs, and one loads the shared library.
 installs() {
-  sed -n 's/.* lines, drawn: \(.*\)/\1/p' "$work/built/Testing/Temporary/LastTest.log" |
+  sed -n 's/^drawn: //p' "$work/built/Testing/Temporary/LastTest.log" |
     diff - <(printf '%s\n' 100000 100000)
   readelf -d "$work"/built/*_test | grep -cF "[libmultihash_c.so.$major]" | diff - <(echo 1)
   install_built built

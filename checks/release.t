@@ -18,7 +18,7 @@ build_packages() {
   mkdir -p "$from"
   git ls-files -z | xargs -0 cp --parents -t "$from"
   cp -r bindings/c/debian "$from"
-  (cd "$from"; prints '100% tests passed, 0 tests failed out of 2' dpkg-buildpackage -b -us -uc)
+  (cd "$from"; prints '100% tests passed, 0 tests failed out of ' dpkg-buildpackage -b -us -uc)
 }
 
 # The packages of a folder for an architecture, unpacked together, have what is installed, the licence, and no more.

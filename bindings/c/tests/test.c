@@ -2,11 +2,12 @@
  * length 0, the test vectors, whose file is the first argument, and drawn inputs. Valid C11 and C++17. Exits with
  * status 1 at the first error.
  *
- *   test VECTORS SEED COUNT */
+ *   test VECTORS SEED COUNT          runs all cases
+ *   test VECTORS SEED COUNT CASE     runs one of them */
 #include "check.h"
 
 /* Each prefix of the longest encoding whose code and digest's length have that many bytes. */
-static void check_cuts(size_t code_bytes, size_t size_bytes)
+static void check_prefixes(size_t code_bytes, size_t size_bytes)
 {
     uint8_t bytes[MULTIHASH_LENGTH_MAX] = {0};
     size_t size = size_bytes == 1 ? 127 : 255, whole = code_bytes + size_bytes + size;
@@ -18,6 +19,14 @@ static void check_cuts(size_t code_bytes, size_t size_bytes)
         uint8_t *input = copy_of(bytes, length);
         check_decodings(input, length, length % 2 == 0 ? SIZE_MAX : size);
         release(input);
+    }
+}
+
+static void check_cuts(void)
+{
+    for (size_t code_bytes = 1; code_bytes <= 9; code_bytes++) {
+        check_prefixes(code_bytes, 1);
+        check_prefixes(code_bytes, 2);
     }
 }
 
@@ -67,19 +76,43 @@ static void check_version(void)
     CHECK(strcmp(text, MULTIHASH_VERSION) == 0);
 }
 
+static char **words;
+
+static void check_vectors(void)
+{
+    replay(words[1]);
+}
+
+static void check_draws(void)
+{
+    draw_inputs(strtoul(words[2], NULL, 10), strtoul(words[3], NULL, 10));
+    printf("drawn: %s\n", words[3]);
+}
+
+/* CMake reads their names. */
+static const struct {
+    const char *name;
+    void (*run)(void);
+} cases[] = {
+    {"cuts", check_cuts},
+    {"capacities", check_capacities},
+    {"lengths", check_lengths},
+    {"texts", check_texts},
+    {"version", check_version},
+    {"vectors", check_vectors},
+    {"draws", check_draws},
+};
+
 int main(int argc, char **argv)
 {
-    CHECK(argc == 4 && buffer(0) == NULL);
-    for (size_t code_bytes = 1; code_bytes <= 9; code_bytes++) {
-        check_cuts(code_bytes, 1);
-        check_cuts(code_bytes, 2);
+    int ran = 0;
+    CHECK((argc == 4 || argc == 5) && buffer(0) == NULL);
+    words = argv;
+    for (size_t i = 0; i < sizeof cases / sizeof cases[0]; i++) {
+        if (argc == 5 && strcmp(argv[4], cases[i].name) != 0) continue;
+        cases[i].run();
+        ran++;
     }
-    check_capacities();
-    check_lengths();
-    check_texts();
-    check_version();
-    replay(argv[1]);
-    draw_inputs(strtoul(argv[2], NULL, 10), strtoul(argv[3], NULL, 10));
-    printf("drawn: %s\n", argv[3]);
+    CHECK(ran > 0);
     return 0;
 }
