@@ -1,5 +1,6 @@
 """Readers over files and streams: bytes that come in parts, late, too many or with an error."""
 import asyncio
+import functools
 import gc
 import io
 import itertools
@@ -166,25 +167,28 @@ class Readers(unittest.TestCase):
         self.assertEqual([each() for each in references], [None] * 3)
 
     def test_cancelled_calls(self):
-        """The bytes come one by one; a call that waits for more is ended by a time limit, and loses nothing."""
+        """A call is cancelled at each byte and each step of the loop, before or after more bytes are there."""
         data = b"".join(bytes(Multihash(1 << 40, bytes([n] * n))) for n in range(4))
 
-        async def run():
-            stream, found, waits = asyncio.StreamReader(), [], 0
+        async def run(cut, steps, is_before, by_loop):
+            stream, found = asyncio.StreamReader(), []
             reader = vm.AsyncMultihashReader(stream)
-            calls = itertools.cycle([reader.read, reader.__aiter__().__anext__])
-            for byte, call in zip(data, calls):
-                stream.feed_data(bytes([byte]))
-                try:
-                    found.append(await asyncio.wait_for(call(), 0.01))
-                except asyncio.TimeoutError:
-                    waits += 1
-            stream.feed_data(data + b"\x01\x05abcdefg")
+            stream.feed_data(data[:cut])
+            call = asyncio.ensure_future(reader.__aiter__().__anext__() if by_loop else reader.read())
+            for _ in range(steps):
+                await asyncio.sleep(0)
+            events = call.cancel, functools.partial(stream.feed_data, data[cut:])
+            for event in events if is_before else reversed(events):
+                event()
+            await asyncio.wait([call])
+            found += [] if call.cancelled() else [call.result()]
             stream.feed_eof()
-            reader = vm.AsyncMultihashReader(stream, limit=4)
-            with self.assertRaises(MultihashError) as raised:
-                async for item in reader:
-                    found.append(item)
-            return b"".join(map(bytes, found)), waits, raised.exception.size, reader.rest, await stream.read()
+            found += [item async for item in reader]
+            self.assertEqual(b"".join(map(bytes, found)), data)
+            return call.cancelled()
 
-        self.assertEqual(asyncio.run(run()), (data * 2, len(data) - 4, 5, b"\x01\x05", b"abcdefg"))
+        async def run_all():
+            choices = range(len(data) + 1), range(4), (True, False), (True, False)
+            return {(steps, await run(cut, steps, *rest)) for cut, steps, *rest in itertools.product(*choices)}
+
+        self.assertLessEqual({(0, True), (1, True), (3, True), (3, False)}, asyncio.run(run_all()))
