@@ -110,8 +110,10 @@ builds_for_windows() {
   wineserver -k || true
 }
 
-# The test of what pkg-config finds, without it, and of a copy whose library is gone, or whose header does not fit it.
+# The test of what pkg-config finds, without it, and of a copy whose library is gone, where the linker finds another one,
+# or whose header does not fit it.
 planted_test() {
+  local -x LIBRARY_PATH=$prefix/lib
   local test=$prefix/$document/examples/test.sh
   PKG_CONFIG_PATH=$prefix/lib/pkgconfig LD_LIBRARY_PATH=$prefix/lib "$test"
   PKG_CONFIG=none rejects '0 passed' "$test" "$prefix"

@@ -45,7 +45,10 @@ build() {
   option=$3
   flags=$("$pkg_config" --cflags --libs multihash_c ${4:+"$4"}) || return 1
   eval "set -- $flags"
-  ${CC:-cc} -std=c11 "$option" "$source" "$@" -o "$program"
+  ${CC:-cc} -std=c11 "$option" "$source" "$@" -Wl,-t -o "$program" > "$work/linked" || return 1
+  # the linker names what it reads: the library of the folder that pkg-config names, if it names one
+  eval "set -- $("$pkg_config" --libs-only-L multihash_c)"
+  [ $# = 0 ] || grep -F "${1#-L}/libmultihash_c" "$work/linked"
 }
 
 # Runs a program with the library of the prefix. Only the program itself may need that of another machine.
