@@ -224,14 +224,14 @@ by_subdirectory() {
     "add_subdirectory(\"$top\" multihash_c)" 'add_executable(show ${source})' \
     'target_link_libraries(show multihash_c::${kind})' > "$to/CMakeLists.txt"
   for kind in shared static; do
-    cmake -S "$to" -B "$to/build" -Dsource="$top/bindings/c/examples/show.c" -Dkind="$kind" -DBUILD_SHARED_LIBS=ON \
-      -DCMAKE_C_VISIBILITY_PRESET=hidden -DMULTIHASH_C_SHARED="$([ $kind = static ] || echo ON)" \
+    cmake -S "$to" -B "$to/$kind" -Dsource="$top/bindings/c/examples/show.c" -Dkind="$kind" \
+      -DBUILD_SHARED_LIBS="$([ $kind = static ] || echo ON)" -DCMAKE_C_VISIBILITY_PRESET=hidden \
       -DMULTIHASH_C_ARCHIVE=OFF -DCMAKE_INSTALL_PREFIX="$to/prefix"
-    cmake --build "$to/build"
-    "$to/build/show" | diff - "$expected"
+    cmake --build "$to/$kind"
+    "$to/$kind/show" | diff - "$expected"
   done
-  readelf -Ws "$to/build/multihash_c/libmultihash_c.a" | grep ' HIDDEN .* multihash_encode$'
-  cmake --install "$to/build"
+  readelf -Ws "$to/static/multihash_c/libmultihash_c.a" | grep ' HIDDEN .* multihash_encode$'
+  cmake --install "$to/static"
   has_flags "$to/prefix" lib
   grep "^set(PACKAGE_VERSION \"$version\")" "$to"/prefix/lib/cmake/multihash_c/*-version.cmake
   (cd "$to/prefix"; find . ! -type d | sort) |
