@@ -136,10 +136,10 @@ def path_errors(texts: Texts) -> Iterator[str]:
 
 def name_errors(texts: Texts) -> Iterator[str]:
     """Returns the calls, and the names of two words or more, in backquotes or in blocks of JavaScript, that no source
-    has. A name after a dot may be another library's."""
+    has. A name after a dot may be another library's, and programs are run."""
     known = {*re.findall(r"\w+\(?", sources())} | {*re.findall(r"\w+", sources())}
     for page, text in pages_of(texts).items():
-        blocks = [body for language, body in FENCE.findall(text) if language == "js"]
+        blocks = [body for language, body in FENCE.findall(text) if language == "js" and not start.HEAD.match(body)]
         for quote in [*re.findall(r"`([^`]+)`", FENCE.sub("", text)), *blocks]:
             names = {*re.findall(r"(?<![.\w])[A-Za-z]\w+\(|[A-Za-z]\w*(?:_|[a-z][A-Z])\w+", quote)}
             if page.startswith(("bindings/", "crates/", "docs/")) and not names <= known:
@@ -227,16 +227,18 @@ def command_errors(texts: Texts) -> Iterator[str]:
                 yield f"{command}: status {ran.returncode}, printed {ran.stdout!r}, {ran.stderr[-300:]!r}"
 
 
-def verify_results(program: start.Program, project: start.Project, page: str) -> Iterator[tap.Result]:
-    """Runs a page's program that verifies content; plants one that accepts any content."""
+def page_results(program: start.Program, project: start.Project, page: str) -> Iterator[tap.Result]:
+    """Runs the programs of a language's page; plants one that accepts any content, and another output."""
     name = f"{program.page}, content"
     if gone := tap.missing(start.VERIFY[program.language]):
         yield tap.left_out(name, gone)
-        return
-    yield name, "\n".join(start.verify(project, page))
-    if program.language == "Python":
-        accepts = page.replace("print(hashes.verify(", "print(True or (")
+    else:
+        yield name, "\n".join(start.verify(project, page))
+    if program.language == "JavaScript":
+        yield f"{program.page}, programs", "\n".join(start.printed(project, page))
+        accepts, other = page.replace("await verify(", "true || ("), page.replace("3 null", "4 null")
         yield tap.planted("a program that accepts any content", [*start.verify(project, accepts)])
+        yield tap.planted("another output of a page's program", [*start.printed(project, other)])
 
 
 def program_results(texts: Texts) -> Iterator[tap.Result]:
@@ -252,7 +254,7 @@ def program_results(texts: Texts) -> Iterator[tap.Result]:
             project, error, shown[program.language] = start.run(program, copy, Path(work) / program.language)
             yield name, error
             if program.language in start.VERIFY:
-                yield from verify_results(program, project, texts[program.page])
+                yield from page_results(program, project, texts[program.page])
         fails = start.programs(texts[README])[-1]._replace(install="true", command="false")
         yield tap.planted("a program that fails", start.run(fails, copy, Path(work) / "fails")[1])
     yield "what the programs print", "\n".join(start.judge(texts[README], shown))

@@ -3,7 +3,8 @@
 Each row of its first table has a program, in the same order: the program's first line has the name
 of its file and the command that runs it. Nothing uses a network. What the programs print is compared
 with the line that the page says they print. The page of a language has a program that verifies
-content by a CID: it runs in the same folder, after the commands of the block before it.
+content by a CID: it runs in the same folder, after the commands of the block before it. So do
+programs before a block of text, which is what they print.
 """
 import os
 import re
@@ -136,6 +137,16 @@ def verify(project: Project, page: str) -> Iterator[str]:
         error, shown = project.run_file(head[1], text, before.replace("hello world", content) + head[2])
         if error or shown.lower().split()[-1:] != [wanted]:
             yield f"{content}: {error} {shown!r}, wanted {wanted}"
+
+
+def printed(project: Project, page: str) -> Iterator[str]:
+    """Runs the programs of a page before a block of text, which is what they print."""
+    blocks = FENCE.findall(page)
+    for (_, text), (language, wanted) in zip(blocks, blocks[1:]):
+        if language == "text" and (head := HEAD.match(text)):
+            error, shown = project.run_file(head[1], text, head[2])
+            if error or shown != wanted:
+                yield f"{head[1]}: {error} {shown!r}, wanted {wanted!r}"
 
 
 def judge(readme: str, shown: dict[str, str]) -> Iterator[str]:

@@ -8,6 +8,7 @@ import { fileURLToPath } from 'node:url';
 import { SourceTextModule, createContext } from 'node:vm';
 import * as hashes from '../hashes.js';
 import { fails, hex, same, unhex } from './check.js';
+import { endedAnywhere } from './stream.js';
 import { tests } from './suite.js';
 
 const { Module } = WebAssembly;
@@ -47,13 +48,16 @@ async function compiledBefore() {
 }
 
 /** A call that waits for a stream of Node.js ends at a cancellation, for its ReadableStream also at a release. */
-async function nodeStreams({ MultihashReader }) {
+async function nodeStreams(module) {
+  const { MultihashReader } = module;
   const endless = () => new Readable({ read() {} });
   const [ofStream, ofWeb] = [endless(), Readable.toWeb(endless())].map((source) => new MultihashReader(source));
   const calls = [ofStream, ofWeb].map((reader) => reader.read().then(String, String));
   ofWeb.release();
   await ofStream.cancel();
   same(`${await Promise.all(calls)}`, 'null,TypeError: the reader was released', 'calls that wait');
+  const readable = (bytes) => Readable.toWeb(Readable.from(bytes, { objectMode: false }));
+  await endedAnywhere(module, readable, () => new Promise(process.nextTick));
 }
 
 /** Compares the names that a module exports with those that its types state. Returns the types. */

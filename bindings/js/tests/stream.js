@@ -110,6 +110,32 @@ async function givenUp(module, stream) {
   same(`${reasons}`, ',0,20,20', 'reasons');
 }
 
+/**
+ * A reader that is released or cancelled after any number of turns has lost no byte: another reader reads on, or `rest`
+ * ends with the last byte that the source gave.
+ */
+export async function endedAnywhere(module, readable, turn) {
+  const stream = Uint8Array.of(18, 2, 1, 2, 0, 0, 1, 1, 9);
+  for (const name of ['release', 'cancel']) {
+    for (let turns = 0, count; count !== 3; turns++) {
+      let given = 0;
+      const bytes = (async function* () {
+        while (given < stream.length) yield Uint8Array.of(stream[given++]);
+      })();
+      const source = name === 'release' ? readable(bytes) : bytes;
+      const reader = new module.MultihashReader(source);
+      const call = drained(reader);
+      for (let at = 0; at < turns; at++) await turn();
+      await reader[name]();
+      const { found } = await call;
+      count = found.length;
+      const next = name === 'release' && (await drained(new module.MultihashReader(source, { rest: reader.rest })));
+      const later = next ? listed(next.found) : hex(reader.rest);
+      same((listed(found) + later).replaceAll(' ', ''), hex(stream.subarray(0, given)), `a ${name} after ${turns} turns`);
+    }
+  }
+}
+
 /** A call that waits while its reader is given up ends as later ones do, and `rest` has what it had waited for. */
 async function waiting(module, stream) {
   for (const [name, ending] of [['release', RELEASED], ['cancel', 'null']]) {
@@ -229,6 +255,14 @@ export async function streams(module) {
   await givenUp(module, stream);
   await cancellations(module, stream);
   await waiting(module, stream);
+  const pulled = (bytes) => new ReadableStream({
+    pull: async (controller) => {
+      const { done, value } = await bytes.next();
+      if (done) controller.close();
+      else controller.enqueue(value);
+    },
+  });
+  await endedAnywhere(module, pulled, () => null);
   await firstError(module);
   await iterables(module, stream, wanted);
   await many(module, encodings[0]);
