@@ -130,8 +130,8 @@ export async function endedAnywhere(module, readable, turn) {
       const { found } = await call;
       count = found.length;
       const next = name === 'release' && (await drained(new module.MultihashReader(source, { rest: reader.rest })));
-      const later = next ? listed(next.found) : hex(reader.rest);
-      same((listed(found) + later).replaceAll(' ', ''), hex(stream.subarray(0, given)), `a ${name} after ${turns} turns`);
+      const all = `${listed(found)}${next ? listed(next.found) : hex(reader.rest)}`.replaceAll(' ', '');
+      same(all, hex(stream.subarray(0, given)), `a ${name} after ${turns} turns`);
     }
   }
 }
