@@ -36,6 +36,7 @@ TESTS = {
     "allocating_storage": 23,
     # 3 for 4, 8 and 16 items, 1, 1; 2 encodings; 1, 2 and 1 for the forms
     "allocating_examples": 11,
+    "calls_over_slices_need_no_memory": 0,
 }
 # inputs of mh_show, the last of which cannot be read, how many allocations it makes, and what it prints then
 SHOWN = {"example": (8, "code 22"), "0041": (5, "mh_show: Invalid"), "0": (4, "mh_show: not hex")}

@@ -11,6 +11,7 @@ use headline::{list_through, same};
 use multihash::list::{read_list, write_list};
 use multihash::no_std_io::{self, Write};
 use multihash::{Error, Multihash};
+use serde_json::Value;
 use std::alloc::Global;
 use std::process::Abort;
 use std::test::Fail;
@@ -316,6 +317,36 @@ fn allocating_examples(rt: HostRuntime) -> Result<(), Fail> {
             && succeeded(rt, &scale(alloc, &m))
             && succeeded(rt, &json(alloc, &m)),
     )
+}
+
+// Calls over slices that no contract gives an allocator.
+fn expect_without_memory<const S: usize>(rt: &impl Abort, alloc: Global, code: u64)
+    requires { S < 2 ^ 16 }
+{
+    let m = expect_ok!(rt; Multihash::<S>::wrap(code, &[65; 32]));
+    let (mut bytes, mut scale) = ([0u8; 84], [0u8; 41]);
+    let mut room = bytes.as_mut_slice();
+    check_eq!(rt; m.write(&mut room).ok(), Some(m.encoded_len()));
+    check!(rt; write_list(&[m], &mut room).is_ok());
+    check_eq!(rt; m.scale_encode(&mut scale.as_mut_slice()).ok(), Some(41));
+    let encoding = bytes.get(..m.encoded_len()).unwrap_or(&[]);
+    check!(rt; expect_ok!(rt; Multihash::<S>::from_bytes(encoding)) == m);
+    check!(rt; expect_ok!(rt; Multihash::<S>::read(&mut bytes.as_slice())).same_as(&m));
+    check!(rt; expect_ok!(rt; Multihash::<S>::scale_decode(&mut scale.as_slice())) == m);
+    check!(rt; expect_ok!(rt; m.resize::<32>()).truncate(4) < m.resize::<32>().unwrap_or_default());
+    check!(rt; expect_ok!(rt; read_list::<S, _>(alloc, &mut bytes.as_slice(), 0)).is_empty());
+}
+
+#[test]
+fn calls_over_slices_need_no_memory(rt: HostRuntime) {
+    for code in USUAL {
+        expect_without_memory::<32>(&rt, rt.alloc(), code);
+        expect_without_memory::<300>(&rt, rt.alloc(), code);
+    }
+    let empty = Value::Array(Vec::new(rt.alloc()));
+    check!(&rt; is_rejected(&Multihash::<4>::from_value(&empty), ErrorKind::Insufficient));
+    check!(&rt; is_rejected(&Multihash::<4>::from_value(&Value::Null), ErrorKind::NotBytes));
+    check!(&rt; is_rejected(&Multihash::<4>::wrap(0, &[65; 5]), ErrorKind::InvalidSize(5)));
 }
 
 #[test]
