@@ -1,5 +1,5 @@
 //! Known calls of readers, writers and lists; and what the tests stand on: `is_rejected` and `is_failed`.
-use fakes::expect::{ErrorKind, is_failed, is_rejected};
+use fakes::expect::{ErrorKind, equal_bytes, is_failed, is_rejected};
 use fakes::streams::{Cuts, Drip};
 use fakes::{check, check_eq, expect_bytes, expect_ok, expect_rejected};
 use multihash::list::{read_list, write_list};
@@ -166,4 +166,12 @@ fn a_failure_is_no_other(rt: HostRuntime) {
     check!(&rt; is_failed(&failed, ErrorKind::LINK_DOWN));
     check!(&rt; !is_failed(&failed, ErrorKind::DISK_GONE) && !is_failed(&failed, ErrorKind::OutOfMemory));
     check!(&rt; !is_failed(&Ok(()), ErrorKind::LINK_DOWN));
+}
+
+#[test]
+fn bytes_are_compared_whole(rt: HostRuntime) {
+    check!(&rt; equal_bytes(b"ab", b"ab").is_ok());
+    for other in [&b""[..], b"a", b"abc", b"aB", b"Ab"] {
+        check!(&rt; equal_bytes(other, b"ab").is_err() && equal_bytes(b"ab", other).is_err());
+    }
 }
