@@ -110,7 +110,7 @@ builds_for_windows() {
   wineserver -k || true
 }
 
-# The test of what pkg-config finds, without it, and of a copy whose library is gone, where the linker finds another one,
+# The test of what pkg-config finds, without it, and of a copy whose library is gone while the linker finds another,
 # or whose header does not fit it.
 planted_test() {
   local -x LIBRARY_PATH=$prefix/lib

@@ -6,7 +6,7 @@
 
 listed() { git ls-files -co --exclude-standard "$@"; }
 # Prints the paths of the scripts in a language, by their first lines.
-scripts() { git grep -lIE --untracked "$1" | sort; }
+scripts() { git grep --no-color -lIE --untracked "$1" | sort; }
 
 shell=$(scripts '^(#! ?/.*\b(ba)?sh|# shellcheck shell=bash)$')
 python=$({ listed '*.py'; scripts '^#!.*python'; } | sort -u)
@@ -52,7 +52,7 @@ names() {
 # Each script that states its words prints them, and fails, for another word.
 states_words() {
   local script
-  for script in $(git grep -lE '^(#  |   ) (\.ci|bindings|tools)/[^ ]+ ' .ci 'bindings/*.sh' tools); do
+  for script in $(git grep --no-color -lE '^(#  |   ) (\.ci|bindings|tools)/[^ ]+ ' .ci 'bindings/*.sh' tools); do
     rejects "${script##*/}" timeout 90 "$script" --another < /dev/null
   done
 }

@@ -1,11 +1,11 @@
 #!/usr/bin/env bash
 # That what fails is printed as failed, by tap.sh and by tap.py, and makes .ci/run fail. It uses none of them itself.
 set -u
+unset ALL BUILT CDPATH CHECK
 cd "$(dirname "$0")/.." || exit 2
 number=0 failed=0
 work=$(mktemp -d) || exit 2
 trap 'rm -rf "$work"' EXIT
-unset ALL BUILT CHECK
 cp -r .ci checks "$work" && git init -q "$work" && git -C "$work" add .ci || exit 2
 export top=$PWD PYTHONPATH=checks/lib # of the copy
 
@@ -121,6 +121,6 @@ expect "1\ndid not pass: checks/lint.t" \
 # ended, it ends checks
 expect "0\n143\na" "ran 'echo ok 1'; rm -f [abc]
     echo 'echo 1..1; touch ../a; until [ -e ../b ]; do sleep .1; done; touch ../c' > checks/rt.t
-    .ci/run > out & until [ -e a ]; do sleep .1; done; kill \$!; wait \$!; echo \$?; touch b; sleep 1; rm b; ls [abc]"
+    .ci/run > out & until [ -e a ] || ! kill -0 \$!; do sleep .1; done; kill \$!; wait \$!; echo \$?; touch b; sleep 1; rm b; ls [abc]"
 echo "1..$number"
 [ $failed = 0 ]

@@ -14,6 +14,7 @@
 # standard error.
 set -euo pipefail
 shopt -s inherit_errexit
+unset CDPATH CLICOLOR_FORCE FORCE_COLOR
 cd "$(dirname "${BASH_SOURCE[0]}")/../.."
 # shellcheck source=checks/lib/is_there.sh
 . checks/lib/is_there.sh

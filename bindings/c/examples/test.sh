@@ -7,6 +7,7 @@
 #   CC, PKG_CONFIG     as make has them
 #   RUN                a command that runs the programs: RUN="qemu-aarch64 -L /usr/aarch64-linux-gnu"
 set -u
+unset CDPATH
 examples=$(cd "$(dirname "$0")" && pwd) || exit 2
 pkg_config=${PKG_CONFIG:-pkg-config}
 work=$(mktemp -d) || exit 2
