@@ -121,6 +121,7 @@ expect "1\ndid not pass: checks/lint.t" \
 # ended, it ends checks
 expect "0\n143\na" "ran 'echo ok 1'; rm -f [abc]
     echo 'echo 1..1; touch ../a; until [ -e ../b ]; do sleep .1; done; touch ../c' > checks/rt.t
-    .ci/run > out & until [ -e a ] || ! kill -0 \$!; do sleep .1; done; kill \$!; wait \$!; echo \$?; touch b; sleep 1; rm b; ls [abc]"
+    .ci/run > out & until [ -e a ] || ! kill -0 \$!; do sleep .1; done; kill \$!; wait \$!; echo \$?
+    touch b; sleep 1; rm b; ls [abc]"
 echo "1..$number"
 [ $failed = 0 ]
