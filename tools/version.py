@@ -1,10 +1,13 @@
 #!/usr/bin/env python3
-"""The version of the library and its packages. multihash.h has it; what else has to state it is written from there.
+"""The version of the library and its packages.
+
+multihash.h has it; what else has to state it is written from there.
 
     tools/version.py                   prints it
     tools/version.py --check           compares what states it with the header
     tools/version.py VERSION [DATE]    writes a later one: what CHANGES has as not released is released, today or then
 """
+
 from __future__ import annotations
 
 import datetime

@@ -1,8 +1,11 @@
 #!/usr/bin/env python3
-"""Writes the man page multihash(3): the comments and declarations of multihash.h. Those of its functions include it.
+"""Writes the man page multihash(3): the comments and declarations of multihash.h.
+
+The pages of its functions include it.
 
     man.py HEADER CHANGES OUT    CHANGES has the date of the page, OUT is the folder of the pages
 """
+
 from __future__ import annotations
 
 import datetime

@@ -4,6 +4,7 @@
 
 Before that the results of both are compared.
 """
+
 import io
 import sys
 import time

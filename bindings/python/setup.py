@@ -3,6 +3,7 @@
 The archive is MULTIHASH_C_ARCHIVE, or on Linux the one that the repository has for the machine, whose checksum is
 compared. An sdist has none, and looks at no folder above its own: there anyone may have made files.
 """
+
 import hashlib
 import os
 import re

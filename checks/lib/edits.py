@@ -2,6 +2,7 @@
 
 They are in lines, with tabs between their parts, whose first line names these. '\\n' is the end of a line, '\\t' a tab.
 """
+
 from collections.abc import Iterator, Mapping
 from pathlib import Path
 from typing import NamedTuple

@@ -1,4 +1,5 @@
 """Reads .rt files, as `rt fmt` lays them out: items, with their fields, members and contracts."""
+
 import re
 from collections.abc import Iterator
 from typing import NamedTuple

@@ -6,6 +6,7 @@ with the line that the page says they print. The page of a language has a progra
 content by a CID: it runs in the same folder, after the commands of the block before it. So do
 programs before a block of text, which is what they print.
 """
+
 import os
 import re
 import shutil

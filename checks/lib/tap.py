@@ -1,4 +1,5 @@
 """Prints results as TAP, for prove. Builds what checks run."""
+
 import os
 import subprocess
 import sys

@@ -1,4 +1,5 @@
 """Names of codes, and multihashes of data: those of hashes.tsv, which other programs computed."""
+
 import os
 import unittest
 from pathlib import Path

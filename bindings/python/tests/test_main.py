@@ -1,4 +1,5 @@
 """The command: that it prints what mh_show prints, and ends with its status."""
+
 import subprocess
 import sys
 import unittest

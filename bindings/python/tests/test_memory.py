@@ -1,4 +1,5 @@
 """Calls whose allocations fail, one after the other, and calls that keep what they allocated."""
+
 import contextlib
 import functools
 import gc

@@ -1,4 +1,5 @@
 """Wrong arguments, errors, values, costs, the names of the package, README.md's examples."""
+
 import array
 import copy
 import ctypes

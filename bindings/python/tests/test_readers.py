@@ -1,4 +1,5 @@
 """Readers over files and streams: bytes that come in parts, late, too many or with an error."""
+
 import asyncio
 import functools
 import gc

@@ -1,4 +1,5 @@
 """The test vectors: decoded, read from files, encoded. MULTIHASH_VERDICTS is the path of the list."""
+
 import io
 import os
 import unittest

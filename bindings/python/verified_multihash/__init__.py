@@ -3,6 +3,7 @@
 Where bytes are wanted, any object of the buffer protocol will do; numbers, strings and lists are a TypeError.
 Input that is no multihash, and a code or a digest that no multihash has, is a MultihashError (a ValueError).
 """
+
 from __future__ import annotations
 
 import enum
@@ -98,12 +99,12 @@ class Head(NamedTuple):
 
 class _Readable(Protocol):
     def read(self, size: int, /) -> Optional[bytes]:
-        ...
+        """Returns at most `size` bytes; none at the end; None if none can be read without waiting."""
 
 
 class _AsyncReadable(Protocol):
     async def read(self, size: int, /) -> bytes:
-        ...
+        """Returns at most `size` bytes; none at the end."""
 
 
 def head(data: Buffer) -> Head:

@@ -6,6 +6,7 @@ reads HEX, or else standard input to its end: an encoding in hexadecimal, with a
 the code, the digest's length and the digest. If that fails it prints the reason to standard error, with status 1.
 With --help it prints this.
 """
+
 import os
 import re
 import sys

@@ -2,6 +2,7 @@
 
 Nothing here is proved, and hashlib does the hashing.
 """
+
 from __future__ import annotations
 
 import hashlib
