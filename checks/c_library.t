@@ -177,18 +177,20 @@ stream_example() {
   "$work/stream"
 }
 
-# The example that hashes, over each row of hashes.tsv: it has no function for some, as OpenSSL has none of that name.
+# The example that hashes, over each row of hashes.tsv: for some codes it has no function.
 verify_example() {
-  local code name digest hex wanted
+  local code name digest hex
   cc "${c_flags[@]}" "${sanitize[@]}" -I "$c/include" "$c/examples/verify.c" "$library" -lcrypto -o "$work/verify"
   while IFS=$'\t' read -r code name digest; do
     hex=
     for ((code = code; code > 127; code >>= 7)); do hex+=$(printf %02x $((code & 127 | 128))); done
-    hex+=$(printf %02x%02x "$code" $((${#digest} / 2)))
-    wanted="the same"
-    [[ $name != @(identity|shake-*|blake2b-8|blake2b-256|blake2s-8|blake2s-128) ]] || wanted="no hash function"
-    { printf abc | "$work/verify" "$hex$digest" 2>&1 || true; } | grep "^$wanted"
-    [ "$wanted" != "the same" ] || rejects "another content" "$work/verify" "$hex$digest" <<< abc
+    hex+=$(printf %02x%02x "$code" $((${#digest} / 2)))$digest
+    if [[ $name == @(identity|shake-*|blake2b-8|blake2b-256|blake2s-8|blake2s-128) ]]; then
+      rejects "no hash function" "$work/verify" "$hex" <<< abc
+    else
+      prints "the same" "$work/verify" "$hex" < <(printf abc)
+      rejects "another content" "$work/verify" "$hex" <<< abc
+    fi
   done < <(sed 1d "$top/crates/vectors/data/hashes.tsv")
   rejects "another content" "$work/verify" 1201ba < <(printf abc)
 }

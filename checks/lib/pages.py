@@ -228,17 +228,15 @@ def command_errors(texts: Texts) -> Iterator[str]:
 
 
 def page_results(program: start.Program, project: start.Project, page: str) -> Iterator[tap.Result]:
-    """Runs the programs of a language's page; plants one that accepts any content, and another output."""
-    name = f"{program.page}, content"
-    if gone := tap.missing(start.VERIFY[program.language]):
+    """Runs the programs of a language's page; plants one that accepts any content, another output, and no program."""
+    name = f"{program.page}, programs"
+    if gone := tap.missing(start.MORE[program.language]):
         yield tap.left_out(name, gone)
-    else:
-        yield name, "\n".join(start.verify(project, page))
-    if program.language == "JavaScript":
-        yield f"{program.page}, programs", "\n".join(start.printed(project, page))
-        accepts, other = page.replace("await verify(", "true || ("), page.replace("3 null", "4 null")
-        yield tap.planted("a program that accepts any content", [*start.verify(project, accepts)])
-        yield tap.planted("another output of a page's program", [*start.printed(project, other)])
+        return
+    yield name, "\n".join(start.page_errors(project, page))
+    for old, new in (("hashes.verify(", "True or ("), ("True\n```", "true\n```"), ("$CID", "CID")):
+        if program.language == "Python":
+            yield tap.planted(f"{name}: {new}", [*start.page_errors(project, page.replace(old, new))])
 
 
 def program_results(texts: Texts) -> Iterator[tap.Result]:
@@ -253,7 +251,7 @@ def program_results(texts: Texts) -> Iterator[tap.Result]:
                 continue
             project, error, shown[program.language] = start.run(program, copy, Path(work) / program.language)
             yield name, error
-            if program.language in start.VERIFY:
+            if program.language in start.MORE:
                 yield from page_results(program, project, texts[program.page])
         fails = start.programs(texts[README])[-1]._replace(install="true", command="false")
         yield tap.planted("a program that fails", start.run(fails, copy, Path(work) / "fails")[1])

@@ -2,9 +2,8 @@
 
 Each row of its first table has a program, in the same order: the program's first line has the name
 of its file and the command that runs it. Nothing uses a network. What the programs print is compared
-with the line that the page says they print. The page of a language has a program that verifies
-content by a CID: it runs in the same folder, after the commands of the block before it. So do
-programs before a block of text, which is what they print.
+with the line that the page says they print. The programs of the page of a language run in the same
+folder.
 """
 
 import os
@@ -29,8 +28,8 @@ TOOLS = {
     "C": ("cc", "cmake", "pkg-config"),
     "Rattle": ("rt",),
 }
-# what the program that verifies content needs besides, in languages whose page has one
-VERIFY = {"JavaScript": (), "Python": (), "C": ("/usr/include/openssl/evp.h",)}
+# what the programs of a language's page need besides
+MORE = {"JavaScript": (), "Python": (), "C": ("/usr/include/openssl/evp.h",)}
 
 
 class Program(NamedTuple):
@@ -97,57 +96,45 @@ class Project(NamedTuple):
     folder: Path
     environment: dict[str, str]
 
-    def run(self, command: str) -> tuple[str, str]:
-        """Runs a command. Returns what is wrong, and what it has printed."""
-        words = ["bash", "-c", command]
-        ran = subprocess.run(words, cwd=self.folder, env=self.environment, capture_output=True, text=True)
-        if ran.returncode:
-            return f"{command}: status {ran.returncode}\n{(ran.stdout + ran.stderr)[-900:]}", ""
-        return "", ran.stdout
-
-    def run_file(self, name: str, text: str, command: str) -> tuple[str, str]:
-        """Does the same with a file of that text."""
+    def run(self, name: str, text: str, command: str) -> tuple[str, str]:
+        """Writes a file and runs a command. Returns what is wrong, and what was printed."""
         file = self.folder / name
         file.parent.mkdir(parents=True, exist_ok=True)
         file.write_text(text, "utf-8")
-        return self.run(command)
+        words = ["bash", "-c", command]
+        ran = subprocess.run(words, cwd=self.folder, env=self.environment, capture_output=True, text=True)
+        error = f"{command}: status {ran.returncode}\n{(ran.stdout + ran.stderr)[-900:]}"
+        return error if ran.returncode else "", ran.stdout
 
 
 def run(program: Program, repository: Path, folder: Path) -> tuple[Project, str, str]:
-    """Installs the package of a clone, $MH, in a new folder, and runs the program there. Returns what is wrong.
+    """Installs the package of a clone, $MH, in a new folder, and runs the program there.
 
-    The other text is what the program has printed.
+    Returns the folder, what is wrong, and what was printed.
     """
     folder.mkdir()
     project = Project(folder, {**os.environ, "MH": str(repository), **prepare(program, folder)})
-    error, shown = project.run(program.install)
-    if not error:
-        error, shown = project.run_file(program.file, program.text, program.command)
-    return project, error, shown
+    return project, *project.run(program.file, program.text, f"{program.install} && {program.command}")
 
 
-def verify(project: Project, page: str) -> Iterator[str]:
-    """Runs the program of a page that verifies content by a CID, of that content and of another one."""
-    blocks = [text for _, text in FENCE.findall(page)]
-    found = [(before, text) for before, text in zip(blocks, blocks[1:]) if "$CID" in text.partition("\n")[0]]
-    if len(found) != 1 or not (head := HEAD.match(found[0][1])):
-        yield "the page has no program, or more than one, that verifies content by a CID"
-        return
-    before, text = found[0]
-    for content, wanted in (("hello world", "true"), ("hello worlds", "false")):
-        error, shown = project.run_file(head[1], text, before.replace("hello world", content) + head[2])
-        if error or shown.lower().split()[-1:] != [wanted]:
-            yield f"{content}: {error} {shown!r}, wanted {wanted}"
-
-
-def printed(project: Project, page: str) -> Iterator[str]:
-    """Runs the programs of a page before a block of text, which is what they print."""
-    blocks = FENCE.findall(page)
-    for (_, text), (language, wanted) in zip(blocks, blocks[1:]):
-        if language == "text" and (head := HEAD.match(text)):
-            error, shown = project.run_file(head[1], text, head[2])
-            if error or shown != wanted:
-                yield f"{head[1]}: {error} {shown!r}, wanted {wanted!r}"
+def page_errors(project: Project, page: str) -> Iterator[str]:
+    """Runs the programs of a language's page, each of which prints the block of text after it. One verifies content
+    by a CID: it runs after the commands before it, and also over other content."""
+    blocks, verifies = FENCE.findall(page), False
+    for (_, before), (_, text), (language, wanted) in zip(blocks, blocks[1:], blocks[2:]):
+        if language != "text" or not (head := HEAD.match(text)):
+            continue
+        runs = [(head[2], wanted)]
+        if "$CID" in head[2]:
+            verifies = True
+            other = before.replace("hello world", "other content")
+            runs = [(before + head[2], wanted), (other + head[2], {"true\n": "false\n"}.get(wanted, "False\n"))]
+        for command, output in runs:
+            error, shown = project.run(head[1], text, command)
+            if error or shown != output:
+                yield f"{head[1]}: {error} {shown!r}, wanted {output!r}"
+    if not verifies:
+        yield "no program verifies content by a CID"
 
 
 def judge(readme: str, shown: dict[str, str]) -> Iterator[str]:

@@ -39,12 +39,12 @@ try() {
   fi
 }
 
-# Builds an example, with an option for the compiler, and what pkg-config finds besides.
+# Builds an example, with an option for the compiler.
 build() {
   source=$examples/$1.c
   program=$work/$2
   option=$3
-  flags=$("$pkg_config" --cflags --libs multihash_c ${4:+"$4"}) || return 1
+  flags=$("$pkg_config" --cflags --libs multihash_c) || return 1
   eval "set -- $flags"
   ${CC:-cc} -std=c11 "$option" "$source" "$@" -Wl,-t -o "$program" > "$work/linked" || return 1
   # the linker names what it reads: the library of the folder that pkg-config names, if it names one
@@ -54,12 +54,10 @@ build() {
 
 # Runs a program with the library of the prefix. Only the program itself may need that of another machine.
 run() {
-  program=$work/$1
-  shift
   if [ -n "${RUN-}" ]; then
-    $RUN -E "LD_LIBRARY_PATH=${LD_LIBRARY_PATH-}" "$program" "$@"
+    $RUN -E "LD_LIBRARY_PATH=${LD_LIBRARY_PATH-}" "$work/$1"
   else
-    LD_LIBRARY_PATH=${LD_LIBRARY_PATH-} "$program" "$@"
+    LD_LIBRARY_PATH=${LD_LIBRARY_PATH-} "$work/$1"
   fi
 }
 
@@ -93,13 +91,6 @@ rejects() {
   [ $? = 1 ] && [ ! -s "$work/shown" ] && grep -x "$3" "$work/error"
 }
 
-# The documented multihash is that of this text by SHA3-256.
-verifies() {
-  hex=$(documented | od -An -v -tx1 | tr -d ' \n')
-  [ "$(printf 'hello world' | run verify "$hex")" = 'the same' ] &&
-    [ "$(printf 'hello' | run verify "$hex")" = 'another content' ]
-}
-
 for how in shared static; do
   option=-O2
   [ $how = shared ] || option=-static
@@ -111,11 +102,5 @@ for how in shared static; do
   try "$how: a digest above the limit is rejected" rejects "stream-$how" '\022\101a' 'Invalid multihash size'
   try "$how: a truncated digest is rejected" rejects "stream-$how" '\022\040a' 'the input ends within a multihash'
 done
-if echo '#include <openssl/evp.h>' | ${CC:-cc} -E - > "$work/log" 2>&1; then
-  try "verify.c builds" build verify verify -O2 libcrypto
-  try "content is verified" verifies
-else
-  echo "left out: verify.c, which needs OpenSSL"
-fi
 echo "$passed passed, $failed failed"
 [ $failed = 0 ]
