@@ -141,7 +141,8 @@ def name_errors(texts: Texts) -> Iterator[str]:
     for page, text in pages_of(texts).items():
         blocks = [body for language, body in FENCE.findall(text) if language == "js" and not start.HEAD.match(body)]
         for quote in [*re.findall(r"`([^`]+)`", FENCE.sub("", text)), *blocks]:
-            names = {*re.findall(r"(?<![.\w])[A-Za-z]\w+\(|[A-Za-z]\w*(?:_|[a-z][A-Z])\w+", quote)}
+            words = quote.replace("-D", " ")  # of CMake, before a name
+            names = {*re.findall(r"(?<![.\w])[A-Za-z]\w+\(|[A-Za-z]\w*(?:_|[a-z][A-Z])\w+", words)}
             if page.startswith(("bindings/", "crates/", "docs/")) and not names <= known:
                 yield f"{page}: no source has {names - known}"
 
