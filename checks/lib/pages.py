@@ -141,8 +141,8 @@ def name_errors(texts: Texts) -> Iterator[str]:
     for page, text in pages_of(texts).items():
         blocks = [body for language, body in FENCE.findall(text) if language == "js" and not start.HEAD.match(body)]
         for quote in [*re.findall(r"`([^`]+)`", FENCE.sub("", text)), *blocks]:
-            words = quote.replace("-D", " ")  # of CMake, before a name
-            names = {*re.findall(r"(?<![.\w])[A-Za-z]\w+\(|[A-Za-z]\w*(?:_|[a-z][A-Z])\w+", words)}
+            names = {*re.findall(r"(?<![.\w])[A-Za-z]\w+\(|[A-Za-z]\w*(?:_|[a-z][A-Z])\w+", quote)}
+            names = {name[1:] if f"-{name}" in quote and name[1:] in known else name for name in names}  # CMake's -D
             if page.startswith(("bindings/", "crates/", "docs/")) and not names <= known:
                 yield f"{page}: no source has {names - known}"
 
