@@ -11,8 +11,10 @@ scripts() { git grep --no-color -lIE --untracked "$1" | sort; }
 shell=$(scripts '^(#! ?/.*\b(ba)?sh|# shellcheck shell=bash)$')
 python=$({ listed '*.py'; scripts '^#!.*python'; } | sort -u)
 javascript=$(listed '*.js' '*.ts')
-# those that end at the first command that fails
+# those that end at the first command that fails; the others say that they do not, or are one command
 ending=$(scripts '^(set -euo pipefail$|\. .*/tap\.sh"$|# Sourced after tap\.sh)')
+others=$(scripts '^(set -u|exec )')
+stating=$(git grep --no-color -lE '^(#  |   ) (\.ci|bindings|tools)/[^ ]+ ' .ci 'bindings/*.sh' tools)
 # All but the tests of the package for Python have types.
 typed=$(grep -v '^bindings/python/tests/' <<< "$python")
 
@@ -49,12 +51,10 @@ names() {
     sed -nE '/error TS([18][0-9]{3}|18004|230[45]|2448|2451|2552|6133|7027|7029):/p' | diff /dev/null -
 }
 
-# Each script that states its words prints them, and fails, for another word.
+# Each script that states its words prints them, after its path and a blank, and fails, for another word.
 states_words() {
   local script
-  for script in $(git grep --no-color -lE '^(#  |   ) (\.ci|bindings|tools)/[^ ]+ ' .ci 'bindings/*.sh' tools); do
-    rejects "${script##*/}" timeout 90 "$script" --another < /dev/null
-  done
+  for script in "$@"; do rejects "$script " timeout 90 "$script" --another < /dev/null; done
 }
 
 export MYPY_CACHE_DIR=$work/mypy
@@ -72,8 +72,8 @@ try_linter() {
 # shellcheck disable=SC2086 # no path has a blank
 {
   try "each script is in a list" are_known
-  try "scripts that go on after a failure" diff <(comm -23 <(echo "$shell") <(echo "$ending")) \
-    <(printf '%s\n' .ci/run bindings/c/examples/test.sh checks/{bugs,js,pages,python,speed,tap,verdicts}.t)
+  try "what scripts do after a failure" diff /dev/null <(comm -23 <(echo "$shell") \
+    <(printf '%s\n' $ending $others | sort -u))
   try_linter short long.js "long.js:1" "$(printf '%121s' .)" $shell $python $javascript
   try_linter are_run unused.sh "unused is not run" "unused() { true; } # unused" $shell
   try_linter chains chain.bash chain.bash:2 'set -e\nfalse && true\ntrue' $ending
@@ -84,6 +84,8 @@ try_linter() {
   needs=mypy try_linter "mypy --strict --scripts-are-modules --ignore-missing-imports" untyped.py \
     "missing a type annotation" "def same(number): return number" $typed
   needs=tsc try_linter names unused.js TS6133 "export {};\nconst number = 1;" $javascript
-  try "scripts with wrong words" states_words
+  echo "export {}; missing();" > "$work/missing.js"
+  needs=tsc try "names rejects a name that is not there" rejects TS2304 names "$work/missing.js"
+  try_linter states_words usage.sh "without the text" "#!/bin/sh\nusage" $stating
 }
 finish

@@ -35,6 +35,8 @@ has_packages() {
     dpkg -x "$file" "$root"
     cmp LICENSE "$root/usr/share/doc/libmultihash-$package/copyright"
   done
+  dpkg-deb -f "$1/libmultihash-c-dev_$version-1_$architecture.deb" Depends Multi-Arch |
+    diff - <(printf '%s\n' "Depends: libmultihash-c$major (= $version-1)" "Multi-Arch: same")
   has_modes "$root"
   has_shared_library "$root/usr/$lib/libmultihash_c.so"
   dpkg-deb -I "${file/-dev/$major}" symbols | sed '/^ MULTIHASH_C/d' |
@@ -42,14 +44,22 @@ has_packages() {
       sed -E 's/(.*)@@MULTIHASH_C_(.*)/ \1@MULTIHASH_C_\2 \2.0/' "$work/versions")
 }
 
-# A package with a file more.
+# A package that does not need the library, and one with a file more.
 planted_package() {
-  local package=$work/libmultihash-c1_$version-1_amd64.deb
-  dpkg-deb -R "$work/debian-amd64/${package##*/}" "$work/planted"
-  cp LICENSE "$work/planted/usr/share/doc/libmultihash-c1"
-  dpkg-deb -b --root-owner-group "$work/planted" "$package"
-  rejects "W: libmultihash-c1: file-missing-in-md5sums" lint_packages "$package"
-  rejects "> root/root ./share/doc/libmultihash-c1/LICENSE" has_packages "$work" amd64 x86_64-linux-gnu
+  local package text edit packages=$work/packages
+  while IFS='|' read -r package text edit; do
+    package=libmultihash-${package}_$version-1_amd64.deb
+    rm -rf "$packages" "$work/root-amd64"
+    cp -r "$work/debian-amd64" "$packages"
+    dpkg-deb -R "$packages/$package" "$packages/planted"
+    (cd "$packages/planted"; eval "$edit")
+    dpkg-deb -b --root-owner-group "$packages/planted" "$packages/$package"
+    rejects "$text" has_packages "$packages" amd64 x86_64-linux-gnu
+  done << 'END'
+c-dev|> Depends|sed -i /^Depends/d DEBIAN/control
+c1|> root/root ./share/doc/libmultihash-c1/LICENSE|cp usr/share/doc/libmultihash-c1/{copyright,LICENSE}
+END
+  rejects "W: libmultihash-c1: file-missing-in-md5sums" lint_packages "$packages/libmultihash-c1_$version-1_amd64.deb"
 }
 
 # Both libraries work from where the packages were unpacked.
@@ -67,7 +77,7 @@ try_packages() {
 }
 
 test_packages() {
-  try "building packages" build_packages amd64
+  ONLY='' try "building packages" build_packages amd64
   try "warnings of them" lint_packages "$work"/debian-amd64/*.changes
   try "a planted package" planted_package
   try "packages for amd64" has_packages "$work/debian-amd64" amd64 x86_64-linux-gnu
@@ -77,24 +87,57 @@ test_packages() {
 
 # ---- a release
 
-# Two releases of clones that differ in all that must not matter have the same bytes. No clone has a working tree.
-make_releases() {
-  git clone -q --no-checkout . "$work/clone"
-  cd "$work/clone"
-  git -c advice.detachedHead=false checkout -q HEAD -- tools/release
-  tools/release "$work/release"
-  cp -r "$work/clone" "$work/another clone"
-  mkdir "$work/left"
-  (umask 077; TMPDIR=$work/left TZ=Asia/Tokyo "$work/another clone/tools/release" "$work/again")
-  rmdir "$work/left"
-  diff -r "$work/release" "$work/again"
-  rejects "there is already" tools/release "$work/release"
+# Two releases of a clone, which differ in all that must not matter, have the same bytes, and leave no other file.
+makes_twice() {
+  rm -rf "$work/another clone" "$2"*
+  "$1/tools/release" "$2"
+  cp -r "$1" "$work/another clone"
+  mkdir "$2.left"
+  (umask 077; TMPDIR=$2.left TZ=Asia/Tokyo "$work/another clone/tools/release" "$2.again")
+  rmdir "$2.left"
+  diff -r "$2" "$2.again"
 }
 
-# The files of a release, each with its checksum, also in the bill of materials; what is packed here is root's, and all
-# may read it.
-has_files() {
+# No clone has a working tree.
+make_releases() {
+  git clone -q --no-checkout . "$work/clone"
+  git -C "$work/clone" -c advice.detachedHead=false checkout -q HEAD -- tools/release
+  makes_twice "$work/clone" "$work/release"
+  rejects "there is already" "$work/clone/tools/release" "$work/release"
+}
+
+# Releases that have the umask, the zone or the folder in a file.
+planted_releases() {
+  local tools=$work/stated/tools command
+  mkdir -p "$tools"
+  for command in umask 'date +%Z' 'echo "$0"'; do
+    printf '#!/bin/sh\nmkdir "$1"; %s > "$1/made"\n' "$command" | tee "$tools/release"
+    chmod +x "$tools/release"
+    rejects "again/made" makes_twice "$work/stated" "$work/made"
+  done
+}
+
+# Archives have files of root, which all may read, in the order of their names.
+are_plain() {
   local name
+  for name in "$1"/*.tar.gz; do
+    tar --numeric-owner -tvzf "$name" | awk '$1 !~ /^(-rw-r--r--|[dl-]rwxr-xr-x)$/ || $2 != "0/0"' | diff /dev/null -
+    tar -tf "$name" | tr / '\1' | sort -c
+  done
+}
+planted_archives() {
+  mkdir "$work/archives"
+  rejects_edits "$work/archives" are_plain "$work/planted" << 'END'
+-rw-r--r-- 0/1|echo > a; tar --owner=0 --group=1 --mode=644 -czf a.tar.gz a
+-rw-rw-r-- 0/0|echo > a; tar --owner=0 --group=0 --mode=664 -czf a.tar.gz a
+disorder|mkdir a b; tar --owner=0 --group=0 --mode=755 -czf a.tar.gz b a
+END
+}
+
+# The files of a release, each with its checksum, also in the bill of materials. In that a file whose name has a machine
+# is made from the library for it.
+has_files() {
+  local bill=multihash-$version.spdx.json
   cd "$1"
   sha256sum --check --strict --quiet SHA256SUMS
   printf '%s\n' libmultihash-c{"$major",-dev}_"$version-1"_{amd64,arm64}.deb "multihash-$version".{spdx.json,tar.gz} \
@@ -103,20 +146,30 @@ has_files() {
     "verified_multihash-$version-cp3$minor-abi3-manylinux2014_"{aarch64,x86_64}.whl | sort > "$work/files"
   sed 's/^[^ ]*  //' SHA256SUMS | sort | diff "$work/files" -
   find . -mindepth 1 -printf '%P\n' | grep -vx SHA256SUMS | sort | diff "$work/files" -
-  grep -v spdx SHA256SUMS | diff - <(python3 -c 'import json, sys
-for each in sorted(json.load(sys.stdin)["packages"], key=lambda each: each["name"]):
-    if each["primaryPackagePurpose"] == "ARCHIVE": print(each["checksums"][0]["checksumValue"] + "  " + each["name"])' \
-    < "multihash-$version.spdx.json")
-  for name in *.tar.gz; do
-    tar --numeric-owner -tvzf "$name" | awk '$1 !~ /^(-rw-r--r--|[dl-]rwxr-xr-x)$/ || $2 != "0/0"' | diff /dev/null -
-  done
+  python3 - "$bill" > "$work/listed" << 'END'
+import json, sys
+bill = json.load(open(sys.argv[1]))
+names = {each["SPDXID"]: each["name"] for each in bill["packages"]}
+for each in bill["packages"]:
+    if each["primaryPackagePurpose"] == "ARCHIVE":
+        print(each["checksums"][0]["checksumValue"], "", each["name"])
+for each in bill["relationships"]:
+    if each["relationshipType"] == "GENERATED_FROM":
+        print(names[each["spdxElementId"]], "from", names[each["relatedSpdxElement"]])
+END
+  grep -v spdx SHA256SUMS | diff <(sed '/ from /d' "$work/listed" | sort -k 2) -
+  sed -nE 's,.*(x86_64|amd64)\..*,& from bindings/c/prebuilt/x86_64/libmultihash_c.a,p
+    s,.*(aarch64|arm64)\..*,& from bindings/c/prebuilt/aarch64/libmultihash_c.a,p' "$work/files" | sort |
+    comm -23 - <(sort "$work/listed") | diff /dev/null -
+  are_plain .
 }
 
-# A release with a file that differs.
+# A release with a file that differs, and one whose bill of materials lacks a machine's library.
 planted_release() {
-  cp -r "$work/release" "$work/edited"
-  echo >> "$work/edited/multihash-$version.tar.gz"
-  rejects "multihash-$version.tar.gz: FAILED" has_files "$work/edited"
+  rejects_edits "$work/release" has_files "$work/planted" << END
+multihash-$version.tar.gz: FAILED|echo >> multihash-$version.tar.gz
+from bindings/c/prebuilt/aarch64|sed -i 's/\(Element": ".*\)aarch64/\1x86-64/' *.json; sha256sum [^S]* > SHA256SUMS
+END
 }
 
 # The source is the last commit, but for what tools/owner states.
@@ -189,7 +242,7 @@ has_wheel() {
   cd "$work"
   MULTIHASH_VERDICTS=$top/crates/vectors/data/verdicts.tsv "$work/venv/bin/python" -m unittest discover \
     -s "$top/bindings/python/tests" 2>&1 | tee tests
-  grep -x 'OK.*' tests
+  grep '^Ran [1-9]' tests
 }
 
 # The modules of wheels need no other libraries than these.
@@ -201,9 +254,11 @@ modules_need() {
 
 test_release() {
   local emulator="qemu-aarch64 -L /usr/aarch64-linux-gnu"
-  try "a release, made twice" make_releases
+  ONLY='' try "a release, made twice" make_releases
+  try "releases with the umask, the zone and the folder" planted_releases
   try "its files" has_files "$work/release"
-  try "a planted release" planted_release
+  try "planted files" planted_release
+  try "planted archives" planted_archives
   try "its source" is_source
   try "its owner" has_owner
   try "a release that fails" failed_release
