@@ -192,10 +192,18 @@ def shown_errors(texts: Texts) -> Iterator[str]:
 
 def byte_errors(texts: Texts) -> Iterator[str]:
     """Computes by the rules of verdicts.py what pages show of bytes: varints, results, lines of test vectors."""
-    prose = texts[FORMAT]
-    for number, data in re.findall(r"^\| (\d+) \| `([0-9a-f ]+)` \|$", prose, re.M):
-        if RULES.varint(bytes.fromhex(data), 0)[0] != int(number):
+    prose, python = texts[FORMAT], "bindings/python/README.md"
+    for power, number, data in re.findall(r"^\| (?:2\^(\d+) - 1|(\d+)) \| `([0-9a-f ]+)` \|$", prose, re.M):
+        if RULES.varint(bytes.fromhex(data), 0)[0] != int(number or 2 ** int(power) - 1):
             yield f"{FORMAT}: {data} is not {number}"
+    for part in prose.split("\n\n"):
+        for data in [] if part.startswith("|") else re.findall(r"`([0-9a-f]{2}(?: [0-9a-f]{2})+)`", part):
+            number, end = RULES.varint(bytes.fromhex(data), 0)
+            if data[3 * end :] == "" and str(number) not in part:
+                yield f"{FORMAT}: {data} is the varint of no number that is there"
+    for data in re.findall(r"python -m verified_multihash (\w+)", texts[python]):
+        if verdicts.result(RULES.read, 64, bytes.fromhex(data))[1] != len(data) // 2:
+            yield f"{python}: no multihash: {data}"
     for head, table in re.findall(r"^(\|.*\| Consumed \|)\n\|[-:|]+\n((?:\|.*\n)+)", prose, re.M):
         call = RULES.read if "Verdict" in head else RULES.scale_decode
         size = int(re.findall(r"`S` = (\d+)", head)[0])

@@ -124,15 +124,15 @@ def main() -> int:
     stored = STORED.read_text("utf-8")
     if sys.argv[1:] == ["--write"]:
         return STORED.write_text(made_of(stored), "utf-8") == 0
-    last, new = stored.splitlines(True)[FIRST], f"{rules_of().line(0, bytes(77))}\n"
+    last, new, end = stored.splitlines(True)[-1], f"{rules_of().line(0, bytes(77))}\n", stored.count("\n")
     results = [("the results of the stored inputs", error_of(stored)), ("an appended input", error_of(stored + new))]
     others = f"the first {FIRST} inputs are others"
     for what, text, error in (
         ("the first result", stored.replace("invalid_size 3", "invalid_size 4", 1), "@@ -2 +2 @@"),
-        ("the last result", stored + new.replace("invalid", "valid"), "@@ -6002 +6002 @@"),
+        ("the last result", stored + new.replace("invalid", "valid"), f"@@ -{end + 1} +{end + 1} @@"),
         ("another capacity", stored.replace("\n1\t88f5bac6a53b03", "\n2\t88f5bac6a53b03", 1), others),
         ("an input twice", stored + last, "an input is there twice with one capacity"),
-        ("no last newline", stored[:-1], "@@ -6001,0 +6002 @@"),
+        ("no last newline", stored[:-1], f"@@ -{end},0 +{end + 1} @@"),
     ):
         results.append(tap.stated(what, error_of(text), error))
     results.append(tap.stated("another bound", error_of(stored, BOUND.replace("2 ^ 63", "2 ^ 62")), "@@ -7 +7 @@"))
