@@ -5,10 +5,9 @@ crate, and what states the version with the header.
     checks/header.t              checks
     checks/header.t --exports    prints the names of the functions that the header declares
 
-The header's declarations are made from the crate. The preprocessed header has to be these
-declarations and nothing else, in C and in C++, and its macros have to be the crate's constants. A text
-in no known form is an exception. Then the differences of checks/lib/header.edits are planted, each of which
-has to be found as what it is.
+The header's declarations are made from the crate. The preprocessed header has to be these declarations and nothing
+else, and its macros have to be the crate's constants; c_library.t compiles it as C++ too. A text in no known form is an
+exception. Then the differences of checks/lib/header.edits are planted, each of which has to be found as what it is.
 """
 import re
 import subprocess
@@ -29,20 +28,9 @@ from rt_source import Item, items
 
 CRATE = "crates/multihash_c"
 HEADER, MAP = "bindings/c/include/multihash.h", "bindings/c/src/multihash_c.map"
-LANGUAGES = ("c", "c++")
-# The header's conditions: any other hides text from these preprocessors.
+# The header's conditions: any other hides text from the preprocessor.
 CONDITIONS = ["ifndef MULTIHASH_H", "ifdef __cplusplus", "ifdef __cplusplus"]
 TYPES = {"u32": "uint32_t", "u64": "uint64_t", "i32": "int32_t", "usize": "size_t"}
-# Sources in no known form.
-UNREAD = (
-    "what\n",
-    "const A = (\n",
-    "const A = [\n",
-    "fn a() {\n",
-    "struct A { a: u8 }\n",
-    "struct A {\n    =\n}\n",
-    "fn a()\n    requires { { }\n    ensures { } }\n{\n}\n",
-)
 
 # The files that are compared.
 RUST, PYTHON, JS = "bindings/rust/multihash_c", "bindings/python/verified_multihash", "bindings/js"
@@ -153,30 +141,28 @@ def of_crate(files: Files) -> Declared:
     return Declared(declarations, lines, statuses, lengths, [int(major), int(minor)])
 
 
-def preprocessed(text: str, language: str) -> tuple[set[str], str]:
+def preprocessed(text: str) -> tuple[set[str], str]:
     """Returns the macros after a text without the standard's headers, and what the preprocessor makes of the rest."""
     text = re.sub(r"#include <std(def|int)\.h>\n", "", text)
-    made = subprocess.check_output(["cc", "-x", language, "-E", "-P", "-dD", "-"], input=text, text=True)
+    made = subprocess.check_output(["cc", "-x", "c", "-E", "-P", "-dD", "-"], input=text, text=True)
     macros = re.compile(r"^#(?:define|undef) .*\n", re.M)
     return {*macros.findall(made)}, macros.sub("", made)
 
 
-def header_errors(header: str, crate: Declared, language: str) -> Iterator[str]:
+def header_errors(header: str, crate: Declared) -> Iterator[str]:
     conditions = re.findall(r"(?m)^\s*#\s*((?:if|el).*)", header)
     if conditions != CONDITIONS:
-        yield f"{language}: the header's conditions are {conditions}"
-    macros, text = preprocessed(header, language)
+        yield f"the header's conditions are {conditions}"
+    macros, text = preprocessed(header)
     rest = flat(text)
-    if language == "c++":
-        rest = rest.removeprefix('extern "C" { ').removesuffix("}")
     for wanted in sorted(crate.declarations):
         if wanted not in rest:
-            yield f"{language}: the header lacks {wanted[:99]}"
+            yield f"the header lacks {wanted[:99]}"
         rest = rest.replace(wanted, "", 1)
     if rest.strip():
-        yield f"{language}: the header has more than the crate: {rest.strip()[:99]}"
-    if other := (macros - preprocessed("", language)[0]) ^ crate.macros:
-        yield f"{language}: other macros: {flat(' '.join(sorted(other)))}"
+        yield f"the header has more than the crate: {rest.strip()[:99]}"
+    if other := (macros - preprocessed("")[0]) ^ crate.macros:
+        yield f"other macros: {flat(' '.join(sorted(other)))}"
 
 
 def constants_of(files: Files, folder: str, names: Iterable[str]) -> set[tuple[str, str]]:
@@ -215,31 +201,7 @@ def binding_errors(files: Files, crate: Declared) -> Iterator[str]:
 def error_of(files: Files) -> str:
     """Returns what differs."""
     crate = of_crate(files)
-    errors = [*binding_errors(files, crate)]
-    for language in LANGUAGES:
-        errors += header_errors(files[HEADER], crate, language)
-    return "\n".join(errors)
-
-
-def make_edit(text: str) -> object:
-    return edits.apply({"a": "bb"}, [edits.Edit("a", text, "c")])
-
-
-def read_source(text: str) -> object:
-    fields = [[*item.parts()] for item in items(text) if item.kind == "struct"]
-    return fields, [item.contract_end() for item in items(text) if item.kind == "fn"]
-
-
-def unread() -> Iterator[tap.Result]:
-    """Plants edits that cannot be read or made, and sources in no known form."""
-    for read, texts in ((make_edit, ("b", "c", "")), (read_source, UNREAD)):
-        for text in texts:
-            error = ""
-            try:
-                read(text)
-            except ValueError as its_error:
-                error = str(its_error)
-            yield tap.planted(text, error)
+    return "\n".join([*binding_errors(files, crate), *header_errors(files[HEADER], crate)])
 
 
 def versions() -> Iterator[tap.Result]:
@@ -262,12 +224,11 @@ def results() -> Iterator[tap.Result]:
     for name, *edit in edits.rows(LIB / "header.edits"):
         changed = edits.apply(files, [edits.Edit(*edit)])
         yield tap.stated(name, error_of({**files, **changed}), name)
-    yield from unread()
 
 
 def main() -> int:
     if sys.argv[1:] == ["--exports"]:
-        _, text = preprocessed(read_files()[HEADER], "c")
+        _, text = preprocessed(read_files()[HEADER])
         print("\n".join(sorted(re.findall(r"(\w+)\([^()]*\);", text))))
         return 0
     return tap.report(results())

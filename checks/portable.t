@@ -79,11 +79,6 @@ same_object() {
   cc -O2 "${c_flags[@]}" -I bindings/c/include -c "$1/multihash.c" -o "$work/apart.o"
   cmp "$work/one.o" "$work/apart.o"
 }
-another_source() {
-  cp -r bindings/c/src "$work/source of another"
-  sed -i '0,/ = 127ull;/s// = 126ull;/' "$work/source of another/module.h"
-  rejects differ same_object "$work/source of another"
-}
 
 # The tests pass over multihash.c of a folder. What is built is kept in another one; the last words are a compiler with
 # options, and RUN runs a program. A warning is an error.
@@ -110,16 +105,8 @@ freestanding() {
   done
 }
 
-# The same of a copy that calls another function on a machine in the middle.
-another_function() {
-  cp -r "$tree" "$work/another"
-  printf '%s\n' '#ifdef __wasm__' 'int another(void);' 'int one_more(void);' \
-    'int one_more(void) { return another(); }' '#endif' >> "$work/another/multihash.c"
-  freestanding "$work/another"
-}
-
 test_compiler() {
-  try "$1" passes "$tree" "$1" "$1" -O2
+  ONLY='' try "$1" passes "$tree" "$1" "$1" -O2
   try "$1, sanitizers" passes "$tree" "$1-sanitizers" "$1" "${sanitize[@]}"
 }
 
@@ -154,12 +141,10 @@ END
 }
 
 test_here() {
-  try "two files" two_files
-  try "two files of another source" another_source
+  ONLY='' try "two files" two_files
   test_compiler cc
   needs="--all clang" test_compiler clang
   needs="clang llvm-nm" try "objects without a C library" freestanding "$tree"
-  needs="clang llvm-nm" try "one of them that needs another function" rejects "> another" another_function
   needs="nm objdump" try "what the object needs" keeps_no_state "$work/cc/multihash.o"
   needs="nm objdump" try "objects with state" planted_state
   try "planted source" planted_source
