@@ -107,6 +107,7 @@ make_releases() {
 }
 
 # Releases that have the umask, the zone or the folder in a file.
+# shellcheck disable=SC2016 # the planted script expands it
 planted_releases() {
   local tools=$work/stated/tools command
   mkdir -p "$tools"
