@@ -183,7 +183,7 @@ debug_build() {
 with_flags() {
   CFLAGS="-fvisibility=hidden -fno-pie -g3" LDFLAGS=-Wl,--build-id=0x01234567 cmake -S "$top" -B "$work/flags" \
     -DMULTIHASH_C_ARCHIVE=OFF -DBUILD_TESTING=OFF -DCMAKE_DISABLE_FIND_PACKAGE_Python3=ON
-  prints '-fvisibility=hidden -fno-pie -g3 -O3 -DNDEBUG -fPIC -fvisibility=default -std=c11 ' \
+  prints '-fvisibility=hidden -fno-pie -g3 -O3 -DNDEBUG ' \
     cmake --build "$work/flags" --verbose
   exports_exactly "$work/flags/libmultihash_c.so" bindings/c/src/multihash_c.map
   prints 'Build ID: 01234567' readelf -n "$work/flags/libmultihash_c.so"

@@ -13,6 +13,7 @@ crates=$(printf '/usr/share/cargo/registry/%s.* ' cc-1 pkg-config-0.3 serde_json
 # The folders of an installation but that for libraries, which another one may have elsewhere.
 include=include document=share/doc/multihash_c man=share/man
 umask 022
+unset "${!CMAKE_@}"
 ulimit -c 0
 
 # The files of an installation, as paths from the prefix. Words after the libraries' folder are more files.
