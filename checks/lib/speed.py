@@ -132,8 +132,9 @@ def results(program: str, names: list[str]) -> Iterator[tap.Result]:
     lines = differences({"a": [10], "b": [1]}, one).replace("\n", "; ")
     yield tap.stated("a count less, a row more", lines, "a: [10] instructions, stored [10, 10]; b: it is there alone")
     yield tap.stated("a row less", differences({}, one), "a: it is there alone")
-    # without AVX2 libc's copies have other counts
-    if gone := tap.missing(["valgrind", "cpu:avx2"]):
+    # with another compiler or C library, and without AVX2, for its copies, the counts differ
+    [(compiler, library)] = re.findall(r"GCC ([\d.]+)\s+and glibc ([\d.]+\d)", page)
+    if gone := tap.missing(["valgrind", "cpu:avx2", f"cc={compiler}", f"ldd={library}"]):
         yield tap.left_out("the calls from C", gone)
         yield tap.left_out("the calls of crates/speed", gone)
         return
