@@ -103,8 +103,8 @@ expect "0\n1" "ran 'echo ok 1'; grep -c ' ms' out"
 expect 1 "ran 'echo not ok 1'"
 expect 1 "ran 'echo ok 1; exit 1'"
 expect 1 "ran ''"
-expect "0\nresults left out: 1, for want of b, why; see docs/ARCHITECTURE.md#tools\nResult: PASS" \
-  "ran 'echo \"ok 1 - a # SKIP no why, b\"'; tail -n 2 out"
+expect "0\nresults left out: 1, which need (see docs/ARCHITECTURE.md#tools)\n  b, why\nResult: PASS" \
+  "ran 'echo \"ok 1 - a # SKIP no why, b\"'; tail -n 3 out"
 expect "1\nResult: FAIL" "ran 'echo \"ok 1 - a # SKIP no why\"' '' --all; grep Result out"
 expect 0 "ran '[ \"\$ALL\" ] && echo ok 1' '' --all"
 expect 2 "ran 'echo ok 1' 'rm checks/rules.yml'"
