@@ -91,21 +91,23 @@ rejects_edits() {
 # built, and its tests fail.
 #   sees_faults LIST FOLDER "FILE.." BUILD TEST    these files are edited; the two commands get the path of the copy
 sees_faults() {
-  local edit edits ended file copy=$work/faults
+  local at edit edits ended file tried=0 copy=$work/faults
   cp -r "$2" "$copy"
   "$4" "$copy"
   "$5" "$copy"
-  sed '/^#/d' "$1" > "$work/edits"
-  [ -s "$work/edits" ]
-  mapfile -t edits < "$work/edits"
-  for edit in "${edits[@]}"; do
+  mapfile -t edits < "$1"
+  for at in "${!edits[@]}"; do
+    edit=${edits[at]}
+    [[ $edit != "#"* ]] || continue
+    tried=1
     for file in $3; do sed "$edit" "$2/$file" > "$copy/$file"; done
     run "$work/tested" "$4" "$copy"
-    [ "$ended" = 0 ] || { echo "not built: $edit"; tail "$work/tested"; }
+    [ "$ended" = 0 ] || { echo "$1:$((at + 1)): not built: $edit"; tail "$work/tested"; }
     run "$work/tested" "$5" "$copy"
-    [ "$ended" != 0 ] || echo "not seen: $edit"
+    [ "$ended" != 0 ] || echo "$1:$((at + 1)): not seen: $edit"
   done > "$work/unseen"
   diff /dev/null "$work/unseen"
+  [ $tried = 1 ]
 }
 
 # The first block of a page in a language.
