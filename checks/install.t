@@ -129,6 +129,7 @@ planted_prefix() {
 > ./more|touch more
 /lib/libmultihash_c.so|ln -sf none lib/libmultihash_c.so
 /multihash.h|chmod 755 include/multihash.h
+/include|chmod 777 include
 diff -r|echo >> share/doc/multihash_c/changelog
 > -L|sed -i 's,^libdir=.*,&/..,' lib/pkgconfig/multihash_c.pc
 < BIND_NOW|cc -shared -xc /dev/null -o lib/libmultihash_c.so.?.*
@@ -190,20 +191,18 @@ with_flags() {
   rejects 'No tests were found' build flags
   rejects "> multihash_more" exports_exactly "$work/flags/libmultihash_c.so" \
     <(sed s/_head/_more/ bindings/c/src/multihash_c.map)
-  rejects "another number of functions than it says" exports_exactly "$work/flags/libmultihash_c.so" \
-    <(sed 's/# [0-9]* functions/# 99 functions/' bindings/c/src/multihash_c.map)
   install_built flags --prefix "$work/no pages"
   [ ! -e "$work/no pages/$man" ]
 }
 
 test_installation() {
-  try "building" build built -DCMAKE_INSTALL_PREFIX="$prefix"
-  try "installing" installs
+  ONLY='' try "building" build built -DCMAKE_INSTALL_PREFIX="$prefix"
+  ONLY='' try "installing" installs
   try "after edits" after_edits
   try "installing below a folder" installs_below
-  try "the portable source" from_source
+  ONLY='' try "the portable source" from_source
   try "a build for debugging" debug_build
-  try "packing" packs
+  ONLY='' try "packing" packs
   try "planted differences" planted_prefix
   try "the installed test of planted files" planted_test
   try "the installed test of nothing" rejects "no multihash_c.pc" bindings/c/examples/test.sh "$work/none"
@@ -277,8 +276,8 @@ in_go() {
   go run . | diff <(echo 'code 18, digest abc') -
 }
 
-# Each page of a function is that of the library, which has the words of the header's comments, each function, and the
-# date of the version. Literal blocks alone have ` or *.
+# Each page of a function is that of the library, which has the sentences of the header's comments, each function, and
+# the date of the version. Literal blocks alone have ` or *.
 man_pages() {
   mandoc -T lint man3/multihash.3 "$top/crates/mh_show/mh_show.1"
   grep -Lx '.so man3/multihash.3' man3/* | diff <(echo man3/multihash.3) -
@@ -286,15 +285,16 @@ man_pages() {
   sed '/^\.Bd/,/^\.Ed/d; /^\.F/d' man3/multihash.3 "$top/crates/mh_show/mh_show.1" | tr -cd '`*' | diff /dev/null -
   mandoc -T utf8 man3/multihash.3 | sed 's/.\x08//g' > "$work/page"
   grep -F "$(date -d "$released" '+%B %-d, %Y')" "$work/page"
-  tr '\n' ' ' < "$header" | grep -oP '/\*.*?\*/' | grep -oE '\w+' | sort -u > "$work/words"
-  grep -oE '\w+' "$work/page" | sort -u | comm -23 "$work/words" - | diff /dev/null -
+  grep -oE '\w+' "$work/page" | paste -sd ' ' > "$work/words"
+  tr '\n' ' ' < "$header" | grep -oP '/\*.*?\*/' | sed -E 's/[.:] |  - |\*\/|\*  /\n/g' | sed -E 's/\W+/ /g; s/^ | $//g' |
+    awk 'NR == FNR { page = $0; next } !index(page, $0)' "$work/words" - | diff /dev/null -
 }
 
 # Debian's packages have the pages, so Python is there when they are built.
 pages() {
   cd "$prefix/share/man"
   man_pages
-  grep -x 'Build-Depends: cmake, debhelper-compat (= 13), python3' "$top/bindings/c/debian/control"
+  grep -wE '^Build-Depends:.* python3' "$top/bindings/c/debian/control"
   cd "$work"
   python3 <(sed 's/(words)/&[9:]/' "$top/bindings/c/man.py") "$header" "$top/CHANGES" man3
   rejects "> " man_pages

@@ -16,7 +16,10 @@ in_crate() {
 
 # Runs tests, of which there are some. None is left out, and neither Cargo nor a build script warns.
 tests() {
-  in_crate "$@" -- --show-output 2>&1 | tee "$work/tests"
+  local ended
+  run "$work/tests" in_crate "$@" -- --show-output
+  tail -n 50 "$work/tests"
+  [ "$ended" = 0 ]
   grep '^test result: ok\. [1-9]' "$work/tests"
   awk '/^(warning|left out)/' "$work/tests" | diff /dev/null -
 }
@@ -216,6 +219,7 @@ rust_build() {
   rejects "not an absolute path" in_crate MULTIHASH_C_SYSTEM=1 MULTIHASH_C_LIB_DIR=prebuilt cargo build
 }
 
+in_crate true # makes the copy
 try "the tests" rust_binding
 try "the portable source" rust_source
 needs=clang try "the portable source for other targets" rust_targets

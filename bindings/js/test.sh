@@ -189,7 +189,7 @@ needs="--all $node npm" try "faults" sees_faults "$here/tests/faults.sed" "$here
   imported npm_test
 needs=$node try "plain JavaScript" plain
 needs=$node try "old engines" old_engine
-needs="$node npm" try "the packed package's script" packed_script
+ONLY='' needs="$node npm" try "the packed package's script" packed_script
 needs="$node npm tsc" try "the packed package's types" packed_types
 test_browser chromium chromium
 needs="$node chromium" try "another text than the demo page's" rejects "1 passed, 3 failed" another_text chromium

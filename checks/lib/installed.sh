@@ -49,11 +49,9 @@ has_flags() {
       printf '%s\n' "${flags[@]:2}")
 }
 
-# A shared library exports the functions of the header, each with its version of a map, whose versions have as many
-# functions as they say.
+# A shared library exports the functions of the header, each with its version of a map.
 exports_exactly() {
-  awk '/^MULTIHASH_C/ { node = $1; left = $4 } /^    multihash_/ { sub(/;/, "", $1); print $1 "@@" node; left-- }
-    /^}/ && left { print "another number of functions than it says: " node > "/dev/stderr"; exit 1 }' "$2" | sort \
+  awk '/^MULTIHASH_C/ { node = $1 } /^    multihash_/ { sub(/;/, "", $1); print $1 "@@" node }' "$2" | sort \
     > "$work/versions"
   sed 's/@.*//' "$work/versions" | diff <(checks/header.t --exports) -
   readelf -W --dyn-syms "$1" | awk '$7 ~ /^[0-9]+$/ && $4 != "SECTION" { print $8 }' | sort | diff "$work/versions" -
