@@ -33,7 +33,7 @@ CONDITIONS = ["ifndef MULTIHASH_H", "ifdef __cplusplus", "ifdef __cplusplus"]
 TYPES = {"u32": "uint32_t", "u64": "uint64_t", "i32": "int32_t", "usize": "size_t"}
 
 # The files that are compared.
-RUST, PYTHON, JS = "bindings/rust/multihash_c", "bindings/python/verified_multihash", "bindings/js"
+RUST, PYTHON, JS = "bindings/rust/multihash_c", "bindings/python/src/verified_multihash", "bindings/js"
 PATTERNS = (
     HEADER,
     MAP,

@@ -24,7 +24,7 @@ LINES = (
     (HEADER, "#define MULTIHASH_VERSION_NUMBER {number}\n"),
     ("bindings/js/core.js", "export const version = '{version}';"),
     ("bindings/js/package.json", '"version": "{version}",'),
-    ("bindings/python/verified_multihash/__init__.py", '__version__ = "{version}"'),
+    ("bindings/python/src/verified_multihash/__init__.py", '__version__ = "{version}"'),
     ("bindings/rust/multihash/Cargo.toml", 'multihash_c = {{ version = "{version}",'),
     ("bindings/rust/multihash_c/Cargo.toml", 'version = "{version}"'),
     ("crates/multihash_c/specs/Version.antt", "\nmajor = {major}\n"),

@@ -1,6 +1,6 @@
 """Times of each call beside plain Python with the same checks: the least CPU time of each in turns.
 
-    python3 -I beside_plain.py   prints a table; the status is 1 if a call takes too long
+    python3 -I beside_plain.py   prints a table; the status is 1 if a call takes longer than in plain Python
 
 Before that the results of both are compared.
 """
@@ -14,7 +14,6 @@ from typing import Any, BinaryIO, Callable, Dict, Iterator, NamedTuple, Optional
 import verified_multihash as vm
 
 ROUNDS, CALLS = 40, 2000
-LIMIT = 0.6  # of a share: times vary, so it is more than each share
 DATA = bytes([18, 32]) + bytes(range(32))
 VARINTS = [bytes.fromhex(it) for it in ("", "00", "80", "80" * 9, "8000", "ff7f", "ff" * 8 + "7f", "ff01", "8002")]
 
@@ -238,7 +237,7 @@ def main() -> int:
         rounds = [(nanoseconds(ours[name]), nanoseconds(plain[name]), nanoseconds(lambda: None)) for _ in range(ROUNDS)]
         here, there, call = (min(times) for times in zip(*rounds))
         share = (here - call) / (there - call)
-        slow |= share > LIMIT
+        slow |= share > 1
         table += "| %s | %.2f µs | %.2f µs | %.2f |\n" % (name, (here - call) / 1e3, (there - call) / 1e3, share)
     print(table, end="")
     return slow

@@ -51,7 +51,7 @@ mkdir "$work/repository"
 tar -c --exclude='*.egg-info' -C "$here/../.." LICENSE bindings/python checks/lib/not_shown.txt \
   bindings/c/{include,src} crates/vectors/data | tar -x -C "$work/repository"
 build -s -o "$work" "$work/repository/bindings/python"
-name=verified_multihash-$(sed -n 's/^__version__ = "\(.*\)"$/\1/p' "$here/verified_multihash/__init__.py")
+name=verified_multihash-$(sed -n 's/^__version__ = "\(.*\)"$/\1/p' "$here/src/verified_multihash/__init__.py")
 mkdir "$work/$name"
 tar xf "$work"/*.tar.gz -C "$work/$name" --strip-components=1
 chmod -R u=rwX,go=rX "$work/$name"

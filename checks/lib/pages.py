@@ -31,7 +31,7 @@ DECLARED = (
     ("CMakeLists.txt", r"^#   ([A-Z_]+) ", "bindings/c/PACKAGING.md"),
     ("bindings/js/index.d.ts", r"^export (?:function|class) (\w+)", "bindings/js/README.md"),
     ("bindings/js/hashes.d.ts", r"^export (?:function|const) (\w+)", "bindings/js/README.md"),
-    ("bindings/python/verified_multihash/__init__.py", r"^    ([A-Z_]+) = [1-6]\b", "bindings/python/README.md"),
+    ("bindings/python/src/verified_multihash/__init__.py", r"^    ([A-Z_]+) = [1-6]\b", "bindings/python/README.md"),
     (f"{RUST}/Cargo.toml", r"^([\w-]+) = \[(?:\]|\"\w+\??/|\"dep:)", f"{RUST}/README.md"),
     ("crates/multihash/src/error.rt", r"pub fn (\w+)\(&self\)", FORMAT),
     ("crates.txt", r"^(\w+)[: ]", "docs/ARCHITECTURE.md"),

@@ -1,4 +1,12 @@
-# Faults of the package, each of which alone the tests have to see.
+# Faults of the package, each of which alone the tests have to see. Each of the first ones is seen by one file of tests
+# alone, so they show that each file is run.
+s/0xB240/0xB241/
+s/limit=64/limit=63/
+s/^    Py_DECREF(type);//
+s/"OK is/"It is/
+s/self._is_busy = True/pass/
+s/return found.taken + (s/return found.digest_length == 64 ? 1 : found.taken + (s/
+# With --all:
 s/PyBytes_CheckExact/PyBytes_Check/
 s/1) return result_of.*/1) return PyBytes_FromString("01234567");/
 s/PyUnicode_InternFromString(text)/PyUnicode_FromString(text)/
@@ -29,7 +37,6 @@ s/^int get_input/__attribute__((visibility("default"))) &/
 s/if ((read = .*NULL)/& PyErr_SetNone(PyExc_TypeError);\nif (read == NULL)/
 s/it->limit = limit/& + (limit == 3)/
 s/^    Py_VISIT.*->read);//
-s/return found.taken + (s/return found.digest_length == 64 ? 1 : found.taken + (s/
 s/"not initialized"/"initialized"/
 s/wanted((reader_object \*)self) < 0/0/
 s/it->is_busy) {/it->module == NULL) {/
@@ -38,7 +45,6 @@ s/"the file has/"it has/
 s/read(%zu)/it (%zu)/
 s/it->rest, (Py_ssize_t)it->length/& % 4/
 s/return \(new_multihash(type, n.*\);/PyObject *made = \1;\nPy_XINCREF(made);\nreturn made;/
-s/^    Py_DECREF(type);//
 s/type)) Py_RETURN_NOTIMPLEMENTED/type)) Py_RETURN_FALSE/
 s/0, operation)/0, operation ^ (Py_TYPE(left) != Py_TYPE(right)))/
 s/PyObject_Hash(it->digest)/PyObject_HasAttrString(self, "__dict__")/
@@ -48,10 +54,8 @@ s/, "hex")/, "title")/
 s/encode(((multihash_object \*)self)->number/& + 1/
 s/READONLY, "The code/0, "The code/
 s/"read", "read_from"/"read_from"/
-s/"OK is/"It is/
 s/, self.taken)))$/, 0)))/
 s/self._is_busy = False/pass/
-s/self._is_busy = True/pass/
 s/return self$/return self.again()/
 s/in (Status.IN.*/is Status.NO_ROOM/
 s/(self.status, size, code, taken)/(self.status, size, code)/
@@ -59,17 +63,16 @@ s/not isinstance(error/isinstance(error/
 s/"the file does/"it does/
 s/read_once(file, limit)$/& or False/
 s/MOST_INPUT = 65536/MOST_INPUT = 65535/
-s/limit=64/limit=63/
 s/"--help"/"--shown"/
-s/0xB240/0xB241/
+s/{code: name for name/{code: code for name/
 s/range(1, 65)/range(1, 64)/
 s/ in hashlib.algorithms_available/ in ()/
 s/int(bits) \/\/ 4/int(bits) \/\/ 8/
 s/"sha2-224": 0x1013/"sha2-224": 0x1012/
-s/{code: name for name/{code: code for name/
 s/name not in CODES/name is None/
 s/code not in NAMES/code < 0/
 s/compare_digest(claimed.digest, _hashed(data, NAMES\[claimed.code\]))/compare_digest(claimed.digest[:9], _hashed(data, NAMES[claimed.code])[:9])/
 s/, text) :/, text) + 1 :/
 s/return 1$/return 2/
 s/argv\[1:\] else/argv[2:] else/
+s/hash == -1 ? -2 : hash/hash/

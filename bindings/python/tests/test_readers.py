@@ -69,8 +69,9 @@ class Readers(unittest.TestCase):
             for file, error, text in wrong:
                 self.assertRaisesRegex(error, text, kind(file).read)
             reading, writing = os.pipe()
+            os.set_blocking(reading, False)
             with open(reading, "rb", 0) as source, open(writing, "wb", 0) as sink:
-                sink.write(b"\x01\x03abc")  # the pipe stays open: a byte too many would be waited for
+                sink.write(b"\x01\x03abc")  # the pipe stays open: for a byte too many it has none
                 self.assertEqual(kind(source).read().digest, b"abc")
 
     def test_waiting_files(self):

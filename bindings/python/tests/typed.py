@@ -1,0 +1,80 @@
+"""Lines that mypy --strict accepts, and lines that it rejects: an unused `# type: ignore` is an error of its own."""
+import asyncio
+import io
+from array import array
+from typing import List, Mapping, Optional, Tuple
+
+import verified_multihash as vm
+from typing_extensions import assert_type
+from verified_multihash import Multihash, Status, hashes
+
+DATA = b"\x12\0"
+multihash = vm.decode(DATA)
+assert_type(multihash, Multihash)
+assert_type(vm.decode(memoryview(DATA)), Multihash)
+vm.decode("1200")  # type: ignore[arg-type]
+assert_type(vm.read(bytearray(DATA), limit=64), Tuple[Multihash, int])
+vm.read(DATA, "64")  # type: ignore[arg-type]
+assert_type(vm.head(array("B", DATA)), vm.Head)
+assert_type((vm.head(DATA).code, vm.head(DATA).digest_length, vm.head(DATA).length), Tuple[int, int, int])
+vm.head([18, 0])  # type: ignore[arg-type]
+assert_type(vm.encode(18, DATA), bytes)
+vm.encode(18, 32)  # type: ignore[arg-type]
+assert_type(vm.encoded_len(18, 32), int)
+vm.encoded_len(18, DATA)  # type: ignore[arg-type]
+assert_type(vm.compare(multihash, multihash), int)
+vm.compare(multihash, DATA)  # type: ignore[arg-type]
+assert_type(vm.scale_decode(DATA), Tuple[Multihash, int])
+vm.scale_decode(9)  # type: ignore[arg-type]
+assert_type(vm.scale_encode(18, DATA), bytes)
+vm.scale_encode("sha2-256", DATA)  # type: ignore[arg-type]
+assert_type((vm.DIGEST_MAX, vm.HEAD_MAX, vm.LENGTH_MAX, vm.SCALE_LENGTH_MAX), Tuple[int, int, int, int])
+assert_type(vm.__version__, str)
+
+
+class Sha256(Multihash):
+    pass
+
+
+assert_type(Multihash(18, DATA), Multihash)
+assert_type(Sha256(18, digest=DATA), Sha256)
+Multihash("sha2-256", DATA)  # type: ignore[arg-type]
+assert_type((multihash.code, multihash.digest), Tuple[int, bytes])
+multihash.code = 2  # type: ignore[misc]
+multihash.digest = DATA  # type: ignore[misc]
+assert_type((multihash.hexdigest(), bytes(multihash), hash(multihash)), Tuple[str, bytes, int])
+assert_type((multihash < multihash, multihash >= multihash), Tuple[bool, bool])
+multihash < DATA  # type: ignore[operator]
+
+error: ValueError = vm.MultihashError(4, 256)
+vm.MultihashError("overflow")  # type: ignore[arg-type]
+if isinstance(error, vm.MultihashError):
+    assert_type((error.status, error.is_incomplete), Tuple[Status, bool])
+    assert_type((error.size, error.code, error.taken), Tuple[int, int, int])
+
+reader = vm.MultihashReader(io.BytesIO(DATA), limit=64)
+assert_type(reader.read(), Optional[Multihash])
+reader.read().code  # type: ignore[union-attr]
+assert_type((next(reader), list(reader)), Tuple[Multihash, List[Multihash]])
+assert_type(reader.rest, bytes)
+reader.rest = DATA  # type: ignore[misc]
+vm.MultihashReader("name")  # type: ignore[arg-type]
+assert_type(vm.read_from(io.BytesIO(DATA), limit=64), Optional[Multihash])
+vm.read_from("name")  # type: ignore[arg-type]
+
+
+async def read(stream: asyncio.StreamReader) -> None:
+    waiting = vm.AsyncMultihashReader(stream, limit=64)
+    assert_type(await waiting.read(), Optional[Multihash])
+    (await waiting.read()).code  # type: ignore[union-attr]
+    async for each in waiting:
+        assert_type(each, Multihash)
+    vm.AsyncMultihashReader(io.BytesIO(DATA))  # type: ignore[arg-type]
+
+
+assert_type(hashes.digest(DATA, "sha2-256"), Multihash)
+hashes.digest("abc", "sha2-256")  # type: ignore[arg-type]
+assert_type((hashes.verify(multihash, DATA), hashes.verify(DATA, DATA)), Tuple[bool, bool])
+hashes.verify("1200", DATA)  # type: ignore[arg-type]
+assert_type((hashes.CODES, hashes.NAMES), Tuple[Mapping[str, int], Mapping[int, str]])
+hashes.CODES["sha2-256"] = 3  # type: ignore[index]
