@@ -236,7 +236,7 @@ sees() {
   sees_faults "$1" "$work/sdist" "$(cd "$work/sdist"; echo src/*.c src/verified_multihash/*.py)" builds_in_place \
     tests_in_place
 }
-sed '/^# With --all/,$d' "$here/tests/faults.sed" > "$work/few"
-try "faults" sees "$work/few"
+sed '/^# With --all/,$d' "$here/tests/faults.sed" > "$work/faults.sed"
+try "faults" sees "$work/faults.sed"
 needs=--all try "all faults" sees "$here/tests/faults.sed"
 finish

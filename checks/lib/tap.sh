@@ -87,11 +87,12 @@ rejects_edits() {
   done
 }
 
-# A copy of a folder, "$work/faults", is built, and its tests pass. With each line of a list, an edit of sed, alone, it is
-# built, and its tests fail.
+# A copy of a folder, "$work/faults", is built, and its tests pass. With each line of a list, an edit of sed, alone, it
+# is built, and its tests fail.
 #   sees_faults LIST FOLDER "FILE.." BUILD TEST    these files are edited; the two commands get the path of the copy
 sees_faults() {
   local at edit edits ended file tried=0 copy=$work/faults
+  rm -rf "$copy"
   cp -r "$2" "$copy"
   "$4" "$copy"
   "$5" "$copy"

@@ -1,4 +1,14 @@
-# Faults of core.js, api.js, index.js and hashes.js, each of which alone the tests have to see.
+# Faults of the package, each of which alone the tests have to see. Each of the first ones is seen by one file of tests
+# alone, so they show that each file is run.
+/^await connectLater/,$s/^export.*//
+/^connect(Uint8/,$s/^export.*//
+/^export function connect/,$s/^export \*.*//
+s/failure(words.6./& \& 7/
+s/^        this.release();//
+s/difference |=/difference =/
+/throws, before a copy/d
+s/source.destroy();/;/
+# With --all:
 s/new TypeError(/new Error(1 + /
 s/: status/: code/
 s/{ cause },//
@@ -19,7 +29,6 @@ s/TE.includes(this/TE[0].includes(this/
 s/writable: true, //
 s/? wide(2)/? words[2] % 31/
 s/(given.*undefined/words[4] : {}.code/
-/throws, before a copy/d
 s/copy = /&!digest.byteOffset ? digest : /
 s/size = digest.length/& % 32/
 s/encode(this/this.kept ??= &/
@@ -30,7 +39,6 @@ s/index = 0/index = 1/
 s/n this;/n { ...this };/
 0,/taken: words.10./s//& % 34/
 s/taken: words.6./& % bytes.length/
-s/failure(words.6./& \& 7/
 s/scale_encode(resultAt, number/& \& 255n/
 s/put(rightDigest/put(right.digest/
 s/rightCode, \(s.*\)right/leftCode, \1left/
@@ -40,11 +48,9 @@ s/'the code/'code/
 s/throw e.*/throw Error(1);/
 s/this.#isReleased = true//
 s/this.#stop?.();//
-s/source.destroy();/;/
 s/hasFailed = true;//
 s/if (!hasFailed) await/await/
 s/if (!hasFailed) .*//
-s/^        this.release();//
 s/return new MultihashError/return new (class extends MultihashError {})/
 /connectTo(f/,/}/s/if (library !== unconnected) return;//
 s/get: askConnection //
@@ -59,5 +65,4 @@ s/0x13, 'SHA-512'/0x13, 'SHA-384'/
 s/code in algorithms/code >= 0/
 s/^  checkedLength(bytes);$//
 s/digest.length ^ wanted.length/0/
-s/difference |=/difference =/
 s/index = 0; index < wanted/index = 0; index + 1 < wanted/
