@@ -39,11 +39,15 @@ if [ -n "${OUT-}" ]; then
 fi
 OUT=$work/plain "$here/fuzz.sh"
 
-# Runs the target that was built in a folder: the seeds, and then drawn inputs up to a number. The log says how it ends.
+# Runs the target that was built in a folder: the seeds, and then drawn inputs up to a number. The log says how it ends,
+# after 300 seconds of CPU time at the latest.
 fuzz() {
   mkdir -p "$work/$1/drawn"
-  timeout 300 "$work/$1/multihash_fuzzer" -seed=1 -runs="$2" -len_control=0 -max_len=600 -artifact_prefix="$work/" \
-    "$work/$1/drawn" "$work/$1/seeds" 2>&1 | tee "$work/log" || true
+  {
+    ulimit -t 300
+    "$work/$1/multihash_fuzzer" -seed=1 -runs="$2" -len_control=0 -max_len=600 -artifact_prefix="$work/" \
+      "$work/$1/drawn" "$work/$1/seeds" 2>&1
+  } | tee "$work/log" || true
 }
 
 # The test allocates its inputs, and the library is built with both sanitizers.
