@@ -33,13 +33,12 @@ CONDITIONS = ["ifndef MULTIHASH_H", "ifdef __cplusplus", "ifdef __cplusplus"]
 TYPES = {"u32": "uint32_t", "u64": "uint64_t", "i32": "int32_t", "usize": "size_t"}
 
 # The files that are compared.
-RUST, PYTHON, JS = "bindings/rust/multihash_c", "bindings/python/src/verified_multihash", "bindings/js"
+PYTHON, JS = "bindings/python/src/verified_multihash", "bindings/js"
 PATTERNS = (
     HEADER,
     MAP,
     f"{CRATE}/src/**/*.rt",
     "crates/multihash/specs/Varint.antt",
-    f"{RUST}/src/**/*.rs",
     f"{PYTHON}/**/*.py",
     f"{JS}/core.js",
     f"{JS}/index.d.ts",
@@ -78,7 +77,6 @@ def group(form: str, text: str) -> str:
 def parameter(text: str) -> str:
     """Returns a parameter of an export in C: a slice is a pointer and a length."""
     name, _, kind = text.partition(": ")
-    kind = re.sub(r"\*(?:mut |(const ))u8", r"\1uint8_t *", kind)  # of Rust
     if slice_of := re.fullmatch(r"&(mut )?\[u8\]", kind):
         return f"{'' if slice_of[1] else 'const '}uint8_t *{name}, size_t {name}_length"
     return f"{'multihash_status' if name == 'status' else TYPES.get(kind, kind)} {name}"
@@ -179,10 +177,7 @@ def binding_errors(files: Files, crate: Declared) -> Iterator[str]:
     numbers = {**crate.statuses, **crate.lengths}
     statuses = re.findall(r"'(\w+)'", group(r"\nconst STATUSES = \[([^\]]*)\];\n", files[f"{JS}/core.js"]))
     of_script = {(name.upper(), str(at)) for at, name in enumerate(statuses)} | constants_of(files, JS, crate.lengths)
-    ffi = items(files[f"{RUST}/src/ffi.rs"])
-    functions = [it for item in ffi if item.kind == "extern" for it in item.members()]
     for name, found in (
-        ("Rust's numbers", constants_of(files, RUST, numbers)),
         ("Python's numbers", constants_of(files, PYTHON, numbers)),
         ("JavaScript's numbers", of_script),
     ):
@@ -191,8 +186,6 @@ def binding_errors(files: Files, crate: Declared) -> Iterator[str]:
     typed = re.findall(r"(?m)^  \| '(\w+)'", files[f"{JS}/index.d.ts"])
     if typed != statuses[1:]:
         yield f"index.d.ts has other statuses than core.js: {typed}"
-    for text in sorted({*declared(structs_of(ffi), functions)} - crate.declarations):
-        yield f"the crate does not have Rust's {text}"
     for later in re.findall(r"(?m)^MULTIHASH_C_(\S+) ", files[MAP]):
         if [*map(int, later.split("."))] > crate.version:
             yield f"{MAP} has a function of version {later}, which is later than the crate's"

@@ -1,6 +1,6 @@
 #!/usr/bin/env bash
 # What CMake builds, installs and packs of the library for C: its tests, its files, programs built against it, its man
-# pages and the packages for Rust, of the archives, in emulators for aarch64 and Windows, and of the portable source.
+# pages, of the archives, in emulators for aarch64 and Windows, and of the portable source.
 # shellcheck source=checks/lib/tap.sh
 . "$(dirname "$0")/lib/tap.sh"
 require cc cmake python3 readelf pkg-config
@@ -300,25 +300,11 @@ pages() {
   rejects "> " man_pages
 }
 
-# Runs a command of Cargo for the packages for Rust; what is set comes first.
-in_crate() {
-  env -u MULTIHASH_C_LIB_DIR MULTIHASH_C_SYSTEM=1 RUSTFLAGS="-D warnings" bindings/rust/offline.sh "$work" "$@"
-}
-
-# The tests with the shared library of the prefix, whose version is checked.
-rust_crate() {
-  local next=$((major + 1))
-  in_crate PKG_CONFIG_PATH="$prefix/lib/pkgconfig" LD_LIBRARY_PATH="$prefix/lib" cargo test
-  sed "s/^Version: .*/Version: $next.0.0/" "$prefix/lib/pkgconfig/multihash_c.pc" > "$work/multihash_c.pc"
-  rejects "multihash_c < $next" in_crate PKG_CONFIG_PATH="$work" cargo build
-}
-
 test_programs() {
   try "a project of CMake" by_find_package
   try "a folder of a project of CMake" by_subdirectory
   needs=go try "Go" in_go
   needs=mandoc try "man pages" pages
-  needs="cargo rustc=1.82+ $crates" try "the packages for Rust, as installed" rust_crate
 }
 
 test_installation

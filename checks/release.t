@@ -6,6 +6,7 @@ require cc cmake python3=3.11+ readelf pkg-config dpkg-buildpackage dh lintian /
 # shellcheck source=checks/lib/installed.sh
 . checks/lib/installed.sh
 upstream=$(sed -n 's/^version = "\(.*\)"/\1/p' bindings/rust/multihash/Cargo.toml)
+oldest=$(sed -n 's/^rust-version = "\(.*\)"/\1/p' bindings/rust/multihash/Cargo.toml)
 minor=$(sed -n 's/^requires-python = ">=3\.\(.*\)"/\1/p' bindings/python/pyproject.toml)
 
 # ---- packages for Debian
@@ -142,7 +143,7 @@ has_files() {
   cd "$1"
   sha256sum --check --strict --quiet SHA256SUMS
   printf '%s\n' libmultihash-c{"$major",-dev}_"$version-1"_{amd64,arm64}.deb "multihash-$version".{spdx.json,tar.gz} \
-    "multihash-$upstream.crate" "multihash_c-$version-"{aarch64,source,x86_64}.tar.gz "multihash_c-$version.crate" \
+    "multihash-$upstream.crate" "multihash_c-$version-"{aarch64,source,x86_64}.tar.gz \
     "verified-multihash-$version.tgz" "verified_multihash-$version.tar.gz" \
     "verified_multihash-$version-cp3$minor-abi3-manylinux2014_"{aarch64,x86_64}.whl | sort > "$work/files"
   sed 's/^[^ ]*  //' SHA256SUMS | sort | diff "$work/files" -
@@ -276,5 +277,5 @@ test_release() {
 }
 
 test_packages
-needs="aarch64-linux-gnu-gcc qemu-aarch64 cargo rustc=1.82+ $crates npm node=20.16+ $modules" test_release
+needs="aarch64-linux-gnu-gcc qemu-aarch64 cargo rustc=$oldest+ npm node=20.16+ $modules" test_release
 finish

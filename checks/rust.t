@@ -1,20 +1,23 @@
 #!/usr/bin/env bash
-# The packages for Rust: their tests, from a clone and as packed, in a program that uses upstream's package, and with
-# serde; and their build script.
+# The package for Rust: the module `proved` is the proved source without its contracts; the tests, from a clone, as
+# packed, beside the library for C and on other targets; programs over upstream's package; serde; instructions.
 # shellcheck source=checks/lib/tap.sh
 . "$(dirname "$0")/lib/tap.sh"
-oldest=$(sed -n 's/^rust-version = "\(.*\)"/\1/p' bindings/rust/Cargo.toml)
-require cc cargo "rustc=$oldest+" /usr/share/cargo/registry/{cc-1,pkg-config-0.3,serde_json-1}.*
-archive=bindings/c/prebuilt/$(uname -m)/libmultihash_c.a
-upstream=$(sed -n 's/^version = "\(.*\)"/\1/p' bindings/rust/multihash/Cargo.toml)
-version=$(sed -n 's/^#define MULTIHASH_VERSION "\([0-9.]*\)"$/\1/p' bindings/c/include/multihash.h)
+manifest=bindings/rust/multihash/Cargo.toml
+oldest=$(sed -n 's/^rust-version = "\(.*\)"/\1/p' $manifest)
+upstream=$(sed -n 's/^version = "\(.*\)"/\1/p' $manifest)
+crates="/usr/share/cargo/registry/serde_json-1.*"
+cargo="cargo rustc=$oldest+ $crates"
+bare="$cargo rustc=$(sed -n 's/^# .*Rust has to be \(.*\) or newer\.$/\1/p' $manifest)+" # without std
+rust=$(rustc --print sysroot 2> /dev/null)/lib/rustlib || rust=/none
+core=$rust/src/rust/library/core
 
-# Runs a command of Cargo for the packages for Rust; what is set comes first.
+# Runs a command of Cargo for the package; what is set comes first.
 in_crate() {
-  CARGO_NET_OFFLINE=true KEEP=1 RUSTFLAGS="-D warnings" RUSTDOCFLAGS="-D warnings" bindings/rust/offline.sh "$work" "$@"
+  KEEP=1 RUSTFLAGS="-D warnings" RUSTDOCFLAGS="-D warnings" bindings/rust/offline.sh "$work" "$@"
 }
 
-# Runs tests, of which there are some. None is left out, and neither Cargo nor a build script warns.
+# Runs tests, of which there are some. None is left out, and Cargo does not warn.
 tests() {
   local ended
   run "$work/tests" in_crate "$@" -- --show-output
@@ -27,94 +30,154 @@ tests() {
 # A command of Cargo prints this and nothing else, but for versions.
 prints_all() { in_crate "${@:2}" | sed 's/ v[0-9].*//' | diff - <(printf '%b\n' "$1"); }
 
-# The tests pass with and without features, the pages have no warnings, and need no library on docs.rs.
-rust_binding() {
-  local docs=(MULTIHASH_C_LIB_DIR=none cargo doc --no-deps)
-  in_crate DOCS_RS=1 "${docs[@]}"
-  rejects "not an absolute path" in_crate "${docs[@]}"
+# Each file is its source with characters removed, but for the lines that are added and the module in paths.
+only_removed() {
+  (cd "$1"; python3 - << 'END'
+import sys
+from pathlib import Path
+source, module = Path("crates/multihash/src"), Path("bindings/rust/multihash/src/proved")
+added = ("#[allow(unused_imports)]\nuse crate::proved::rattle::{std, *};\n", "pub mod rattle;\n\n")
+for path in {*module.rglob("*.rs")} - {module / "rattle.rs"}:
+    text = path.read_text()
+    for line in added:
+        text = text.replace(line, "", 1)
+    place = path.relative_to(module).with_suffix(".rt")
+    left = iter((source / ("lib.rt" if place.name == "mod.rt" else place)).read_text())
+    if not all(character in left for character in text.replace("crate::proved::", "crate::")):
+        sys.exit(f"{path} has what its source has not")
+END
+  )
+}
+
+# What the tool does not know, what is left of Rattle, and files that it does not write are errors.
+rust_erased() {
+  local copy=$work/erase module=bindings/rust/multihash/src/proved source=crates/multihash/src line
+  mkdir "$copy"
+  tar -c tools/erase checks/lib/rt_source.py $source $module | tar -x -C "$copy"
+  "$copy/tools/erase" --check
+  only_removed "$copy"
+  line=$(sed -n '/item.write(w)/=' $source/list.rt)
+  rejects_edits "$copy" "$work/planted/tools/erase" --check << END
+$source/list.rt:$line: no Rust: prove!(true)|sed -i '${line}i\\    prove!(true);' $source/list.rt
+$source/list.rt:$line: no Rust: ghost a|sed -i '${line}i\\    ghost a;' $source/list.rt
+$source/list.rt:$line: no Rust: ≤ 2|sed -i '${line}i\\    let a = 1 ≤ 2;' $source/list.rt
+$source/list.rt:1: no known item: law planted|sed -i '1i\\law planted {\\n}' $source/list.rt
+$source/notes.txt:1: no source|echo > $source/notes.txt
+writes: $module/new.rs|echo '// new' > $source/new.rt
+writes: $module/old.rs|echo > $module/old.rs
+writes: $module/head.rs|echo >> $module/head.rs
+END
+  rejects "head.rs has what" only_removed "$work/planted"
+}
+
+# The tests pass, optimized too, and the pages have no warnings. Without features it depends on nothing.
+rust_tests() {
+  in_crate cargo doc --no-deps --features serde
+  tests cargo test
+  tests cargo test --features serde --release
+  prints_all "multihash" cargo tree -e no-dev,features --no-default-features
+}
+
+without_std() {
   tests cargo test --no-default-features
-  tests cargo test
-  prints_all "multihash" cargo tree -p multihash -e normal,features
+  tests cargo test --no-default-features --features alloc
 }
 
-# The tests over the sources of a folder, as words after 'cargo test'.
-test_sources() {
-  in_crate RUSTFLAGS= cargo test --features serde --tests "${@:2}"
-  in_crate RUSTFLAGS= cargo test --no-default-features --tests "${@:2}"
-}
-build_sources() {
-  local file copy=$work/repository/bindings/rust
-  in_crate true
-  for file in $sources; do cmp -s "$1/$file" "$copy/$file" || cp "$1/$file" "$copy/$file"; done
-  test_sources "$1" --no-run
+# With Debian's own Rust, where another one comes first in PATH.
+rust_of_debian() {
+  tests PATH=/usr/bin:/bin CARGO_TARGET_DIR="$work/debian" cargo test --features serde
 }
 
-# A clone without archives has the portable source, each file of which is watched, and uses the compiler that CC names.
-rust_source() {
-  local c=$work/repository/bindings/c file
-  mv "$c/prebuilt" "$work/kept"
-  tests cargo test
-  [[ $(cat "$work"/target/debug/build/multihash_c-*/output) = *'"-O2"'*'/include" "-std=c11" "-o"'* ]]
-  for file in "$c"/src/*.[ch] "$c"/include/*; do
-    cp -p "$file" "$work/file"
-    echo '#error planted' >> "$file"
-    rejects "#error planted" in_crate cargo build
-    cp -p "$work/file" "$file"
-    in_crate cargo build
-  done
-  in_crate cargo clean -p multihash_c
-  rejects "no-compiler" in_crate CC=no-compiler cargo build
-  rejects '"/std:c11"' in_crate CC=clang-cl cargo build -p multihash_c --target x86_64-pc-windows-msvc
-  mv "$work/kept" "$c/prebuilt"
+# Compiles a program of bindings/rust/tests over the package, for a target, with further words for rustc.
+compile() {
+  local library=$work/target/$2/release/libmultihash.rlib
+  MULTIHASH_VERDICTS=$PWD/crates/vectors/data/verdicts.tsv rustc --edition 2021 -D warnings -O --target "$2" \
+    "bindings/rust/tests/$1.rs" --extern multihash="$library" -L "${library%/*}/deps" "${@:3}"
 }
 
-# Another compiler builds it where the system, the byte order or the width of addresses is another than the archive of
-# the processor is for. Rust's core for these is not installed here.
-rust_targets() {
-  local target flags
-  for target in thumbv7em-none-eabi wasm32-unknown-unknown x86_64-unknown-none \
-    aarch64_be-unknown-linux-gnu x86_64-unknown-linux-gnux32; do
-    flags=
-    [[ $target != *-linux-* ]] || flags=-ffreestanding # here it has no headers of a C library
-    rejects "can't find crate for \`core\`" in_crate CC=clang AR=ar CFLAGS=$flags cargo build -p multihash_c \
-      --no-default-features --target "$target"
-    find "$work/target/$target" -name '*multihash.o' | grep .
+# The library for C, an archive of the kit or the portable source, does what the package does, also unoptimized, where
+# sums that overflow are errors. What runs a program of the target comes last.
+beside_c() {
+  local flags
+  in_crate cargo build --release --target "$1"
+  for flags in "" "-C opt-level=0 -C overflow-checks -C debug-assertions"; do
+    # shellcheck disable=SC2086 # words
+    compile beside_c "$1" --test -L "$2" -l static=multihash_c -C linker="$3" -o "$work/beside_c" $flags
+    "${@:4}" "$work/beside_c"
   done
 }
 
-# What is packed is not of an earlier copy or build, and uses no repository: it has archives, else the portable source.
+beside_archive() { beside_c "$(uname -m)-unknown-linux-gnu" "bindings/c/prebuilt/$(uname -m)" cc; }
+
+# On a target with another byte order or word, by an emulator, the tests and those beside portable C.
+beside_portable() {
+  local variable=CARGO_TARGET_${1^^}
+  variable=${variable//-/_}
+  "$2" -c -O2 -std=c11 -I bindings/c/include bindings/c/src/multihash.c -o "$work/multihash.o"
+  rm -f "$work/libmultihash_c.a"
+  ar rc "$work/libmultihash_c.a" "$work/multihash.o"
+  beside_c "$1" "$work" "$2" "${@:3}"
+  tests "${variable}_LINKER=$2" "${variable}_RUNNER=${*:3}" cargo test --release --target "$1" --tests
+}
+
+# Rust's core for a target that the compiler has none for, of its source.
+make_core() {
+  local edition to=$work/target/$1/release/deps
+  edition=$(sed -n 's/^edition = "\(.*\)"/\1/p' "$core/Cargo.toml")
+  local make=(env RUSTC_BOOTSTRAP=1 rustc --crate-type rlib --target "$1" -C panic=abort -C opt-level=1
+    --cap-lints allow -L "$to" --out-dir "$to")
+  mkdir -p "$to"
+  "${make[@]}" --edition "$edition" --crate-name core "$core/src/lib.rs"
+  "${make[@]}" --crate-name compiler_builtins - <<< '#![feature(compiler_builtins)] #![compiler_builtins] #![no_std]'
+}
+
+# The test vectors on a target, without std: as a library for a host, which prints their number.
+on_target() {
+  local target=$1 type=$2 linker=()
+  [ "$type" != cdylib ] || linker=(-C linker=wasm-ld)
+  compgen -G "$rust/$target/lib/libcore-*.rlib" || make_core "$target"
+  in_crate RUSTFLAGS="-L $work/target/$target/release/deps" \
+    cargo build --release --no-default-features --target "$target"
+  compile target "$target" --crate-type "$type" -C panic=abort -o "$work/vectors" "${linker[@]}"
+  "${@:3}" | diff - <(sed 1d crates/vectors/data/verdicts.tsv | wc -l)
+}
+
+in_emulator() {
+  printf '%s\n' '#include <stdio.h>' 'unsigned check_vectors(void);' \
+    'int main(void) { printf("%u\n", check_vectors()); }' > "$work/host.c"
+  "$1-gcc" -static -Wl,--no-warn-mismatch -x c "$work/host.c" -x none "$work/vectors" -o "$work/host"
+  "$2" "$work/host"
+}
+
+in_node() {
+  node -e 'WebAssembly.instantiate(require("fs").readFileSync(process.argv[1]), { env: { abort() {
+    throw new Error("abort") } } }).then(({ instance }) => console.log(instance.exports.check_vectors()))' \
+    "$work/vectors"
+}
+
+# What is packed is not of an earlier copy or build, and uses no repository.
 rust_packed() {
-  local packed=$work/packed clone=$work/clone package
-  touch "$work/repository/bindings/rust/multihash/src/old.rs"
-  mkdir -p "$packed" "$clone" "$work"/c/{src,prebuilt/"$(uname -m)"}
-  touch "$work"/c/{src/multihash.c,prebuilt/"$(uname -m)"/libmultihash_c.a}
-  cp -r LICENSE bindings "$clone"
-  echo planted | tee "$clone"/bindings/rust/{Cargo.lock,target}
-  (cd "$work"; clone/bindings/rust/pack.sh .)
-  [ ! -e "$work/repository/bindings/rust/target" ]
-  for package in "multihash-$upstream" "multihash_c-$version"; do
-    tar xf "$work/target/package/$package.crate" -C "$packed"
-    cmp LICENSE "$packed/$package/LICENSE"
-  done
-  printf '[workspace]\n[patch.crates-io]\nmultihash_c.path = "../multihash_c-%s"\n' "$version" \
-    >> "$packed/multihash-$upstream/Cargo.toml"
-  [ ! -e "$packed/multihash-$upstream/src/old.rs" ]
-  diff -r bindings/c/prebuilt "$packed/multihash_c-$version/prebuilt"
-  tests CC=none cargo test --manifest-path "$packed/multihash-$upstream/Cargo.toml"
-  rm -r "$packed/multihash_c-$version/prebuilt"
-  tests cargo test --manifest-path "$packed/multihash-$upstream/Cargo.toml"
+  local packed=$work/packed
+  touch "$work/rust/multihash/src/old.rs"
+  (cd "$work"; "$OLDPWD/bindings/rust/pack.sh" .)
+  mkdir "$packed"
+  tar xf "$work/target/package/multihash-$upstream.crate" -C "$packed" --strip-components 1
+  cmp LICENSE "$packed/LICENSE"
+  [ ! -e "$packed/src/old.rs" ]
+  echo '[workspace]' >> "$packed/Cargo.toml"
+  tests cargo test --manifest-path "$packed/Cargo.toml"
 }
 
 # Writes a program over a library, both of which name upstream's package; the program has the line of the pages too.
 write_program() {
-  local at=$work/repository/bindings/rust/program
+  local at=$work/rust/program
   mkdir -p "$at"/{src,library/src}
   cd "$at"
   { block_of ../multihash/README.md toml | sed 's,path/of/bindings/rust,..,'; printf '%s\n' '[workspace]' \
-    '[package]' 'name = "program"' 'edition = "2021"' '[dependencies]' 'library.path = "library"' \
-    "multihash = \"${upstream%.*}\""; } > Cargo.toml
-  printf '%s\n' '[package]' 'name = "library"' 'edition = "2021"' '[features]' 'default = ["std"]' \
-    'std = ["multihash/std"]' '[dependencies]' \
+    '[package]' 'name = "program"' 'version = "0.0.0"' 'edition = "2021"' '[dependencies]' \
+    'library.path = "library"' "multihash = \"${upstream%.*}\""; } > Cargo.toml
+  printf '%s\n' '[package]' 'name = "library"' 'version = "0.0.0"' 'edition = "2021"' '[features]' \
+    'default = ["std"]' 'std = ["multihash/std"]' '[dependencies]' \
     "multihash = { version = \"$upstream\", default-features = false }" > library/Cargo.toml
   printf '%s\n' '#![no_std]' 'use multihash::{Error, Multihash};' \
     'pub fn read(bytes: &[u8]) -> Result<Multihash<64>, Error> { Multihash::read(bytes) }' > library/src/lib.rs
@@ -129,19 +192,22 @@ END
 
 # The line of the pages replaces upstream's package in a whole dependency graph. An absent feature is an error.
 rust_switch() {
-  local feature
+  local feature program="cargo run --manifest-path ../program/Cargo.toml"
   (write_program)
-  prints_all "input bytes exceed maximum" cargo run --manifest-path program/Cargo.toml
-  rejects "> more" prints_all "input bytes exceed maximum\nmore" cargo run --manifest-path program/Cargo.toml
-  in_crate cargo build --manifest-path program/library/Cargo.toml --no-default-features
+  # shellcheck disable=SC2086 # words
+  {
+    prints_all "input bytes exceed maximum" $program
+    rejects "> more" prints_all "input bytes exceed maximum\nmore" $program
+  }
+  in_crate cargo build --manifest-path ../program/library/Cargo.toml --no-default-features
   for feature in scale-codec arb; do
-    rejects "features scale-codec and arb are absent" in_crate cargo build -p multihash --features "$feature"
+    rejects "features scale-codec and arb are absent" in_crate cargo build --features "$feature"
   done
 }
 
 # Bytes are no sequence of numbers for a format that has both.
 rust_serde() {
-  local example=$work/repository/bindings/rust/multihash/examples
+  local example=$work/rust/multihash/examples
   mkdir -p "$example"
   cat > "$example/bytes.rs" << 'END'
 use serde::{Serialize, Serializer};
@@ -154,32 +220,29 @@ fn main() {
 END
   prints "got a byte array" in_crate cargo run --features serde --example bytes
   rm -r "$example"
-  prints_all "multihash\n└── serde" \
-    cargo tree -p multihash -e normal,features --features serde-codec
-  tests cargo test --features serde --test values
-  in_crate cargo build -p multihash --no-default-features --features serde-codec
+  prints_all "multihash\n└── serde" cargo tree -e normal,features --features serde-codec
+  in_crate cargo build --no-default-features --features serde-codec
 }
 
 rust_lints() {
-  in_crate cargo clippy --all-targets
+  in_crate cargo clippy --all-targets --features serde
   in_crate cargo clippy --no-default-features --all-targets
 }
 
 # Beside the same package each share of instructions is 1. A wrong result is found.
 rust_counts() {
-  local copy=$work/repository/bindings/rust
-  in_crate ./beside_upstream.py multihash > "$work/shares"
+  in_crate ../beside_upstream.py . > "$work/shares"
   grep '^| Call' "$work/shares"
   sed -E '1,2d; /^\|[^|]*(\| 1\.00 to 1\.00 ){3}\|$/d' "$work/shares" | diff /dev/null -
-  sed -i "s/te(20)/te(19)/" "$copy/speed/main.rs"
-  rejects "truncate 1 20" in_crate ./beside_upstream.py multihash
+  sed -i "s/te(20)/te(19)/" "$work/rust/speed/main.rs"
+  rejects "truncate 1 20" in_crate ../beside_upstream.py .
 }
 
-# What the packages forbid is an error, and so is a warning of Cargo, or a test that is left out.
+# What the package forbids is an error, and so is a warning of Cargo, or a test that is left out.
 planted_warnings() {
   local file command text line
   while IFS=, read -r file command text line; do
-    file=$work/repository/bindings/rust/$file
+    file=$work/rust/multihash/$file
     cp "$file" "$work/file"
     echo "$line" >> "$file"
     [[ $command = tests* ]] || command="in_crate cargo $command"
@@ -187,50 +250,58 @@ planted_warnings() {
     rejects "$text" $command
     cp "$work/file" "$file"
   done << 'END'
-multihash/src/lib.rs,build,missing documentation,pub mod planted {}
-multihash/src/lib.rs,build,incompatible with previous forbid,#[allow(unsafe_code)] mod planted {}
-multihash/tests/values.rs,tests cargo test --test values,> left out,#[test] fn planted() { println!("left out") }
-multihash_c/src/lib.rs,build,usage of an `unsafe` block,const _: () = unsafe {};
-multihash/Cargo.toml,tests cargo test --features serde --test values,unused manifest key: planted,[planted]
+src/lib.rs,build,missing documentation,pub mod planted {}
+src/lib.rs,build,incompatible with previous forbid,#[allow(unsafe_code)] mod planted {}
+tests/values.rs,tests cargo test --test values,> left out,#[test] fn planted() { println!("left out") }
+Cargo.toml,tests cargo test --features serde --test values,unused manifest key: planted,[planted]
 END
 }
 
-# The archive is found in a directory of any name, and missed once it is gone. That of the source needs no compiler, and
-# is not another one. What is set to nothing is not set.
-rust_build() {
-  local directory=$work/$'a \xff directory' plain=$work/plain
-  mkdir "$directory" "$plain"
-  cp "$archive" "$directory"
-  cp "$archive" "$plain"
-  sed '0,/multihash/s//another_/' "$archive" > "$work/another.a"
-  tests MULTIHASH_C_LIB_DIR="$directory" cargo test -p multihash_c
-  in_crate MULTIHASH_C_LIB_DIR="$plain" cargo build
-  rm "$directory"/*
-  rejects "libmultihash_c.a: No such file" in_crate MULTIHASH_C_LIB_DIR="$directory" cargo build
-  in_crate MULTIHASH_C_LIB_DIR="$plain" cargo build
-  rm "$plain"/*
-  rejects "libmultihash_c.a: No such file" in_crate MULTIHASH_C_LIB_DIR="$plain" cargo build
-  in_crate CC=none MULTIHASH_C_LIB_DIR= MULTIHASH_C_SYSTEM= DOCS_RS= cargo test -p multihash_c
-  find "$work/repository" -path "*/$(uname -m)/*.a" -exec cp "$work/another.a" {} \;
-  rejects "not the archive of prebuilt/SHA256SUMS" in_crate cargo build
-  find "$work/repository" -path "*/$(uname -m)/*.a" -exec cp "$archive" {} \;
-  in_crate CC=none cargo build
-  rejects "multihash_c >= ${version%.*}" in_crate MULTIHASH_C_SYSTEM=1 PKG_CONFIG_LIBDIR="$work/none" cargo build
-  rejects "not an absolute path" in_crate MULTIHASH_C_SYSTEM=1 MULTIHASH_C_LIB_DIR=prebuilt cargo build
+# The tests over the sources of a folder, as words after 'cargo test'.
+test_sources() {
+  in_crate RUSTFLAGS= cargo test --features serde --tests "${@:2}"
+  in_crate RUSTFLAGS= cargo test --no-default-features --tests "${@:2}"
+}
+build_sources() {
+  local file
+  in_crate true
+  for file in $sources; do cmp -s "$1/$file" "$work/rust/$file" || cp "$1/$file" "$work/rust/$file"; done
+  test_sources "$1" --no-run
 }
 
+test_targets() {
+  local target system
+  for target in armv7-unknown-linux-gnueabihf s390x-unknown-linux-gnu; do
+    system=${target/v7-unknown/} system=${system/-unknown/}
+    needs="$cargo $rust/$target/lib/libstd-*.rlib $system-gcc qemu-${system%%-*}" try "the tests on $target" \
+      beside_portable $target "$system-gcc" "qemu-${system%%-*}" -L "/usr/$system"
+  done
+  for target in thumbv6m-none-eabi s390x-unknown-linux-gnu; do
+    system=${target/-unknown/} system=${system/thumbv6m-none-eabi/arm-linux-gnueabihf}
+    needs="$bare $(core_of $target) $system-gcc qemu-${system%%-*}" try "the vectors on $target" \
+      on_target $target staticlib in_emulator "$system" "qemu-${system%%-*}"
+  done
+  target=wasm32-unknown-unknown
+  needs="$bare $rust/$target/lib/libcore-*.rlib wasm-ld node" try "the vectors on $target" \
+    on_target $target cdylib in_node
+}
+
+# What has the core of a target: its source, or the compiler.
+core_of() { compgen -G "$core/src/lib.rs" || echo "$rust/$1/lib/libcore-*.rlib"; }
+
 in_crate true # makes the copy
-try "the tests" rust_binding
-try "the portable source" rust_source
-needs=clang try "the portable source for other targets" rust_targets
-try "the packed packages" rust_packed
-needs=$archive try "the build script" rust_build
-try "the switch from upstream's package" rust_switch
-try "serde" rust_serde
-needs=cargo-clippy try "lints" rust_lints
-needs=cargo-clippy try "a warning of each command" planted_warnings
-needs="python3=3.11+ valgrind /lib64/ld-linux-x86-64.so.2" try "instructions" rust_counts
-sources=$(cd bindings/rust; echo */src/*.rs)
-try "faults" sees_faults bindings/rust/tests/faults.sed bindings/rust "$sources" build_sources \
-  test_sources
+try "the proved source" rust_erased
+needs=$cargo try "the tests" rust_tests
+needs=$bare try "the tests without std" without_std
+needs="/usr/bin/cargo /usr/bin/rustc $crates" try "the tests with Debian's Rust" rust_of_debian
+needs="$cargo cc bindings/c/prebuilt/$(uname -m)/libmultihash_c.a" try "beside the library for C" beside_archive
+test_targets
+needs=$cargo try "the packed package" rust_packed
+needs=$bare try "the switch from upstream's package" rust_switch
+needs=$bare try "serde" rust_serde
+needs="$bare cargo-clippy" try "lints" rust_lints
+needs="$bare cargo-clippy" try "a warning of each command" planted_warnings
+needs="$cargo python3=3.11+ valgrind /lib64/ld-linux-x86-64.so.2" try "instructions" rust_counts
+sources=$(cd bindings/rust; find multihash/src -name '*.rs' | paste -sd ' ')
+needs=$bare try "faults" sees_faults bindings/rust/tests/faults.sed bindings/rust "$sources" build_sources test_sources
 finish

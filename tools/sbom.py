@@ -34,9 +34,9 @@ COPYRIGHT, OWNER = found(r"(Copyright .*\d{4} (.*))", (SOURCE / "LICENSE").read_
 MAKERS = dict(re.findall(r"(?m)^(\w+)=(.*)$", (SOURCE / "tools/makers").read_text()))
 # what the kit made, and the files of a release that have it, or were linked with it
 MADE = {
-    "bindings/c/prebuilt/x86_64/libmultihash_c.a": r"_x86_64\.|-x86_64\.|_amd64\.|multihash_c-[0-9.]*\.crate",
-    "bindings/c/prebuilt/aarch64/libmultihash_c.a": r"_aarch64\.|-aarch64\.|_arm64\.|multihash_c-[0-9.]*\.crate",
-    "bindings/c/src/module.h": r"-source\.|multihash_c-[0-9.]*\.crate|verified_multihash-[0-9.]*\.tar",
+    "bindings/c/prebuilt/x86_64/libmultihash_c.a": r"_x86_64\.|-x86_64\.|_amd64\.",
+    "bindings/c/prebuilt/aarch64/libmultihash_c.a": r"_aarch64\.|-aarch64\.|_arm64\.",
+    "bindings/c/src/module.h": r"-source\.|verified_multihash-[0-9.]*\.tar",
     "bindings/js/multihash.wasm": r"\.tgz$",
 }
 # what made two of them of what the kit linked

@@ -25,8 +25,6 @@ LINES = (
     ("bindings/js/core.js", "export const version = '{version}';"),
     ("bindings/js/package.json", '"version": "{version}",'),
     ("bindings/python/src/verified_multihash/__init__.py", '__version__ = "{version}"'),
-    ("bindings/rust/multihash/Cargo.toml", 'multihash_c = {{ version = "{version}",'),
-    ("bindings/rust/multihash_c/Cargo.toml", 'version = "{version}"'),
     ("crates/multihash_c/specs/Version.antt", "\nmajor = {major}\n"),
     ("crates/multihash_c/specs/Version.antt", "\nminor = {minor}\n"),
     ("crates/multihash_c/specs/Version.antt", "\npatch = {patch}\n"),

@@ -9,7 +9,6 @@ released=$(sed -n "s/^$version (\(.*\))/\1/p" CHANGES)
 expected=$top/crates/mh_show/stdout
 machine=$(uname -m)
 modules="/usr/include/python3*/Python.h python:build python:ensurepip python:setuptools python:wheel"
-crates=$(printf '/usr/share/cargo/registry/%s.* ' cc-1 pkg-config-0.3 serde_json-1)
 # The folders of an installation but that for libraries, which another one may have elsewhere.
 include=include document=share/doc/multihash_c man=share/man
 umask 022

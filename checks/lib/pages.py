@@ -38,7 +38,7 @@ DECLARED = (
 )
 # a version or a limit as pages state it, and where it is from
 STATED = (
-    (r"Rust (\d[\d.]*\d)", "bindings/rust/Cargo.toml", r'rust-version = "(.*)"'),
+    (r"Rust (\d[\d.]*\d)", f"{RUST}/Cargo.toml", r'rust-version = "(.*)"'),
     (r"CMake (\d[\d.]*\d)", "CMakeLists.txt", r"cmake_minimum_required\(VERSION (.*)\)"),
     (r"CPython (\d\.\d+)\b(?! on)", "bindings/python/pyproject.toml", r'requires-python = ">=(.*)"'),
     (r"Node\.js (\d+\.\d+)", "bindings/js/package.json", r'"node": ">=(.*)"'),

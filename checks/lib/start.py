@@ -19,12 +19,12 @@ FENCE = re.compile(r"^ *```(\S*)[^\n]*\n(.*?)^ *```$", re.M | re.S)
 ROW = re.compile(r"^\| \[(\w+)[^\]]*\]\(([^)]*)\) \| `([^`]+)` \|", re.M)
 HEAD = re.compile(r"(?://|#) (\S+): (.*)\n")
 SHOWN = "code 0, digest hello"
-REGISTRY = Path("/usr/share/cargo/registry")  # of Debian, for crates that the packages for Rust need
+OLDEST = re.findall(r'rust-version = "(.*)"', (TOP / "bindings/rust/multihash/Cargo.toml").read_text())[0]
 # what a program needs, in the forms of is_there.sh
 TOOLS = {
     "JavaScript": ("node=20.16+", "npm"),
     "Python": ("cc", "/usr/include/python3*/Python.h", "python:ensurepip", "python:setuptools", "python:wheel"),
-    "Rust": ("cargo", "rustc=1.82+", f"{REGISTRY}/cc-1.*", f"{REGISTRY}/pkg-config-0.3.*"),
+    "Rust": ("cargo", f"rustc={OLDEST}+"),
     "C": ("cc", "cmake", "pkg-config"),
     "Rattle": ("rt",),
 }
@@ -77,8 +77,7 @@ def prepare(program: Program, folder: Path) -> dict[str, str]:
     if language == "Rust":
         home = folder / "cargo"
         home.mkdir()
-        source = f"[source.crates-io]\nreplace-with = 'here'\n[source.here]\ndirectory = '{REGISTRY}'\n"
-        (home / "config.toml").write_text(f"[net]\noffline = true\n{source}", "utf-8")
+        (home / "config.toml").write_text("[net]\noffline = true\n", "utf-8")
         subprocess.run(["cargo", "init", "--quiet", "--name", "app"], cwd=folder, check=True)
         return {"CARGO_HOME": str(home)}
     if language == "C":

@@ -1,7 +1,7 @@
-use crate::io;
+use crate::{io, StdError};
 use core::fmt;
 
-/// Why a call failed. [`source`](core::error::Error::source) is the error of the reader or the writer, if one
+/// Why a call failed. [`source`](StdError::source) is the error of the reader or the writer, if one
 /// of these failed.
 #[derive(Debug)]
 pub struct Error {
@@ -85,8 +85,8 @@ impl fmt::Display for Error {
     }
 }
 
-impl core::error::Error for Error {
-    fn source(&self) -> Option<&(dyn core::error::Error + 'static)> {
+impl StdError for Error {
+    fn source(&self) -> Option<&(dyn StdError + 'static)> {
         match &self.kind {
             Kind::Io(error) => Some(error),
             _ => None,

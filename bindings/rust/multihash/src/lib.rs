@@ -8,13 +8,15 @@ compile_error!("the features scale-codec and arb are absent in this package of m
 
 #[cfg(feature = "alloc")]
 extern crate alloc;
+// Not by its own name, which is Rattle's `std` in `proved`: to Rust below 1.72 a path could be either.
 #[cfg(feature = "std")]
-extern crate std;
+extern crate std as host;
 
 mod error;
 mod multihash;
 #[cfg(not(feature = "std"))]
 pub mod no_std_io;
+/// The proved library, in Rattle, with its contracts removed: JSON and the module `laws` are not here.
 #[allow(dead_code, unstable_name_collisions, clippy::all)]
 pub mod proved;
 #[cfg(feature = "serde")]
@@ -22,12 +24,12 @@ mod serde;
 mod streams;
 
 #[cfg(not(feature = "std"))]
-use no_std_io as io;
+use {core::error::Error as StdError, no_std_io as io};
 #[cfg(feature = "std")]
-use std::io;
+use host::{error::Error as StdError, io};
 
-pub use error::Error;
-pub use multihash::Multihash;
+pub use crate::error::Error;
+pub use crate::multihash::Multihash;
 
 /// The result of a call.
 #[deprecated(note = "name the error: `Result<Value, multihash::Error>`")]

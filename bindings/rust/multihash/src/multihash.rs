@@ -1,11 +1,11 @@
 use crate::io::{Read, Write};
+use crate::proved::varint::MAX as CODE_MAX;
+use crate::proved::Multihash as Proved;
 use crate::streams::Kept;
 use crate::Error;
 use core::cmp::Ordering;
 use core::fmt;
 use core::hash::{Hash, Hasher};
-use crate::proved::varint::MAX as CODE_MAX;
-use crate::proved::Multihash as Proved;
 
 /// A code, which names the hash function, and a digest of at most `S` bytes.
 ///
@@ -181,5 +181,17 @@ impl<const S: usize> PartialOrd for Multihash<S> {
 impl<const S: usize> From<Multihash<S>> for alloc::vec::Vec<u8> {
     fn from(multihash: Multihash<S>) -> Self {
         multihash.to_bytes()
+    }
+}
+
+impl<const S: usize> From<Proved<S>> for Multihash<S> {
+    fn from(proved: Proved<S>) -> Self {
+        Self(proved)
+    }
+}
+
+impl<const S: usize> From<Multihash<S>> for Proved<S> {
+    fn from(multihash: Multihash<S>) -> Self {
+        multihash.0
     }
 }

@@ -92,7 +92,10 @@ impl Read for &[u8] {
     }
 
     fn read_exact(&mut self, buf: &mut [u8]) -> Result<(), Error> {
-        let (front, rest) = self.split_at_checked(buf.len()).ok_or(Error(Kind::UnexpectedEof))?;
+        if buf.len() > self.len() {
+            return Err(Error(Kind::UnexpectedEof));
+        }
+        let (front, rest) = self.split_at(buf.len());
         buf.copy_from_slice(front);
         *self = rest;
         Ok(())

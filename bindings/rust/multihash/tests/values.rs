@@ -1,17 +1,17 @@
 //! Values: what upstream's documentation shows, limits, order, hashes, texts, and hostile arguments.
 #![cfg(feature = "std")]
+use multihash::proved::no_std_io::SliceWriter;
+use multihash::proved::varint::{self, MAX as CODE_MAX};
+use multihash::proved::{self, Head};
 use multihash::{Error, Multihash};
-use multihash_c::{MultihashRef, DIGEST_MAX, LENGTH_MAX};
-use std::hash::{BuildHasher, BuildHasherDefault, DefaultHasher};
+use std::collections::hash_map::DefaultHasher;
+use std::hash::{Hash, Hasher};
 
-const CODE_MAX: u64 = (1 << 63) - 1;
+const DIGEST_MAX: usize = 255;
+const LENGTH_MAX: usize = 266;
 
 /// `wrap` in a constant.
 const WRAPPED: Result<Multihash<64>, Error> = Multihash::wrap(0x12, b"abc");
-
-fn as_ref<const S: usize>(it: &Multihash<S>) -> MultihashRef<'_> {
-    MultihashRef::wrap(it.code(), it.digest()).expect("each value has a valid code and digest")
-}
 
 fn of<const S: usize>(code: u64, digest: &[u8]) -> Multihash<S> {
     Multihash::wrap(code, digest).expect("it fits")
@@ -34,7 +34,7 @@ fn parts() {
     assert_eq!(multihash.into_inner().1[..4], *b"abc\0");
     assert_eq!(Multihash::<3>::default().into_inner(), (0, [0; 3], 0));
     assert_eq!(Multihash::<0>::default(), Multihash::<64>::default());
-    assert_eq!(size_of::<Multihash<64>>(), 80);
+    assert_eq!(std::mem::size_of::<Multihash<64>>(), 80);
     assert_eq!(
         format!("{:?}", of::<4>(18, &[0, 255])),
         "Multihash { code: 18, size: 2, digest: [0, 255, 0, 0] }"
@@ -67,29 +67,75 @@ fn sizes() {
     assert_eq!((short.1, short.2), (std::array::from_fn(|at| if at < 20 { 7 } else { 0 }), 20));
 }
 
-/// The order, equality and hashes of values with other capacities, made by `truncate` or borrowed.
+fn hash_of(value: impl Hash) -> u64 {
+    let mut hasher = DefaultHasher::new();
+    value.hash(&mut hasher);
+    hasher.finish()
+}
+
+/// The order, equality and hashes of values with other capacities, made by `truncate`, and of proved ones.
 #[test]
 fn order_and_hash() {
     let sorted = [(0, "zz"), (1, "b"), (1, "ab"), (1, "bb"), (255, ""), (256, "")];
-    let hasher = BuildHasherDefault::<DefaultHasher>::default();
     let all = sorted.map(|(code, digest)| of::<2>(code, digest.as_bytes()));
     for (at, left) in all.into_iter().enumerate() {
         for (to, right) in all.into_iter().enumerate() {
             let longer = of::<7>(right.code(), &[right.digest(), b"zzz"].concat()).truncate(right.size());
-            let encoding = right.to_bytes();
-            let borrowed = MultihashRef::from_bytes(&encoding).expect("a multihash");
+            let bare = proved::Multihash::from(left);
             let order = at.cmp(&to);
             assert_eq!((left.partial_cmp(&right), left.cmp(&right)), (Some(order), order));
             assert_eq!(left.resize().expect("it fits").cmp(&longer), order);
-            assert_eq!(as_ref(&left).partial_cmp(&borrowed), Some(order));
-            let are_equal = [left == right, left == longer, as_ref(&left) == borrowed];
-            assert_eq!(are_equal, [at == to; 3]);
-            let hashes = [hasher.hash_one(right), hasher.hash_one(longer), hasher.hash_one(borrowed)];
-            assert_eq!(hashes.map(|it| it == hasher.hash_one(left)), [at == to; 3]);
-            assert_eq!(hashes[0], hasher.hash_one((right.code(), right.digest()))); // as upstream
+            assert_eq!(bare.partial_cmp(&right.into()), Some(order));
+            let are_equal = [left == right, left == longer, bare == right.into(), bare.same_as(&longer.into())];
+            assert_eq!(are_equal, [at == to; 4]);
+            let hashes = [hash_of(right), hash_of(longer), hash_of(proved::Multihash::from(longer))];
+            assert_eq!(hashes.map(|it| it == hash_of(left)), [at == to; 3]);
+            assert_eq!(hashes[0], hash_of((right.code(), right.digest()))); // as upstream
         }
     }
     assert!(all[0] > Multihash::default());
+}
+
+#[test]
+fn varints() {
+    for number in (0..63).flat_map(|bit| [(1 << bit) - 1, 1 << bit, (1 << bit) + 1]) {
+        let (mut out, mut short) = ([0; 9], [0; 9]);
+        let length = varint::write(number, &mut SliceWriter::new(&mut out)).expect("enough capacity");
+        assert_eq!((length, varint::len(number).ok()), (1.max((70 - number.leading_zeros() as usize) / 7), Some(length)));
+        assert_eq!(varint::read_front(&out).ok(), Some((number, &out[length..])));
+        assert!(varint::write(number, &mut SliceWriter::new(&mut short[..length - 1])).is_err());
+        assert_eq!((&short[..length - 1], short[length - 1]), (&out[..length - 1], 0));
+    }
+    let error = varint::write(CODE_MAX + 1, &mut SliceWriter::new(&mut [])).expect_err("too large");
+    assert_eq!(error.invalid_code(), Some(1 << 63));
+}
+
+#[test]
+fn long_slices() {
+    // 2^32 and 1, or as much as fits: no page is touched but the first
+    let long = vec![0; 1_usize.checked_shl(32).unwrap_or(1 << 16) + 1];
+    let length = long.len();
+    assert_eq!(text(Multihash::<255>::wrap(1, &long)), format!("Invalid multihash size {length}."));
+    assert_eq!(text(Multihash::<64>::from_bytes(&long)), format!("Invalid multihash size {}.", length - 2));
+    assert_eq!(Head::read_front(&long).map(|head| head.digest_offset).ok(), Some(2));
+    let (mut rest, mut form) = (&long[..], &long[..]);
+    assert_eq!(Multihash::<3>::read(&mut rest).map(|found| found.size()).ok(), Some(0));
+    assert_eq!(proved::Multihash::<3>::scale_decode(&mut form).map(|found| found.code()).ok(), Some(0));
+    assert_eq!((rest.len(), form.len()), (length - 2, length - 9));
+}
+
+/// A list of multihashes in a stream, and the values and bytes that it makes.
+#[test]
+fn lists() {
+    let all = [&b"a"[..], b"", b"bcd"].map(|digest| proved::Multihash::<4>::from(of(0x1000, digest)));
+    let mut out = [0; 32];
+    let mut writer = SliceWriter::new(&mut out);
+    proved::list::write_list(&all, &mut writer).expect("enough capacity");
+    let mut rest = &out[..];
+    let read = proved::list::read_list::<4, _>(Default::default(), &mut rest, 3).expect("a list");
+    assert_eq!((&read.0[..], rest.len()), (&all[..], 32 - 3 * 3 - 4));
+    assert_eq!(all[2].to_bytes(Default::default()).expect("memory").0, *b"\x80\x20\x03bcd");
+    assert!(proved::list::read_list::<4, _>(Default::default(), &mut rest, usize::MAX).is_err());
 }
 
 #[test]

@@ -1,9 +1,11 @@
-//! What the sources use of Rattle's `std` and is not in Rust's `core`: a vector whose allocations may fail,
-//! vectors of bytes, the text of a number, and `as_array` of Rust 1.93.
+//! What the sources use of Rattle's `std` and is not in Rust's `core`, written by hand: a vector whose allocations may
+//! fail, and hidden here: sixteen bytes at once, the digits of a number, and what newer Rust has.
 
-/// `std`, as far as it is used.
+#[doc(hidden)]
 pub mod std {
     pub use core::*;
+    #[cfg(feature = "std")] // `core` has it from Rust 1.81 on
+    pub use ::host::error;
     pub mod alloc {
         pub use crate::proved::rattle::{AllocError, AllocFailed, Global};
     }
@@ -27,21 +29,23 @@ pub struct AllocFailed<T>(pub T);
 #[cfg(feature = "alloc")]
 mod vec {
     use super::{AllocError, AllocFailed, Global};
-    extern crate alloc;
+    use ::alloc::vec::Vec as Unlimited;
 
-    /// A vector each of whose allocations may fail.
+    /// A vector each of whose allocations may fail. Its field is the vector of `alloc`.
     #[derive(Clone, Debug, Default, PartialEq, Eq)]
     #[repr(transparent)]
-    pub struct Vec<T>(pub alloc::vec::Vec<T>);
+    pub struct Vec<T>(pub Unlimited<T>);
 
     impl<T> Vec<T> {
+        /// Returns an empty vector, with capacity for that many values.
         #[inline]
         pub fn with_capacity(_: Global, capacity: usize) -> Result<Self, AllocError> {
-            let mut vec = alloc::vec::Vec::new();
+            let mut vec = Unlimited::new();
             vec.try_reserve_exact(capacity).map_err(|_| AllocError)?;
             Ok(Self(vec))
         }
 
+        /// Appends a value.
         #[inline]
         pub fn push(&mut self, value: T) -> Result<(), AllocFailed<T>> {
             if self.0.len() == self.0.capacity() && self.0.try_reserve(1).is_err() {
@@ -51,6 +55,7 @@ mod vec {
             Ok(())
         }
 
+        /// Appends a value, for which the vector has capacity.
         #[inline]
         pub fn push_reserved(&mut self, value: T) {
             assert!(self.0.len() < self.0.capacity());
@@ -59,6 +64,7 @@ mod vec {
     }
 
     impl Vec<u8> {
+        /// Appends bytes.
         #[inline]
         pub fn extend_from_slice(&mut self, bytes: &[u8]) -> Result<(), AllocError> {
             self.0.try_reserve(bytes.len()).map_err(|_| AllocError)?;
@@ -71,11 +77,13 @@ mod vec {
 #[cfg(not(feature = "alloc"))]
 mod vec {
     use super::{AllocError, AllocFailed, Global};
+    use core::{convert::Infallible, marker::PhantomData};
 
     /// A vector that is always out of memory.
     #[derive(Clone, Debug, PartialEq, Eq)]
-    pub struct Vec<T>(core::convert::Infallible, core::marker::PhantomData<T>);
+    pub struct Vec<T>(Infallible, PhantomData<T>);
 
+    #[allow(missing_docs)]
     impl<T> Vec<T> {
         pub fn with_capacity(_: Global, _: usize) -> Result<Self, AllocError> {
             Err(AllocError)
@@ -97,7 +105,7 @@ mod vec {
 
 pub use vec::Vec;
 
-/// Vectors of sixteen bytes.
+#[doc(hidden)]
 pub mod simd {
     #[allow(non_camel_case_types)]
     #[derive(Clone, Copy)]
@@ -109,7 +117,7 @@ pub mod simd {
     impl u8x16 {
         #[inline(always)]
         pub fn from_slice(bytes: &[u8]) -> Self {
-            Self(*bytes.first_chunk().unwrap())
+            Self(*super::Arrays::first_chunk(bytes).unwrap())
         }
 
         #[inline(always)]
@@ -138,20 +146,32 @@ pub mod simd {
     }
 }
 
-/// `as_array` of slices: Rust has it from 1.93 on.
-#[allow(dead_code)]
-pub trait AsArray {
+/// What slices have in newer Rust: `first_chunk` from 1.77 on, `as_array` from 1.93 on.
+#[doc(hidden)]
+pub trait Arrays {
     fn as_array<const N: usize>(&self) -> Option<&[u8; N]>;
+    fn first_chunk<const N: usize>(&self) -> Option<&[u8; N]>;
+    fn first_chunk_mut<const N: usize>(&mut self) -> Option<&mut [u8; N]>;
 }
 
-impl AsArray for [u8] {
+impl Arrays for [u8] {
     #[inline(always)]
     fn as_array<const N: usize>(&self) -> Option<&[u8; N]> {
         self.try_into().ok()
     }
+
+    #[inline(always)]
+    fn first_chunk<const N: usize>(&self) -> Option<&[u8; N]> {
+        self.get(..N)?.try_into().ok()
+    }
+
+    #[inline(always)]
+    fn first_chunk_mut<const N: usize>(&mut self) -> Option<&mut [u8; N]> {
+        self.get_mut(..N)?.try_into().ok()
+    }
 }
 
-/// The digits of a number.
+#[doc(hidden)]
 pub mod itoa {
     pub struct Buffer([u8; 20]);
 
