@@ -238,8 +238,9 @@ pub fn read_next<R: Read>(r: &mut R) -> Result<Option<u64>, Error>
         IfErr (none_is_insufficient result) (IsFrontError input)) }
     ensures end { EndsInNone (R.rest r.old) (R.rest r.new) (R.failures r.old) (R.failures r.new) result }
 {
-    let Some(first) = read_byte(r)? else {
-        return Ok(None);
+    let first = match read_byte(r)? {
+        Some(first) => first,
+        None => return Ok(None),
     };
     if first < 128 {
         return Ok(Some(u64::from(first)));
@@ -262,8 +263,9 @@ fn read_after<R: Read>(r: &mut R, first: u8) -> Result<u64, Error>
 {
     let mut value = u64::from(first & 0x7f);
     for i in 1..MAX_LEN {
-        let Some(byte) = read_byte(r)? else {
-            return Err(Error::insufficient());
+        let byte = match read_byte(r)? {
+            Some(byte) => byte,
+            None => return Err(Error::insufficient()),
         };
         if i == MAX_CONTINUATION && byte >= LAST_BYTE_LIMIT {
             return Err(Error::overflow());

@@ -172,8 +172,9 @@ pub fn read<R: Read>(r: &mut R) -> Result<u64, Error> {
 /// Those of [`read`], except that for an input that ended before the varint.
 #[inline(always)]
 pub fn read_next<R: Read>(r: &mut R) -> Result<Option<u64>, Error> {
-    let Some(first) = read_byte(r)? else {
-        return Ok(None);
+    let first = match read_byte(r)? {
+        Some(first) => first,
+        None => return Ok(None),
     };
     if first < 128 {
         return Ok(Some(u64::from(first)));
@@ -186,8 +187,9 @@ pub fn read_next<R: Read>(r: &mut R) -> Result<Option<u64>, Error> {
 fn read_after<R: Read>(r: &mut R, first: u8) -> Result<u64, Error> {
     let mut value = u64::from(first & 0x7f);
     for i in 1..MAX_LEN {
-        let Some(byte) = read_byte(r)? else {
-            return Err(Error::insufficient());
+        let byte = match read_byte(r)? {
+            Some(byte) => byte,
+            None => return Err(Error::insufficient()),
         };
         if i == MAX_CONTINUATION && byte >= LAST_BYTE_LIMIT {
             return Err(Error::overflow());

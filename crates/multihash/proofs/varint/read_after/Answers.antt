@@ -11,9 +11,9 @@ returns-in_err-byte-clause-err g c =
     passed_on c.from_residual.result _ _ _ c.from_residual.ensures.1
     (rw c.in_err-byte.ensures.err (reader_failed _ _ _ _ c.loop-i.invariant.reads c.in_err-byte.field-0.0 _ refl))
 
-pub returns-in_default-clause-err : goal.returns-in_default-clause-err
-returns-in_default-clause-err g c =
-    let ended = rw c.in_default.is at c.in_ok-byte.ensures.byte in
+pub returns-in-None-clause-err : goal.returns-in-None-clause-err
+returns-in-None-clause-err g c =
+    let ended = rw c.in-None.is at c.in_ok-byte.ensures.byte in
     rw ended.1 (input_ended _ _ _ _ c.loop-i.invariant.reads ended.0 _ c.insufficient.ensures)
 
 pub returns-then-byte-ge-LAST_BYTE_LIMIT-clause-err : goal.returns-then-byte-ge-LAST_BYTE_LIMIT-clause-err

@@ -11,9 +11,9 @@ returns-in_err-first-clause-err g c =
     c.from_residual.result _ c.from_residual.ensures.1
     (rw c.in_err-first.ensures.err (reader_failed _ _ _ _ (none_read _) c.in_err-first.field-0.0 _ refl))
 
-pub returns-in_default-clause-err : goal.returns-in_default-clause-err
-returns-in_default-clause-err g c =
-    let ended = rw c.in_default.is at c.in_ok-first.ensures.byte in
+pub returns-in-None-clause-err : goal.returns-in-None-clause-err
+returns-in-None-clause-err g c =
+    let ended = rw c.in-None.is at c.in_ok-first.ensures.byte in
     rw ended.1 (input_ended _ _ _ _ (none_read _) ended.0 _ refl)
 
 pub returns-then-first-lt128-clause-ok : goal.returns-then-first-lt128-clause-ok
