@@ -26,7 +26,7 @@ s/if digest.len() > len {/if digest.len() > len + 1 {/
 s/size <= S as u64 && size <= 255/size <= S as u64/
 s/digest_offset: 2,/digest_offset: 3,/
 s/code > varint::MAX {/code > varint::MAX + 1 {/
-s/self.filled += n;/self.filled += n.min(200);/
+s/self.filled += n;/self.filled += n.max(2);/
 s/if from.len() == 1 {/if from.len() == 2 {/
 s/if buf.len() > all.len() {/if buf.len() >= all.len() {/
 s/self.size.min(/self.size.max(/
