@@ -16,7 +16,6 @@ mod error;
 mod multihash;
 #[cfg(not(feature = "std"))]
 pub mod no_std_io;
-/// The proved library, in Rattle, with its contracts removed: JSON and the module `laws` are not here.
 #[allow(dead_code, unstable_name_collisions, clippy::all)]
 pub mod proved;
 #[cfg(feature = "serde")]
