@@ -36,7 +36,7 @@ installs() {
 # Below DESTDIR, from where pkg-config has to find it, in other folders, each named from the root; with the program,
 # another one here. The folder of the build has a name that a shell would not read as one word.
 installs_below() {
-  local -x PKG_CONFIG_SYSROOT_DIR=$work/below
+  local -x PKG_CONFIG_SYSROOT_DIR=below # from the work folder: pkg-config escapes no blank of it
   local include=headers/c document=pages/c man=manual to=/opt/multihash
   build "built (64)" -DCMAKE_INSTALL_PREFIX=$to -DCMAKE_INSTALL_LIBDIR=$to/lib/64 \
     -DCMAKE_INSTALL_INCLUDEDIR=$to/$include \
@@ -44,7 +44,7 @@ installs_below() {
     -DMULTIHASH_C_PROGRAM="$(type -P true)"
   DESTDIR=$work/below install_built "built (64)"
   is_installed "$work/below/opt/multihash" lib/64 other/bin/mh_show "$man/man1/mh_show.1"
-  installed_test "$work/below/opt/multihash"
+  (cd "$work"; installed_test "$work/below/opt/multihash")
 }
 
 # The package works where it was unpacked: also of another archive, which was changed after a build, and with other
