@@ -27,14 +27,14 @@ pub fn read<const S: usize, R: Read>(allowed: &[u64], r: &mut R) -> Result<Multi
     ensures other { (p : Pair) (bytes more : List ℕ) → IsEncoding p bytes → FitsBuffer S p →
         ¬ (Contains allowed.now p.code) → R.rest r.old ≡ Some (bytes ++ more) →
         R.failures r.new ≡ R.failures r.old → IsErrAnd result (λ e.
-        e ≡ of_io (record { kind = Other; text = codes "the code is not allowed" }))
+        e ≡ of_io (Other (codes "the code is not allowed")))
         × (R.rest r.new ≡ Some more) }
     ensures err { IfErr result (λ e.
         ReadFails S (R.failures r.old) (R.failures r.new) e (R.rest r.old) (R.rest r.new)
         ⊎ ((p : Pair) × ¬ (Contains allowed.now p.code)
         × ConsumesSome (IsEncoding p) (R.rest r.old) (R.rest r.new)
         × (R.failures r.new ≡ R.failures r.old)
-        × (e ≡ of_io (record { kind = Other; text = codes "the code is not allowed" })))) }
+        × (e ≡ of_io (Other (codes "the code is not allowed"))))) }
 {
     let multihash = Multihash::read(r)?;
     if !allowed.contains(&multihash.code()) {

@@ -95,7 +95,7 @@ fails_not_after_varint : ¬ (ConsumesAtVarintError (of_io other) (Some (0x80 ∷
 fails_not_after_varint h =
     not_insufficient
     (subst IsInsufficient (consumed_is (0x80 ∷ 0x00 ∷ []) [] h.consumed h.consumes)
-    (h.failed (other, refl, inl refl)))
+    (h.failed (other, refl, inl ([], refl))))
 
 -- ---- a failed `read`
 
@@ -131,7 +131,7 @@ ends_not_inside_varint h =
 -- a reader is not called after the bytes that settle
 fails_not_after_size : ¬ (ConsumesAtError 4 (of_io other) (Some (0 ∷ 5 ∷ [])) (Some []))
 fails_not_after_size h =
-    let (v, incomplete, has) = h.failed (other, refl, inl refl) in
+    let (v, incomplete, has) = h.failed (other, refl, inl ([], refl)) in
     not_incomplete (0 ∷ 5 ∷ []) h.consumed v (invalid_size 5) h.consumes size_above_limit (λ e. e) has incomplete
 
 -- ---- the shortest prefix that settles

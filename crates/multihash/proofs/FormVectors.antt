@@ -108,7 +108,7 @@ ends_not_after_pair h =
 -- a reader is not called after a size that is rejected
 fails_not_after_size : ¬ (ConsumesAtScaleError 4 (of_io other) (Some (zeros ++ 5 ∷ [])) (Some []))
 fails_not_after_size h =
-    let same = claimed (zeros ++ 5 ∷ []) h.consumed unexpected_eof (invalid_size 5) h.consumes (h.truncated (inr (other, refl, inl refl))) scale_size_first in cc
+    let same = claimed (zeros ++ 5 ∷ []) h.consumed unexpected_eof (invalid_size 5) h.consumes (h.truncated (inr (other, refl, inl ([], refl)))) scale_size_first in cc
 
 -- ---- lists
 

@@ -42,8 +42,7 @@ error_unique e v w h k = verdict_of_error e v h ∙ sym (verdict_of_error e w k)
 own_not_eof : (e : Refusal) → IsReaderError e → IsEof e → ⊥
 own_not_eof e (error, given, kind) h =
     let same : error ≡ h.0 = cc (given, h.1) in
-    let kinds = ap (λ (f : Fault). f.kind) same in
-    elim kind [ inl other ↦ cc (kinds, other, h.2) | inr memory ↦ cc (kinds, memory, h.2) ]
+    elim kind [ inl other ↦ cc (same, other.1, h.2) | inr memory ↦ cc (same, memory, h.2) ]
 
 -- no verdict has an error of the reader's own
 pub own_no_verdict : (e : Refusal) (v : Verdict) → IsReaderError e → IsErrorOf e v → ⊥

@@ -3,7 +3,7 @@
 use Rattle.std.proofs.Common.{◌≡◌, ℕ, List, [], refl, inl, inr, ◌<◌, ◌∷◌, ◌++◌, length, get_or, sym, ap, arith}
 use Rattle.std.specs.Prelude.{codes, Option, Some, None, Result, Ok, Err}
 use Rattle.std.specs.Fmt.{digits}
-use Rattle.multihash.specs.Fault.{Fault, UnexpectedEof, WriteZero, OutOfMemory, Other, IsOwnFault, IsUnexpectedEof, HasStandardText}
+use Rattle.multihash.specs.Fault.{Fault, UnexpectedEof, WriteZero, OutOfMemory, Other, IsOwnFault, IsUnexpectedEof, printed}
 use Rattle.multihash.specs.Varint.{insufficient}
 use Rattle.multihash.specs.Refusal.{Refusal, of_io, of_size, of_code, of_varint, of_not_bytes, IsEof, IsOutOfMemory, IsReaderError, refusal_text}
 use Rattle.std.proofs.lemmas.Bool.{false≢true}
@@ -13,26 +13,26 @@ use Rattle.multihash.specs.Reading.{Consumes, EndsInNone, HasFewerThan, Consumes
 -- ---- errors of readers and writers
 
 abbrev pub other : Fault
-other = record { kind = Other; text = [] }
+other = Other []
 
 abbrev pub eof : Fault
-eof = record { kind = UnexpectedEof; text = [] }
+eof = UnexpectedEof
 
 abbrev pub full : Fault
-full = record { kind = WriteZero; text = [] }
+full = WriteZero
 
 abbrev pub memory : Fault
-memory = record { kind = OutOfMemory; text = [] }
+memory = OutOfMemory
 
-no_own_eof : (text : List ℕ) → ¬ (IsOwnFault (record { kind = UnexpectedEof; text = text }))
-no_own_eof text (inl h) = cc
-no_own_eof text (inr h) = cc
+no_own_eof : ¬ (IsOwnFault UnexpectedEof)
+no_own_eof (inl (text, h)) = cc
+no_own_eof (inr h) = cc
 
-no_own_full : (text : List ℕ) → ¬ (IsOwnFault (record { kind = WriteZero; text = text }))
-no_own_full text (inl h) = cc
-no_own_full text (inr h) = cc
+no_own_full : ¬ (IsOwnFault WriteZero)
+no_own_full (inl (text, h)) = cc
+no_own_full (inr h) = cc
 
-no_standard_text_is_empty : ¬ (HasStandardText eof) × ¬ (HasStandardText full) × ¬ (HasStandardText memory)
+no_standard_text_is_empty : ¬ (printed eof ≡ []) × ¬ (printed full ≡ []) × ¬ (printed memory ≡ [])
 no_standard_text_is_empty = ((λ h. cc), (λ h. cc), λ h. cc)
 
 -- the size in an error
@@ -51,11 +51,11 @@ no_other_is_out_of_memory : ¬ (IsOutOfMemory (of_io eof)) × ¬ (IsOutOfMemory 
 no_other_is_out_of_memory = ((λ (error, e, kind). cc), (λ (error, e, kind). cc), λ (error, e, kind). cc)
 
 pub end_is_no_reader_error : ¬ (IsReaderError (of_io eof))
-end_is_no_reader_error (error, e, inl kind) = cc
+end_is_no_reader_error (error, e, inl (text, kind)) = cc
 end_is_no_reader_error (error, e, inr kind) = cc
 
 full_is_no_reader_error : ¬ (IsReaderError (of_io full))
-full_is_no_reader_error (error, e, inl kind) = cc
+full_is_no_reader_error (error, e, inl (text, kind)) = cc
 full_is_no_reader_error (error, e, inr kind) = cc
 
 -- the texts that multihash_c does not have, or not with a number

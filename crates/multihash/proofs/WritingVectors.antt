@@ -31,7 +31,10 @@ needs_no_memory h = elim h.cause [ inl one ↦ omega (arith, one) | inr (allocat
 
 -- neither the end of the input nor a full writer is an error of the writer itself
 no_own_kind : (allocates : Bool) (before after : ℕ) → ¬ (IsWriterFault allocates before after eof) × ¬ (IsWriterFault allocates before after full)
-no_own_kind allocates before after = ((λ h. elim h.kind [ inl e ↦ cc | inr e ↦ cc ]), λ h. elim h.kind [ inl e ↦ cc | inr e ↦ cc ])
+no_own_kind allocates before after = (
+  (λ h. elim h.kind [ inl e ↦ cc e.1 | inr e ↦ cc ]),
+  λ h. elim h.kind [ inl e ↦ cc e.1 | inr e ↦ cc ],
+)
 
 abbrev Stops : ℕ → ℕ → Type 0 → Fault → Type 0
 Stops before after is_full e = IsWriterFaultOrFull false before after is_full e

@@ -1,7 +1,7 @@
 -- The statuses that a C caller gets.
 use Rattle.std.specs.Prelude.{◌≡◌, ◌<◌, ℕ, List, [], codes}
 use Rattle.multihash.specs.Varint.{VarintError, insufficient, overflow, not_minimal}
-use Rattle.multihash.specs.Fault.{text_of, UnexpectedEof, WriteZero}
+use Rattle.multihash.specs.Fault.{printed, UnexpectedEof, WriteZero}
 use Rattle.multihash.specs.Refusal.{varint_text}
 
 -- success
@@ -36,6 +36,6 @@ pub record IsStatusText (status : ℕ) (text : List ℕ) : Type 0 where
   pub error : (error : VarintError) → status ≡ status_of_error error → text ≡ varint_text error
   pub size : status ≡ status_invalid_size → text ≡ codes "Invalid multihash size"
   pub code : status ≡ status_invalid_code → text ≡ codes "Invalid multihash code"
-  pub eof : status ≡ status_unexpected_eof → text ≡ text_of UnexpectedEof []
-  pub no_room : status ≡ status_no_room → text ≡ text_of WriteZero []
+  pub eof : status ≡ status_unexpected_eof → text ≡ printed UnexpectedEof
+  pub no_room : status ≡ status_no_room → text ≡ printed WriteZero
   pub unknown : status_no_room < status → text ≡ codes "unknown status"

@@ -1,6 +1,6 @@
 //! The error of readers and writers.
 ghost use Rattle.std.specs.Prelude.{◌≡◌, ◌↔◌, IsTrue, Some};
-ghost use Rattle.multihash.specs.Fault.{IsUnexpectedEof, IsWriteZero, IsOutOfMemoryFault, IsOther, HasStandardText, printed};
+ghost use Rattle.multihash.specs.Fault.{Other, IsUnexpectedEof, IsWriteZero, IsOutOfMemoryFault, IsOther, printed};
 
 use std::fmt;
 use std::marker::Model;
@@ -25,13 +25,14 @@ enum Kind {
 }
 
 impl Model for Error {
-    ghost use Rattle.multihash.specs.Fault.{Fault, HasStandardText, fault_of};
+    ghost use Rattle.std.specs.Prelude.{◌≡◌};
+    ghost use Rattle.multihash.specs.Fault.{Fault, fault_of, carried, printed};
 
     ghost Value = { Fault };
 
     ghost view = { λ e. fault_of e.kind };
 
-    ghost invariant = { λ e. HasStandardText (fault_of e.kind) };
+    ghost invariant = { λ e. carried e.kind ≡ printed (fault_of e.kind) };
 }
 
 impl Error {
@@ -64,8 +65,7 @@ impl Error {
 
     /// Returns an error of the reader or the writer itself, which prints `text`.
     pub fn other(text: &'static str) -> Self
-        ensures kind { IsOther result }
-        ensures text { result.text ≡ text.now }
+        ensures { result ≡ Other text.now }
     {
         Error {
             kind: Kind::Other(text),
@@ -74,8 +74,7 @@ impl Error {
 
     /// Returns the text that `Display` prints.
     pub fn text(&self) -> &'static str
-        ensures text { result.now ≡ self.now.text }
-        ensures standard { HasStandardText self.now }
+        ensures { result.now ≡ printed self.now }
     {
         match &self.kind {
             Kind::UnexpectedEof(text)

@@ -1,4 +1,4 @@
-use Rattle.std.proofs.Common.{◌≡◌, ◌<◌, [], ◌∷◌, ◌++◌, length, map, inr, arith, rules}
+use Rattle.std.proofs.Common.{◌≡◌, ◌<◌, [], ◌∷◌, ◌++◌, length, map, inl, inr, arith, rules}
 use Rattle.std.proofs.lemmas.List.{length-map}
 use Rattle.multihash.specs.Multihash.{pair_of}
 use Rattle.multihash.proofs.OutcomeLemmas.{passed_on}
@@ -19,6 +19,14 @@ returns-in_err-read-clause-err g c =
       consumed = before.pairs;
       failed = rw same at met;
     }))
+
+pub returns-in_err-read-clause-faults : goal.returns-in_err-read-clause-faults
+returns-in_err-read-clause-faults g c =
+    passed_on c.from_residual-in_err-read.result _ _ _ c.from_residual-in_err-read.ensures.1
+    (elim (rw c.loop.invariant.unfailed at c.in_err-read.ensures.faults) [
+      | inl own ↦ inl own
+      | inr listed ↦ inr (listed.0, inl listed.1)
+    ])
 
 pub loop-preserved : goal.loop-preserved
 loop-preserved g c =
