@@ -4,7 +4,7 @@
 //! (<https://github.com/multiformats/unsigned-varint>). Multiformats encodes its numbers so: the code
 //! and the length of a multihash, the version and the codec of a content identifier, the parts of a
 //! multiaddr.
-ghost use Rattle.std.specs.Prelude.{◌≡◌, ◌<◌, ◌≤◌, ◌+◌, ◌^◌, ◌⊎◌, ℕ, List, [], ◌∷◌, ◌++◌, length, Some, IfSome, MatchOption, IfOk, IfErr, IsOkAnd, OnErr};
+ghost use Rattle.std.specs.Prelude.{◌≡◌, ◌<◌, ◌≤◌, ◌+◌, ◌^◌, ◌⊎◌, ℕ, List, [], ◌∷◌, ◌++◌, length, Some, IfSome, MatchOption, IfOk, IfErr, IsOk, IsOkAnd, OnErr};
 ghost use Rattle.multihash.specs.Varint.{IsVarint, IsContinuation, varint_limit, max_continuation};
 ghost use Rattle.std.specs.Io.KnownBytes.{IsAtEnd, prepend_known};
 ghost use Rattle.multihash.specs.Reading.{Consumes, EndsInNone, CountsReaderFailures, NoOtherError};
@@ -55,6 +55,7 @@ fn encode(n: u64, buffer: &mut [u8; ROOM]) -> &[u8]
 ///
 /// [`Error::invalid_code`] with the number if it is 2^63 or more.
 pub fn len(n: u64) -> Result<usize, Error>
+    ensures in_range { n < varint_limit → IsOk result }
     ensures ok { IfOk result (λ len. (bytes : List ℕ) × IsVarint n bytes × (len ≡ length bytes)) }
     ensures short { IfOk result (λ len. len ≤ max_continuation + 1) }
     ensures err { IfErr result (λ e. IsInvalidCode n e × (varint_limit ≤ n)) }
