@@ -12,7 +12,7 @@ use Rattle.multihash.proofs.CallingLemmas.{number_read, number_found, exact_foun
 use Rattle.multihash.proofs.StreamLemmas.{part_read}
 use Rattle.multihash.proofs.ReadingLemmas.{Consumes-concatenated}
 use Rattle.multihash.proofs.EncodingLemmas.{digest_fits, encoding_unique}
-use Rattle.multihash.proofs.VarintLemmas.{same_number}
+use Rattle.multihash.proofs.VarintLemmas.{number_unique}
 use Rattle.examples.specs.ContentId.{Content, version_0, version_1, content_of, IsContentId, FitsContentId, HashFails, ContentIdFails}
 use Rattle.examples.specs.declared.content_id.ContentId.{ContentId}
 use Rattle.examples.specs.declared.content_id.ContentId.TheVariants.{V0, V1}
@@ -179,7 +179,7 @@ module _ (unique : (p q : Pair) (x y r s : List ℕ) → IsEncoding p x → IsEn
   one_place c d a b r s id other same =
       let h = parts c a id in
       let k = parts d b other in
-      by c d id other h k (same_number (a ++ r) (first_number c) (first_number d) (h.second ++ (h.rest ++ r)) (k.second ++ (k.rest ++ s))
+      by c d id other h k (number_unique (a ++ r) (first_number c) (first_number d) (h.second ++ (h.rest ++ r)) (k.second ++ (k.rest ++ s))
       (h.first, h.is_first, parts_cut c a r h) (k.first, k.is_first, same ∙ parts_cut d b s k))
     where
       by : (c d : Content) → IsContentId c a → IsContentId d b → (h : Parts c a) (k : Parts d b)
@@ -188,7 +188,7 @@ module _ (unique : (p q : Pair) (x y r s : List ℕ) → IsEncoding p x → IsEn
           let told = unique _ _ a b r s id.encodes other.encodes same in
           (ap (λ (p : Pair). version_0 p.digest) told.0, told.1, told.2)
       by (version_1 m p) (version_1 n q) id other h k (_, after) =
-          let codecs = same_number (h.second ++ (h.rest ++ r)) m n (h.rest ++ r) (k.rest ++ s) (h.second, h.is_second, refl) (k.second, k.is_second, after) in
+          let codecs = number_unique (h.second ++ (h.rest ++ r)) m n (h.rest ++ r) (k.rest ++ s) (h.second, h.is_second, refl) (k.second, k.is_second, after) in
           let told = unique p q h.rest k.rest r s h.ends k.ends codecs.1 in
           (cc (codecs.0, told.0), append_cancel_right a b r (same ∙ ap (λ (z : List ℕ). b ++ z) (sym told.2)), told.2)
       by (version_0 x) (version_1 n q) id other h k (first, _) = absurd (omega (arith, first))

@@ -7,7 +7,7 @@ use Rattle.multihash.specs.Pair.{Pair, FitsBuffer, digest_limit}
 use Rattle.multihash.specs.Encoding.{IsEncoding}
 use Rattle.multihash.specs.Streams.{AreConcatenated, ConsumesPairs, StopsAfterPairs}
 use Rattle.multihash.specs.Varint.{VarintError, insufficient, IsVarint}
-use Rattle.multihash.specs.Verdict.{Verdict, accepted, invalid_size, malformed, BeginsWithSize, HasHead, HasVerdict, HasWholeVerdict}
+use Rattle.multihash.specs.Verdict.{Verdict, accepted, invalid_size, invalid_code, malformed, unexpected_eof, BeginsWithSize, HasHead, HasVerdict, HasWholeVerdict}
 use Rattle.multihash.specs.Consuming.{ConsumesVarint, ConsumesAtVarintError, FailsBy, VarintFails, ExactFails}
 use Rattle.multihash.proofs.SettlingLemmas.{error_of_part}
 use Rattle.multihash.specs.Fault.{Fault, IsOwnFault, IsUnexpectedEof}
@@ -20,9 +20,9 @@ use Rattle.multihash.specs.Refusal.{Refusal, of_io, of_varint, IsIo, IsEof, IsOu
 use Rattle.multihash.specs.Outcome.{IsErrorOf, IsResultOf}
 use Rattle.multihash.specs.Multihash.{Fields, pair_of}
 use Rattle.multihash.proofs.WritingLemmas.{slice_writer_has_room}
-use Rattle.multihash.proofs.ReadingLemmas.{Consumes-told, Consumes-concatenated, IfSome-consumed}
+use Rattle.multihash.proofs.ReadingLemmas.{Consumes-known, Consumes-concatenated, IfSome-consumed}
 use Rattle.multihash.proofs.VerdictLemmas.{verdict_unique, whole_verdict_unique}
-use Rattle.multihash.proofs.VarintLemmas.{error as wrong_front, front_unique, number_no_error, same_number, varint_unique}
+use Rattle.multihash.proofs.VarintLemmas.{error as wrong_front, front_unique, number_no_error, number_unique}
 use Rattle.multihash.proofs.ScaleLemmas.{scale_split, scale_verdict_unique}
 use Rattle.multihash.proofs.StreamLemmas.{part_read, next_part, parts_unique}
 use Rattle.multihash.proofs.EncodingLemmas.{encoding_same, encoding_unique}
@@ -32,7 +32,7 @@ pub never_stops : (S count : ℕ) (e : Refusal) (n : ℕ) (new : Option (List �
     → AreConcatenated pairs bytes → All (FitsBuffer S) pairs → length pairs ≡ count
     → StopsAfterPairs S count e n n (Some (bytes ++ more)) new → ⊥
 never_stops S count e n new pairs bytes more concatenated fit many stop =
-    let (left, is, cut) = Consumes-told (bytes ++ more) stop.consumed.bytes stop.following stop.consumed.consumes in
+    let (left, is, cut) = Consumes-known (bytes ++ more) stop.consumed.bytes stop.following stop.consumed.consumes in
     let (p, x, rest, encodes, follows, each) = next_part IsEncoding encoding_unique stop.pairs pairs stop.consumed.bytes bytes left more stop.consumed.concatenated concatenated
     (omega (arith, stop.fewer)) (sym cut) in
     let found = (rw is at stop.failed.verdict) refl in
@@ -47,7 +47,7 @@ pub read_list_of_encodings : (S count before after : ℕ) (old new : Option (Lis
     → IfErr r (λ e. (IsOutOfMemory e × (after ≡ before) × (new ≡ old)) ⊎ StopsAfterPairs S count e before after old new)
     → MatchResult r (λ list. (map pair_of list.items ≡ pairs) × (new ≡ Some more)) IsOutOfMemory
 read_list_of_encodings S count before after old new pairs bytes more (Ok list) concatenated fit many rest same ok err =
-    let (left, is, cut) = Consumes-told (bytes ++ more) ok.1.bytes new (sym rest ∙ ok.1.consumes) in
+    let (left, is, cut) = Consumes-known (bytes ++ more) ok.1.bytes new (sym rest ∙ ok.1.consumes) in
     let long : length (map pair_of list.items) ≡ length pairs = omega (arith, length-map list.items pair_of, ok.0) in
     let told = parts_unique IsEncoding encoding_unique (map pair_of list.items) pairs ok.1.bytes bytes left more long ok.1.concatenated concatenated (sym cut) in
     (told.0, is ∙ ap Some told.1)
@@ -56,8 +56,8 @@ read_list_of_encodings S count before after old new pairs bytes more (Err e) con
     absurd (never_stops S count e before new pairs bytes more concatenated fit many
     (subst (λ o. StopsAfterPairs S count e before before o new) rest (subst (λ n. StopsAfterPairs S count e before n old new) same stop)))
 
--- `write` succeeds through a new `SliceWriter` if the slice has the capacity that `encoded_len` returns: the
--- facts are the clauses of `encoded_len` and of `SliceWriter::new`, and `err` and `faults` of `write`
+-- The facts are the clauses of `encoded_len` and `SliceWriter::new`, and `err` and `faults` of `write`.
+-- `write` through a new `SliceWriter` succeeds if the slice has the capacity that `encoded_len` returns
 pub write_of_encoded_len : {T : Type 0} {buffer : List ℕ} (old new : SliceWriter) (p : Pair) (len : ℕ) (r : Result T Refusal)
     → (bytes : List ℕ) × IsEncoding p bytes × (len ≡ length bytes) → len ≤ length buffer
     → old.filled ≡ 0 → old.buffer.now ≡ buffer
@@ -73,7 +73,7 @@ pub scale_pair : (S : ℕ) (p q : Pair) (input bytes consumed more left : List �
 scale_pair S p q input bytes consumed more left v whole form fits found is_result is_taken cut =
     let same = scale_split q p consumed bytes left more is_taken form (sym cut ∙ whole) in (same.0, same.2)
 
--- and it is not rejected
+-- a SCALE form of a pair that fits, and more, is not rejected
 pub scale_taken : (S : ℕ) (p : Pair) (input bytes more : List ℕ) (v : Verdict) (e : Refusal) → input ≡ bytes ++ more → IsScale p bytes
     → FitsBuffer S p → HasScaleVerdict S input v → IsErrorOf e v → ⊥
 scale_taken S p input bytes more v e whole form fits found rejected =
@@ -92,7 +92,7 @@ read_of_encoding S before after old new p bytes more (Err e) encodes fits rest s
     let own : HasVerdict S (bytes ++ more) (accepted p) = (more, record { encoding = bytes; encodes = encodes; cut = refl }, fits) in
     subst (IsErrorOf e) (verdict_unique S (bytes ++ more) found.0 (accepted p) found.1 own) found.2
 
--- bytes that `from_bytes` rejects are the encoding of no pair that fits: the first fact is its clause
+-- bytes that `from_bytes` rejects encode no pair that fits: the first fact is a clause of it
 pub rejected_no_encoding : (S : ℕ) {e : Refusal} {bytes : List ℕ} → (v : Verdict) × HasWholeVerdict S bytes v × IsErrorOf e v
     → (p : Pair) → IsEncoding p bytes → FitsBuffer S p → ⊥
 rejected_no_encoding S {e = e} {bytes = bytes} (v, h, names) p encodes fits =
@@ -105,7 +105,7 @@ accepted_encoding S {q = q} {bytes = bytes} (v, h, is_result) =
     let own = (subst (HasWholeVerdict S bytes) is_result h).0 in
     (own, λ p encodes. (encoding_unique q p bytes bytes [] [] own encodes refl).0)
 
--- the verdict on a pair's encoding is the pair
+-- `from_bytes` of the encoding of a pair that fits returns the pair: the facts are its clauses
 pub from_bytes_of_encoding : (S : ℕ) (p : Pair) (bytes : List ℕ) (r : Result (Fields S) Refusal) (v : Verdict) → HasWholeVerdict S bytes v → IsResultOf r v
     → IsEncoding p bytes → FitsBuffer S p → MatchResult r (λ m. pair_of m ≡ p) IsOutOfMemory
 from_bytes_of_encoding S p bytes (Ok m) v h is_result encodes fits = (accepted_encoding S (v, h, is_result)).1 p encodes
@@ -127,17 +127,17 @@ module _ (n m : ℕ) (varint rest : List ℕ) (is : IsVarint n varint) where
   -- a varint that comes next was read: its number, and what follows it
   pub number_read : (old new : Option (List ℕ)) → old ≡ Some (varint ++ rest) → ConsumesVarint m old new → (m ≡ n) × (new ≡ Some rest)
   number_read old new at (read, also, consumes) =
-      let (left, told, cut) = Consumes-told (varint ++ rest) read new (sym at ∙ consumes) in
-      let both = same_number (varint ++ rest) m n left rest (read, also, cut) (varint, is, refl) in
+      let (left, told, cut) = Consumes-known (varint ++ rest) read new (sym at ∙ consumes) in
+      let both = number_unique (varint ++ rest) m n left rest (read, also, cut) (varint, is, refl) in
       (both.0, told ∙ ap Some both.1)
 
   -- a varint was read from a part of the input: the rest of the part is left
   pub number_in_part : (part more : List ℕ) (new : Option (List ℕ)) → varint ++ rest ≡ part ++ more → ConsumesVarint m (Some part) new
       → (left : List ℕ) × (new ≡ Some left) × (m ≡ n) × (rest ≡ left ++ more)
   number_in_part part more new cut (read, also, consumes) =
-      let (left, told, split) = Consumes-told part read new consumes in
+      let (left, told, split) = Consumes-known part read new consumes in
       let whole = cut ∙ (ap (λ (z : List ℕ). z ++ more) split ∙ append_assoc read left more) in
-      let both = same_number (varint ++ rest) m n (left ++ more) rest (read, also, whole) (varint, is, refl) in
+      let both = number_unique (varint ++ rest) m n (left ++ more) rest (read, also, whole) (varint, is, refl) in
       (left, told, both.0, sym both.1)
 
 module _ (before after : ℕ) (same : after ≡ before) (e : Refusal) where
@@ -160,11 +160,11 @@ module _ (before after : ℕ) (same : after ≡ before) (e : Refusal) where
       → ExactFails n before after e old new → ⊥
   exact_found n body more old new long at fails = omega (arith, (rw at at fails.short) same, length-append body more, long)
 
-  -- otherwise the input ended
+  -- if that many bytes could not be read, and the reader did not fail, the input ended
   pub exact_truncated : (n : ℕ) (old new : Option (List ℕ)) → ExactFails n before after e old new → IsEof e
   exact_truncated n old new fails = elim fails.cause [ inl own ↦ absurd (omega (arith, own.0, same)) | inr ended ↦ ended.1 ]
 
--- reading exactly `n` bytes failed, after calls that counted no failure: the facts are the laws of `read_exact`
+-- `read_exact` failed after calls that counted no failure: the facts are its laws
 pub exact_fails : (n before middle after : ℕ) (old new : Option (List ℕ)) (error : Fault) → middle ≡ before
     → ((after ≡ middle + 1) × IsOwnFault error) ⊎ ((after ≡ middle) × IsUnexpectedEof error)
     → (IsUnexpectedEof error → HasFewerThan n old) → ConsumesFewerThan n old new → ExactFails n before after (of_io error) old new
@@ -175,7 +175,7 @@ exact_fails n before middle after old new error same faults eof part =
       short = λ unfailed. elim faults [ inl own ↦ absurd (omega (arith, own.0, unfailed)) | inr ended ↦ eof ended.1 ];
     })
 
--- the last `m` of `n` bytes could not be read, after the others
+-- `read_exact` of the last `m` of `n` bytes failed, after the others were consumed
 pub exact_after : (n m before after : ℕ) (read : List ℕ) (old mid new : Option (List ℕ)) (e : Refusal) → Consumes old read mid → length read + m ≤ n
     → ExactFails m before after e mid new → ExactFails n before after e old new
 exact_after n m before after read old mid new e consumes long fails = record {
@@ -193,8 +193,8 @@ exact_after n m before after read old mid new e consumes long fails = record {
 
 sizes_once : (s t : ℕ) (x r q : List ℕ) (h : BeginsWithSize s x r) (g : BeginsWithSize t x q) → (h.code ≡ g.code) × (s ≡ t) × (r ≡ q)
 sizes_once s t x r q h g =
-    let codes = same_number x h.code g.code (h.size_bytes ++ r) (g.size_bytes ++ q) (h.code_bytes, h.is_code, h.cut) (g.code_bytes, g.is_code, g.cut) in
-    let sizes = same_number (h.size_bytes ++ r) s t r q (h.size_bytes, h.is_size, refl) (g.size_bytes, g.is_size, codes.1) in
+    let codes = number_unique x h.code g.code (h.size_bytes ++ r) (g.size_bytes ++ q) (h.code_bytes, h.is_code, h.cut) (g.code_bytes, g.is_code, g.cut) in
+    let sizes = number_unique (h.size_bytes ++ r) s t r q (h.size_bytes, h.is_size, refl) (g.size_bytes, g.is_size, codes.1) in
     (codes.0, sizes.0, sizes.1)
 
 module _ (code size len : ℕ) (input : List ℕ) (h : HasHead code size len input) where
@@ -204,12 +204,12 @@ module _ (code size len : ℕ) (input : List ℕ) (h : HasHead code size len inp
       let once = sizes_once size s input (drop len input) (drop k input) h.varints g.varints in
       (sym h.is_code ∙ (once.0 ∙ g.is_code), once.1, omega (arith, ap length once.2, length-drop len input, length-drop k input, h.within, g.within))
 
-  -- and then no varint is malformed
+  -- an input with a head has no malformed varint at its front
   pub head_no_error : (S : ℕ) (f : VarintError) → HasVerdict S input (malformed f) → ⊥
   head_no_error S f (inl bad) =
       number_no_error input h.varints.code (h.varints.size_bytes ++ drop len input) f (h.varints.code_bytes, h.varints.is_code, h.varints.cut) bad
   head_no_error S f (inr (rest, c, bad)) =
-      let codes = same_number input c.code h.varints.code rest (h.varints.size_bytes ++ drop len input) (c.code_bytes, c.is_code, c.cut)
+      let codes = number_unique input c.code h.varints.code rest (h.varints.size_bytes ++ drop len input) (c.code_bytes, c.is_code, c.cut)
       (h.varints.code_bytes, h.varints.is_code, h.varints.cut) in
       number_no_error rest size (drop len input) f (h.varints.size_bytes, h.varints.is_size, codes.1) bad
 
@@ -221,25 +221,19 @@ module _ (code size len : ℕ) (input : List ℕ) (h : HasHead code size len inp
       let once = sizes_once size (length p.digest) input (drop len input) p.digest h.varints own in
       (sym h.is_code ∙ once.0, once.1, once.2)
 
--- reading a varint failed, after calls that counted no failure: the facts are the clauses of `varint::read`
+-- `varint::read` failed after calls that counted no failure: the facts are its clauses
 pub varint_fails : (before middle after : ℕ) (old new : Option (List ℕ)) (e : Refusal) → middle ≡ before → FailsBy middle after IsAnyVarintError e
     → ConsumesAtVarintError e old new → IfSome old (λ input. after ≡ middle → IsFrontError input e) → VarintFails before after e old new
 varint_fails before middle after old new e same cause consumed front =
     subst (λ k. VarintFails k after e old new) same (record { cause = cause; consumed = consumed; front = front })
 
--- ---- parts at the front of an input
-
--- two varints at the front of one input are the same, and so is what follows them
-pub number_unique : (m n : ℕ) (a b r s : List ℕ) → IsVarint m a → IsVarint n b → a ++ r ≡ b ++ s → (m ≡ n) × (a ≡ b) × (r ≡ s)
-number_unique m n a b r s is also e =
-    let both = same_number (a ++ r) m n r s (a, is, refl) (b, also, e) in
-    (both.0, varint_unique m a b is (subst (λ k. IsVarint k b) (sym both.0) also), both.1)
+-- ---- parts at the front of an input, and their errors
 
 -- bytes that start with a varint have no error at their front
 pub front_no_error : (n : ℕ) (a r bytes : List ℕ) (e : Refusal) → IsVarint n a → bytes ≡ a ++ r → IsFrontError bytes e → ⊥
 front_no_error n a r bytes e is cut (why, named, bad) = number_no_error bytes n r why (a, is, cut) bad
 
--- the error of a front is one
+-- an input has at most one error at its front
 pub front_error_unique : (x : List ℕ) (e f : Refusal) → IsFrontError x e → IsFrontError x f → e ≡ f
 front_error_unique x e f (a, is_a, bad) (b, is_b, also) =
     let same : wrong_front a ≡ wrong_front b = front_unique x (wrong_front a) (wrong_front b) bad also in
@@ -251,3 +245,11 @@ pub encoding_no_error : (S : ℕ) (p : Pair) (a r bytes : List ℕ) (v : Verdict
     → bytes ≡ a ++ r → HasVerdict S bytes v → IsErrorOf e v → ⊥
 encoding_no_error S p a r bytes v e is fits cut has names =
     subst (IsErrorOf e) (verdict_unique S bytes v (accepted p) has (r, record { encoding = a; encodes = is; cut = cut }, fits)) names
+
+-- a verdict has at most one error
+pub error_of_unique : (e f : Refusal) (v : Verdict) → IsErrorOf e v → IsErrorOf f v → e ≡ f
+error_of_unique e f (accepted p) h k = absurd h
+error_of_unique e f (invalid_size size) h k = h ∙ sym k
+error_of_unique e f (invalid_code code) h k = h ∙ sym k
+error_of_unique e f (malformed error) h k = h ∙ sym k
+error_of_unique e f unexpected_eof h k = cc (h.1, h.2, k.1, k.2)

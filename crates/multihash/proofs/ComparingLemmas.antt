@@ -9,7 +9,7 @@ use Rattle.std.specs.Ordering.{is_eq, nat_cmp, ordering_then, is_ne}
 use Rattle.std.specs.declared.cmp.Ordering.TheVariants.{Less, Equal, Greater}
 use Rattle.std.proofs.lemmas.Cmp.{tied_itself}
 use Rattle.multihash.specs.Encoding.{IsEncoding}
-use Rattle.multihash.proofs.VarintLemmas.{varint_unique}
+use Rattle.multihash.proofs.VarintLemmas.{varint_same}
 use Rattle.multihash.proofs.VarintWriteLemmas.{one_byte}
 use Rattle.multihash.specs.Pair.{Pair}
 use Rattle.multihash.specs.Comparing.{equal_pairs, compare_pairs}
@@ -62,8 +62,8 @@ HasShortHead p = (p.code < 128) × (length p.digest < 128)
 
 short_bytes : (p : Pair) (x : List ℕ) → HasShortHead p → IsEncoding p x → x ≡ p.code ∷ length p.digest ∷ p.digest
 short_bytes p x short e =
-    let code = varint_unique p.code e.code (p.code ∷ []) e.is_code (one_byte p.code short.0) in
-    let size = varint_unique (length p.digest) e.size (length p.digest ∷ []) e.is_size (one_byte (length p.digest) short.1) in
+    let code = varint_same p.code e.code (p.code ∷ []) e.is_code (one_byte p.code short.0) in
+    let size = varint_same (length p.digest) e.size (length p.digest ∷ []) e.is_size (one_byte (length p.digest) short.1) in
     rw (e.spelled, code, size)
 
 -- then pairs are ordered as their encodings are, byte by byte; in general they are not

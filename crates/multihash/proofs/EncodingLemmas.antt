@@ -8,13 +8,13 @@ use Rattle.std.proofs.lemmas.List.{take_at, append_cancel_left, append_cancel_ri
 use Rattle.std.proofs.lemmas.List.Elements.{All-append, All-push, All-same, All-map, All-head}
 use Rattle.multihash.specs.Bytes.{IsBytes}
 use Rattle.multihash.proofs.DigitLemmas.{All-append_left, All-append_right}
-use Rattle.multihash.proofs.VarintLemmas.{varint_bytes, varint_longest, varint_unique, front_within, same_number}
+use Rattle.multihash.proofs.VarintLemmas.{varint_bytes, varint_longest, varint_same, front_within, number_unique}
 use Rattle.multihash.proofs.VarintWriteLemmas.{varint_exists, is_varint_of}
 use Rattle.std.specs.List.{All}
 use Rattle.multihash.specs.Streams.{AreConcatenated}
 use Rattle.multihash.specs.Multihash.{Fields, pair_of}
 
--- the varints of a pair's code and of its digest's length, and the digest
+-- an encoding, made of the varints of the code and of the digest's length, and the digest
 pub encoding_of_parts : (p : Pair) (code size : ℕ) (digest a b : List ℕ) → code ≡ p.code → size ≡ length p.digest → digest ≡ p.digest
     → IsVarint code a → IsVarint size b → IsEncoding p (a ++ (b ++ digest))
 encoding_of_parts p code size digest a b same_code same_size same_digest is_code is_size = record {
@@ -25,9 +25,11 @@ encoding_of_parts p code size digest a b same_code same_size same_digest is_code
   spelled = ap (λ z. a ++ (b ++ z)) same_digest;
 }
 
+-- the length of three parts
 pub length-parts : (a b digest : List ℕ) → length a + length b + length digest ≡ length (a ++ (b ++ digest))
 length-parts a b digest = omega (arith, length-append a (b ++ digest), length-append b digest)
 
+-- pairs with equal codes and digests are equal
 pub same_pair : (p q : Pair) → p.code ≡ q.code → p.digest ≡ q.digest → p ≡ q
 same_pair p q c d = λ i. record { code = c i; digest = d i }
 
@@ -37,18 +39,18 @@ same_cut a b x y l e =
     let fronts : a ≡ b = sym (take_at a x (length b) l) ∙ (ap (λ (z : List ℕ). take (length b) z) e ∙ take_at b y (length b) refl) in
     (fronts, append_cancel_left b x y (ap (λ (z : List ℕ). z ++ x) (sym fronts) ∙ e))
 
--- the bytes of an encoding and what follows
+-- the parts of an encoding and of what follows it
 pub encoding_cut : (p : Pair) (a x : List ℕ) (e : IsEncoding p a) → a ++ x ≡ e.code ++ (e.size ++ (p.digest ++ x))
 encoding_cut p a x e =
     ap (λ (z : List ℕ). z ++ x) e.spelled
     ∙ (append_assoc e.code (e.size ++ p.digest) x ∙ ap (λ (z : List ℕ). e.code ++ z) (append_assoc e.size p.digest x))
 
--- two encodings at the front of one input are equal, of the same pair
+-- two encodings at the front of one input are equal, of the same pair, and so is what follows them
 pub encoding_unique : (p q : Pair) (a b x y : List ℕ) → IsEncoding p a → IsEncoding q b → a ++ x ≡ b ++ y → (p ≡ q) × (a ≡ b) × (x ≡ y)
 encoding_unique p q a b x y e f same =
-    let codes = same_number (a ++ x) p.code q.code (e.size ++ (p.digest ++ x)) (f.size ++ (q.digest ++ y))
+    let codes = number_unique (a ++ x) p.code q.code (e.size ++ (p.digest ++ x)) (f.size ++ (q.digest ++ y))
     (e.code, e.is_code, encoding_cut p a x e) (f.code, f.is_code, same ∙ encoding_cut q b y f) in
-    let sizes = same_number (e.size ++ (p.digest ++ x)) (length p.digest) (length q.digest) (p.digest ++ x) (q.digest ++ y)
+    let sizes = number_unique (e.size ++ (p.digest ++ x)) (length p.digest) (length q.digest) (p.digest ++ x) (q.digest ++ y)
     (e.size, e.is_size, refl) (f.size, f.is_size, codes.1) in
     let digests = same_cut p.digest q.digest x y sizes.0 sizes.1 in
     let fronts : a ≡ b = append_cancel_right a b x (same ∙ ap (λ (z : List ℕ). b ++ z) (sym digests.1)) in
@@ -57,8 +59,9 @@ encoding_unique p q a b x y e f same =
 -- a pair has at most one encoding
 pub encoding_same : (p : Pair) (a b : List ℕ) → IsEncoding p a → IsEncoding p b → a ≡ b
 encoding_same p a b e f =
-    cc (e.spelled, f.spelled, varint_unique p.code e.code f.code e.is_code f.is_code, varint_unique (length p.digest) e.size f.size e.is_size f.is_size)
+    cc (e.spelled, f.spelled, varint_same p.code e.code f.code e.is_code f.is_code, varint_same (length p.digest) e.size f.size e.is_size f.is_size)
 
+-- a pair in range has an encoding
 pub encoding_exists : (p : Pair) → p.code < varint_limit → length p.digest < varint_limit → (a : List ℕ) × IsEncoding p a
 encoding_exists p code size =
     let c = varint_exists p.code code in
@@ -87,6 +90,7 @@ varint_is_bytes n bytes v =
     let front : IsBytes (continuation_bytes v.front) = All-map (λ b. b < 256) (λ d. d + 128) v.front (λ k d below. omega (arith, digits k d below)) in
     rw v.spelled (All-push (λ b. b < 256) (continuation_bytes v.front) v.last front (omega (arith, last)))
 
+-- the numbers of an encoding are bytes if those of the digest are
 pub encoding_bytes : (p : Pair) (bytes : List ℕ) → IsBytes p.digest → IsEncoding p bytes → IsBytes bytes
 encoding_bytes p bytes digest e =
     All-same (λ b. b < 256) bytes (e.code ++ (e.size ++ p.digest)) e.spelled
@@ -105,9 +109,11 @@ pub ruleset zeros_after = (drop-replicate)
 
 -- ---- values
 
+-- the digest of each value fits, also if nothing has read the value yet
 pub digest_fits : {S : ℕ} (m : Fields S) → FitsBuffer S (pair_of m)
 digest_fits m = omega (arith, length-take m.size m.buffer, m.fits)
 
+-- the digests of all values of a list fit
 pub all_fit : {S : ℕ} (items : List (Fields S)) → All (FitsBuffer S) (map pair_of items)
 all_fit {S} items = All-map (FitsBuffer S) pair_of items (λ k d within. digest_fits (get_or items k d))
 
@@ -121,6 +127,7 @@ have_stream (m ∷ items) =
 
 -- ---- an encoding as a function
 
+-- the encoding of a pair in range is `encoding_of` the pair
 pub is_encoding_of : (p : Pair) → p.code < varint_limit → length p.digest < varint_limit → IsEncoding p (encoding_of p)
 unfolding encoding_of
 is_encoding_of p code size = record {
@@ -131,10 +138,10 @@ is_encoding_of p code size = record {
   spelled = refl;
 }
 
--- only pairs in range have an encoding
+-- each encoding of a pair is `encoding_of` the pair
 pub encoding_is : (p : Pair) (bytes : List ℕ) → IsEncoding p bytes → bytes ≡ encoding_of p
 encoding_is p bytes e = encoding_same p bytes (encoding_of p) e (is_encoding_of p e.is_code.in_range e.is_size.in_range)
 
--- each value is in range
+-- each value has an encoding, `encoding_of` its pair
 pub encoding_of_value : {S : ℕ} (m : Fields S) → IsEncoding (pair_of m) (encoding_of (pair_of m))
 encoding_of_value m = is_encoding_of (pair_of m) m.in_range (omega (arith, digest_fits m))

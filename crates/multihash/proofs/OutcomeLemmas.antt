@@ -2,23 +2,23 @@
 use Rattle.std.proofs.Common.{◌≡◌, Result, Ok, Err, MatchResult, IfErr, OnErr, sym, subst}
 use Rattle.std.specs.Result.{IsErrAnd}
 
--- the returned error is the one that was passed on, so what holds of that one holds of it
+-- what holds of an error holds of the error that a `?` returns, which equals that one
 pub passed_on : {T E : Type 0} (r : Result T E) (e : E) (Q : T → Type 0) (P : E → Type 0) → IsErrAnd r (λ x. x ≡ e) → P e → MatchResult r Q P
 passed_on (Ok t) e Q P given p = absurd given
 passed_on (Err x) e Q P given p = subst P (sym given) p
 
--- a fact that always holds is a fact for the case Err
+-- a fact that holds in any case holds on an Err
 pub OnErr-always : {T E P : Type 0} (r : Result T E) → P → OnErr r P
 OnErr-always (Ok x) p = tt
 OnErr-always (Err e) p = p
 
--- what is known of an error holds of the result that passes it on
+-- what is known of an Err holds of the result of a `?` that passes its error on
 pub passed_err : {T E : Type 0} (P : Result T E → Type 0) (r : Result T E) (e : E) → IsErrAnd r (λ x. x ≡ e) → P (Err e) → P r
 passed_err P (Ok t) e given p = absurd given
 passed_err P (Err x) e given p = subst (λ y. P (Err y)) (sym given) p
 
--- what holds of each error of a kind holds of a result that is an error of it: for errors that a predicate of
--- `from_gives` names, and for a clause that only one error is left
+-- For errors that a predicate of `from_gives` names, and for a clause that leaves only one error:
+-- what holds of each error of a kind holds of a result that is an error of that kind
 pub only_error : {T E : Type 0} (r : Result T E) (Q : T → Type 0) (Given Kind P : E → Type 0) → IsErrAnd r Given → IfErr r Kind
     → ((e : E) → Kind e → P e) → MatchResult r Q P
 only_error (Ok x) Q Given Kind P given kind weaker = absurd given

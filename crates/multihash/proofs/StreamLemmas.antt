@@ -14,10 +14,10 @@ use Rattle.std.proofs.lemmas.List.Elements.{All-push, All-head}
 use Rattle.multihash.specs.Consuming.{ConsumesSome}
 use Rattle.multihash.specs.Reading.{Consumes}
 use Rattle.multihash.specs.Multihash.{Fields, pair_of}
-use Rattle.multihash.proofs.ReadingLemmas.{Consumes-concatenated, Consumes-told}
+use Rattle.multihash.proofs.ReadingLemmas.{Consumes-concatenated, Consumes-known}
 
 module _ {A : Type 0} (IsPart : A → List ℕ → Type 0) where
-  -- one more part
+  -- one more part after the parts of a list
   pub parts_push : (xs : List A) (x : A) (bytes part : List ℕ) → AreParts IsPart xs bytes → IsPart x part → AreParts IsPart (xs ++ x ∷ []) (bytes ++ part)
   parts_push [] x bytes part none is = (part, [], is, refl, ap (λ z. z ++ part) none ∙ sym (append-nil part))
   parts_push (y ∷ xs) x bytes part (first, rest, is_first, others, cut) is =
@@ -29,11 +29,11 @@ module _ {A : Type 0} (IsPart : A → List ℕ → Type 0) where
   parts_same same (x ∷ xs) a b (p, a', is_p, g, a_cut) (q, b', is_q, h, b_cut) = cc (a_cut, b_cut, same x p q is_p is_q, parts_same same xs a' b' g h)
 
   module _ (unique : (x y : A) (a b r s : List ℕ) → IsPart x a → IsPart y b → a ++ r ≡ b ++ s → (x ≡ y) × (a ≡ b) × (r ≡ s)) where
-    -- a part that was read is the one that comes next
+    -- a part that was read is the one that comes next, if no part is a prefix of another
     pub part_read : (x y : A) (bytes more : List ℕ) (old new : Option (List ℕ)) → ConsumesSome (IsPart x) old new → IsPart y bytes → old ≡ Some (bytes ++ more)
         → (x ≡ y) × (new ≡ Some more)
     part_read x y bytes more old new (read, is, consumes) also at =
-        let (left, told, cut) = Consumes-told (bytes ++ more) read new (sym at ∙ consumes) in
+        let (left, told, cut) = Consumes-known (bytes ++ more) read new (sym at ∙ consumes) in
         let same = unique x y read bytes left more is also (sym cut) in
         (same.0, told ∙ ap Some same.2)
 
@@ -48,7 +48,7 @@ module _ {A : Type 0} (IsPart : A → List ℕ → Type 0) where
         let (zs, c, same, others, whole, left) = parts_split xs ys a' b' r s g h (omega arith) first.2 in
         (zs, c, cc (first.0, same), others, cc (a_cut, b_cut, whole, first.1, append_assoc p a' c), left)
 
-    -- as many items are the same
+    -- two lists of as many items at the front of one input are equal, and so is what follows them
     pub parts_unique : (xs ys : List A) (a b r s : List ℕ) → length xs ≡ length ys → AreParts IsPart xs a → AreParts IsPart ys b
         → a ++ r ≡ b ++ s → (xs ≡ ys) × (r ≡ s)
     parts_unique xs ys a b r s long g h e = by (parts_split xs ys a b r s g h (omega arith) e)
@@ -57,7 +57,7 @@ module _ {A : Type 0} (IsPart : A → List ℕ → Type 0) where
         by ([], c, same, none, _, left) = (sym (same ∙ append-nil xs), left ∙ ap (λ z. z ++ s) none)
         by (z ∷ zs, c, same, _, _, _) = absurd (omega (arith, long, ap length same, length-append xs (z ∷ zs)))
 
-    -- after fewer items comes one of the others
+    -- after the parts of fewer items comes the part of another item
     pub next_part : (xs ys : List A) (a b r s : List ℕ) → AreParts IsPart xs a → AreParts IsPart ys b → length xs < length ys → a ++ r ≡ b ++ s
         → (y : A) × (part : List ℕ) × (rest : List ℕ) × IsPart y part × (r ≡ part ++ rest) × ((P : A → Type 0) → All P ys → P y)
     next_part xs ys a b r s g h few e = by (parts_split xs ys a b r s g h (omega arith) e)
@@ -98,7 +98,7 @@ module _ {A : Type 0} (IsPart : A → List ℕ → Type 0) where
           let (zs, same) = prefix_of xs ys a' b' r s g h shorter first.2 in
           (zs, cc (first.0, same))
 
-      -- so the stream alone determines the items and their number
+      -- if no part is empty, the bytes determine the items and their number
       pub parts_whole : (xs ys : List A) (bytes : List ℕ) → AreParts IsPart xs bytes → AreParts IsPart ys bytes → xs ≡ ys
       parts_whole xs ys bytes g h =
           let (zs, same) = prefix_of xs ys bytes bytes [] [] g h (omega arith) refl in
@@ -110,9 +110,11 @@ module _ {A : Type 0} (IsPart : A → List ℕ → Type 0) where
 pub encoding_some : (p : Pair) (bytes : List ℕ) → IsEncoding p bytes → 0 < length bytes
 encoding_some p bytes e = omega (arith, varint_some p.code e.code e.is_code, ap length e.spelled, length-append e.code (e.size ++ p.digest))
 
+-- the bytes of concatenated encodings determine the pairs
 pub concatenated_whole : (ps qs : List Pair) (bytes : List ℕ) → AreConcatenated ps bytes → AreConcatenated qs bytes → ps ≡ qs
 concatenated_whole = parts_whole IsEncoding encoding_unique encoding_some
 
+-- one more pair was read after others
 pub ConsumesPairs-more : (S : ℕ) (items : List (Fields S)) (m : Fields S) (encoding : List ℕ) (a b c : Option (List ℕ)) → ConsumesPairs S (map pair_of items) a b
     → IsEncoding (pair_of m) encoding → FitsBuffer S (pair_of m) → Consumes b encoding c → ConsumesPairs S (map pair_of (items ++ m ∷ [])) a c
 ConsumesPairs-more S items m encoding a b c before encodes fits consumes =

@@ -1,5 +1,5 @@
 -- A number has one varint, whose length is known, and an input has one front.
-use Rattle.std.proofs.Common.{◌≡◌, ℕ, zero, suc, ◌+◌, ◌-◌, ◌%◌, cond, ltb, ◌^◌, ◌<◌, ◌≤◌, List, [], ◌∷◌, ◌++◌, length, refl, sym, ap, ◌∙◌, arith, inl, inr, append_assoc, append-nil, ◌*◌, ◌/◌, length-append}
+use Rattle.std.proofs.Common.{◌≡◌, ℕ, zero, suc, ◌+◌, ◌-◌, ◌%◌, cond, ltb, ◌^◌, ◌<◌, ◌≤◌, List, [], ◌∷◌, ◌++◌, length, refl, sym, ap, ◌∙◌, arith, inl, inr, append_assoc, append-nil, ◌*◌, ◌/◌, length-append, subst}
 use Rattle.std.specs.List.{All}
 use Rattle.std.proofs.Math.Nat.{lt_of_not-le, mod-eq_of_lt, mul-le-mul_right, pow-le-pow_right}
 use Rattle.std.proofs.lemmas.Bool.{cases_lt, lt-ltb, le-ltb}
@@ -23,7 +23,7 @@ front_within k n bytes v small =
     omega (arith, high, v.value, place_value_last 128 v.last v.front, mul-le-mul_right (128 ^ length v.front) last)) in
     omega arith
 
--- the most continuation bytes, and the bound of a byte after as many
+-- a varint has at most eight continuation bytes, and the last byte after as many is small
 pub varint_length : (n : ℕ) (bytes : List ℕ) (v : IsVarint n bytes)
     → (length v.front ≤ max_continuation) × (length v.front ≡ max_continuation → v.last < last_byte_limit)
 varint_length n bytes v = (
@@ -36,8 +36,9 @@ front_no_longer n a b v w =
     let long : length (w.front ++ w.last ∷ []) ≡ suc (length w.front) = omega (arith, length_push w.front w.last) in
     front_within (length w.front) n a v (rw (w.value, long) at (place_value_below 128 (w.front ++ w.last ∷ []) w.digits))
 
-pub varint_unique : (n : ℕ) (a b : List ℕ) → IsVarint n a → IsVarint n b → a ≡ b
-varint_unique n a b v w =
+-- a number has at most one varint
+pub varint_same : (n : ℕ) (a b : List ℕ) → IsVarint n a → IsVarint n b → a ≡ b
+varint_same n a b v w =
     let long : length (v.front ++ v.last ∷ []) ≡ length (w.front ++ w.last ∷ []) =
     omega (arith, length_push v.front v.last, length_push w.front w.last, front_no_longer n a b v w, front_no_longer n b a w v) in
     let digits = place_value_unique 128 (v.front ++ v.last ∷ []) (w.front ++ w.last ∷ []) v.digits w.digits long (v.value ∙ sym w.value) in
@@ -77,12 +78,13 @@ varint_from_bytes ms b bytes all small few most minimal = record {
   spelled = ap (λ front. front ++ b ∷ []) (sym (continuation_bytes-low_digits ms bytes all));
 }
 
--- continuation bytes, and a byte that makes the varint malformed
+-- a byte after the most continuation bytes that is too large overflows
 pub overflow_after : (ms : List ℕ) (b : ℕ) (rest : List ℕ) → All IsContinuation ms → length ms ≡ max_continuation → last_byte_limit ≤ b
     → IsOverflow (ms ++ b ∷ rest)
 overflow_after ms b rest all most large =
     record { front = ms; byte = b; rest = rest; all_continuation = all; most = most; too_large = large; cut = refl }
 
+-- a zero after continuation bytes is not minimal
 pub zero_after : (ms rest : List ℕ) → All IsContinuation ms → 0 < length ms → length ms ≤ max_continuation → IsNotMinimal (ms ++ 0 ∷ rest)
 zero_after ms rest all some few = record { front = ms; rest = rest; all_continuation = all; some = some; few = few; cut = refl }
 
@@ -93,6 +95,7 @@ pub data Front : Type 0 where
   number : ℕ → List ℕ → Front
   error : VarintError → Front
 
+-- the input has that front
 abbrev pub HasFront : List ℕ → Front → Type 0
 HasFront x (number n rest) = (bytes : List ℕ) × IsVarint n bytes × (x ≡ bytes ++ rest)
 HasFront x (error f) = BeginsMalformed f x
@@ -111,6 +114,7 @@ front_from left ms [] = error insufficient
 front_from zero ms (b ∷ rest) = cond (ltb b last_byte_limit) (ends_with ms b rest) (error overflow)
 front_from (suc left) ms (b ∷ rest) = cond (ltb b 128) (ends_with ms b rest) (front_from left (ms ++ b ∷ []) rest)
 
+-- the front of an input, computed
 abbrev pub front_of : List ℕ → Front
 front_of x = front_from max_continuation [] x
 
@@ -165,9 +169,11 @@ front_is x (error overflow) h =
 front_is x (error not_minimal) h =
     sym (front_ends h.front 0 h.rest x h.all_continuation h.few (omega arith) (λ _. omega arith) h.cut ∙ ends_zero h.front h.rest h.some)
 
+-- an input has at most one front
 pub front_unique : (x : List ℕ) (a b : Front) → HasFront x a → HasFront x b → a ≡ b
 front_unique x a b h k = front_is x a h ∙ sym (front_is x b k)
 
+-- an input with a varint at its front has no malformed one there
 pub number_no_error : (x : List ℕ) (n : ℕ) (r : List ℕ) (f : VarintError) → HasFront x (number n r) → BeginsMalformed f x → ⊥
 number_no_error x n r f h k = let same : number n r ≡ error f = front_unique x (number n r) (error f) h k in cc
 
@@ -200,21 +206,31 @@ front_has (suc left) ms (b ∷ rest) all room bytes =
           (rw (append_assoc ms (b ∷ []) rest) bytes))
     ]
 
+-- an input of bytes has the front that is computed
 pub front_of_has : (x : List ℕ) → IsBytes x → HasFront x (front_of x)
 front_of_has x bytes = front_has max_continuation [] x (All-nil IsContinuation) refl bytes
 
--- an input has one number at its front, and one rest
-pub same_number : (x : List ℕ) (m n : ℕ) (r q : List ℕ) → HasFront x (number m r) → HasFront x (number n q) → (m ≡ n) × (r ≡ q)
-same_number x m n r q h k = let same = front_unique x (number m r) (number n q) h k in (cc, cc)
+-- an input has at most one number at its front, and one rest
+pub number_unique : (x : List ℕ) (m n : ℕ) (r q : List ℕ) → HasFront x (number m r) → HasFront x (number n q) → (m ≡ n) × (r ≡ q)
+number_unique x m n r q h k = let same = front_unique x (number m r) (number n q) h k in (cc, cc)
+
+-- two varints at the front of one input are equal, of the same number, and so is what follows them
+pub varint_unique : (m n : ℕ) (a b r s : List ℕ) → IsVarint m a → IsVarint n b → a ++ r ≡ b ++ s
+    → (m ≡ n) × (a ≡ b) × (r ≡ s)
+varint_unique m n a b r s is also e =
+    let both = number_unique (a ++ r) m n r s (a, is, refl) (b, also, e) in
+    (both.0, varint_same m a b is (subst (λ k. IsVarint k b) (sym both.0) also), both.1)
 
 -- a varint has one byte more than its continuation bytes
 pub varint_bytes : (n : ℕ) (bytes : List ℕ) (v : IsVarint n bytes) → length bytes ≡ length v.front + 1
 varint_bytes n bytes v =
     omega (arith, ap length v.spelled, length-append (continuation_bytes v.front) (v.last ∷ []), length-map v.front (λ digit. digit + 128))
 
+-- a varint is not empty
 pub varint_some : (n : ℕ) (bytes : List ℕ) → IsVarint n bytes → 0 < length bytes
 varint_some n bytes v = omega (arith, varint_bytes n bytes v)
 
+-- a varint has at most nine bytes
 pub varint_longest : (n : ℕ) (bytes : List ℕ) → IsVarint n bytes → length bytes ≤ max_continuation + 1
 varint_longest n bytes v = omega (arith, varint_bytes n bytes v, (varint_length n bytes v).0)
 

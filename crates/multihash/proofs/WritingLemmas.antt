@@ -11,7 +11,7 @@ use Rattle.multihash.specs.Refusal.{Refusal, IsIo}
 use Rattle.multihash.specs.Filling.{FillsSlice, Fills, IsFilled}
 use Rattle.multihash.specs.declared.no_std_io.slice_writer.SliceWriter.{SliceWriter}
 
--- a list that isn't empty has a length
+-- a list that is not empty has a length
 pub length_of_not_nil : (xs : List ℕ) → xs ≢ [] → 0 < length xs
 length_of_not_nil [] some = absurd (some refl)
 length_of_not_nil (x ∷ xs) some = omega arith
@@ -21,7 +21,7 @@ pub concatenated-take-drop : (whole done left : List ℕ) (n : ℕ) → whole �
 concatenated-take-drop whole done left n e =
     e ∙ ap (λ l. done ++ l) (sym (take-append-drop n left)) ∙ sym (append_assoc done (take n left) (drop n left))
 
--- the same, with the remaining bytes as the range `left[n..]`
+-- the first n of the remaining bytes follow those done so far, the others are `left[n..]`
 pub concatenated-take-range : (whole done left : List ℕ) (n : ℕ) → whole ≡ done ++ left → whole ≡ (done ++ take n left) ++ take (length left - n) (drop n left)
 concatenated-take-range whole done left n e = concatenated-take-drop whole done left n e ∙ ap (λ l. (done ++ take n left) ++ l) (sym (take_rest left n))
 
@@ -47,11 +47,11 @@ module _ {W : Type 0} (appended : W → List ℕ → W → Type 0) where
     appends = appends;
   }
 
-  -- a strict prefix of the first of two lists has been appended, so one of both
+  -- a strict prefix of the first of two lists has been appended, so a strict prefix of both
   pub AppendsPrefix-append : (a b : W) (x y : List ℕ) → AppendsPrefix appended a x b → AppendsPrefix appended a (x ++ y) b
   AppendsPrefix-append a b x y h = record { part = h.part; strict = IsStrictPrefix-append _ _ y h.strict; appends = h.appends }
 
-  -- the first of two lists has been appended and a strict prefix of the second, so one of both
+  -- the first of two lists has been appended, and a strict prefix of the second: one of both
   pub AppendsPrefix-concatenated : ((a b c : W) (x y : List ℕ) → appended a x b → appended b y c → appended a (x ++ y) c)
       → (a b c : W) (x y : List ℕ) → appended a x b → AppendsPrefix appended b y c → AppendsPrefix appended a (x ++ y) c
   AppendsPrefix-concatenated join a b c x y first h = record {
@@ -60,37 +60,51 @@ module _ {W : Type 0} (appended : W → List ℕ → W → Type 0) where
     appends = join a b c x h.part first h.appends;
   }
 
-module _ {W : Type 0} (appended : W → List ℕ → W → Type 0) (join : (a b c : W) (x y : List ℕ) → appended a x b → appended b y c → appended a (x ++ y) c)
+module _ {W : Type 0} (appended : W → List ℕ → W → Type 0)
+    (join : (a b c : W) (x y : List ℕ) → appended a x b → appended b y c → appended a (x ++ y) c)
     (IsForm : List ℕ → Type 0) where
-  abbrev Stopped : W → W → Type 0
-  Stopped old new = (bytes : List ℕ) × IsForm bytes × AppendsPrefix appended old bytes new
-
   -- a form of two parts, each written by itself
   module _ (a b : List ℕ) (form : IsForm (a ++ b)) where
-    pub stops_in_front : {T E : Type 0} (r : Result T E) (u v : W) → AppendsPrefix appended u a v → OnErr r (Stopped u v)
+    -- of two parts, writing the first failed: a strict prefix of both has been appended
+    pub stops_in_front : {T E : Type 0} (r : Result T E) (u v : W) → AppendsPrefix appended u a v
+        → OnErr r ((bytes : List ℕ) × IsForm bytes × AppendsPrefix appended u bytes v)
     stops_in_front r u v part = OnErr-always r (a ++ b, form, AppendsPrefix-append appended u v a b part)
 
-    pub stops_in_back : {T E : Type 0} (r : Result T E) (u w v : W) → appended u a w → AppendsPrefix appended w b v → OnErr r (Stopped u v)
-    stops_in_back r u w v first part = OnErr-always r (a ++ b, form, AppendsPrefix-concatenated appended join u w v a b first part)
+    -- of two parts, writing the second failed: a strict prefix of both has been appended
+    pub stops_in_back : {T E : Type 0} (r : Result T E) (u w v : W) → appended u a w
+        → AppendsPrefix appended w b v
+        → OnErr r ((bytes : List ℕ) × IsForm bytes × AppendsPrefix appended u bytes v)
+    stops_in_back r u w v first part =
+        OnErr-always r (a ++ b, form, AppendsPrefix-concatenated appended join u w v a b first part)
 
-  -- and one of three
+  -- a form of three parts
   module _ (a b d : List ℕ) (form : IsForm (a ++ (b ++ d))) where
-    pub stops_in_first : {T E : Type 0} (r : Result T E) (u v : W) → AppendsPrefix appended u a v → OnErr r (Stopped u v)
+    -- of three parts, writing the first failed: a strict prefix of all has been appended
+    pub stops_in_first : {T E : Type 0} (r : Result T E) (u v : W) → AppendsPrefix appended u a v
+        → OnErr r ((bytes : List ℕ) × IsForm bytes × AppendsPrefix appended u bytes v)
     stops_in_first = stops_in_front a (b ++ d) form
 
-    pub stops_in_second : {T E : Type 0} (r : Result T E) (u w v : W) → appended u a w → AppendsPrefix appended w b v → OnErr r (Stopped u v)
-    stops_in_second r u w v first part = stops_in_back a (b ++ d) form r u w v first (AppendsPrefix-append appended w v b d part)
+    -- of three parts, writing the second failed: a strict prefix of all has been appended
+    pub stops_in_second : {T E : Type 0} (r : Result T E) (u w v : W) → appended u a w
+        → AppendsPrefix appended w b v
+        → OnErr r ((bytes : List ℕ) × IsForm bytes × AppendsPrefix appended u bytes v)
+    stops_in_second r u w v first part =
+        stops_in_back a (b ++ d) form r u w v first (AppendsPrefix-append appended w v b d part)
 
-    pub stops_in_third : {T E : Type 0} (r : Result T E) (u w x v : W) → appended u a w → appended w b x → AppendsPrefix appended x d v → OnErr r (Stopped u v)
+    -- of three parts, writing the third failed: a strict prefix of all has been appended
+    pub stops_in_third : {T E : Type 0} (r : Result T E) (u w x v : W) → appended u a w → appended w b x
+        → AppendsPrefix appended x d v
+        → OnErr r ((bytes : List ℕ) × IsForm bytes × AppendsPrefix appended u bytes v)
     stops_in_third r u w x v first second part =
-        stops_in_back a (b ++ d) form r u w v first (AppendsPrefix-concatenated appended join w x v b d second part)
+        stops_in_back a (b ++ d) form r u w v first
+        (AppendsPrefix-concatenated appended join w x v b d second part)
 
 -- a writer that doesn't allocate and counted no failure returned an error because it was full
 pub full_of_errors : (n : ℕ) (is_full : Type 0) (e : Fault) → IsWriterFaultOrFull false n n is_full e → is_full
 full_of_errors n is_full e (inl error) = elim error.cause [ inl rose ↦ absurd (omega arith) | inr memory ↦ absurd (false≢true memory.0) ]
 full_of_errors n is_full e (inr full) = full.2
 
--- and a slice that is this list has been filled
+-- a slice with the bytes after its first `n` has been filled with them
 pub fills_slice : (old bytes new : List ℕ) (n m : ℕ) → n + length bytes ≤ length old → m ≡ n + length bytes
     → new ≡ take n old ++ (bytes ++ drop (n + length bytes) old) → FillsSlice old n bytes new m
 fills_slice old bytes new n m room count puts =
@@ -123,7 +137,7 @@ filled_length old bytes new n m h =
       length-append (take n old) (drop n old),
     )
 
--- the slice is full after a strict prefix of `bytes`, so the remaining capacity was less than they need
+-- a slice that is full after a strict prefix of `bytes` had less capacity left than they need
 pub fewer_left : (old new : SliceWriter) (bytes : List ℕ) → AppendsPrefix Fills old bytes new → IsFilled new
     → length old.buffer.now < old.filled + length bytes
 fewer_left old new bytes h full =
@@ -137,8 +151,8 @@ fewer_left old new bytes h full =
       length_of_not_nil h.strict.0 h.strict.1,
     )
 
--- `write`, `scale_encode` and `write_list` succeed if the remaining capacity suffices: the two facts are
--- their clauses `err` and `faults`
+-- The two facts are the clauses `err` and `faults` of `write`, `scale_encode` and `write_list`.
+-- A call that writes to a `SliceWriter` succeeds if the remaining capacity suffices
 pub slice_writer_has_room : {T : Type 0} (old new : SliceWriter) (IsForm : List ℕ → Type 0) (r : Result T Refusal)
     → OnErr r ((bytes : List ℕ) × IsForm bytes × AppendsPrefix Fills old bytes new) → CountsWriterFailures IsIo false 0 0 (IsFilled new) r
     → ((bytes : List ℕ) → IsForm bytes → old.filled + length bytes ≤ length old.buffer.now) → IsOk r

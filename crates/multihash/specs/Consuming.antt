@@ -37,8 +37,8 @@ abbrev pub ReadMayFailWith : ℕ → Refusal → Type 0
 ReadMayFailWith S e =
     ((size : ℕ) × IsInvalidSize size e × (digest_limit S < size)) ⊎ IsAnyVarintError e ⊎ IsEof e
 
--- what reading a varint consumed when it failed: bytes of which the last shows why it is malformed;
--- after a failure of the reader, bytes that are insufficient
+-- After a failure of the reader, the bytes are insufficient.
+-- What reading a varint consumed when it failed: bytes of which the last shows the error
 pub record ConsumesAtVarintError (e : Refusal) (old new : Option (List ℕ)) : Type 0 where
   pub consumed : List ℕ
   pub consumes : Consumes old consumed new
@@ -47,14 +47,14 @@ pub record ConsumesAtVarintError (e : Refusal) (old new : Option (List ℕ)) : T
   pub all : IsVarintError insufficient e → IsAtEnd new
   pub failed : IsReaderError e → IsInsufficient consumed
 
--- the error names why the varint at the front of the input is malformed, and reading the varint consumes that
--- many bytes
+-- why the varint at the front of the input is malformed, and how many bytes reading it consumes
 abbrev pub IsFrontErrorAt : List ℕ → Refusal → ℕ → Type 0
 IsFrontErrorAt input e taken = IsFrontError input e × (taken ≤ length input)
     × ConsumesAtVarintError e (Some input) (Some (drop taken input))
 
--- what `read` consumed when it failed: all of an insufficient input, at least both varints of a
--- truncated digest; after a failure of the reader, bytes whose own verdict is incomplete
+-- All of an insufficient input, or at least both varints of a truncated digest; after a failure of
+-- the reader, bytes whose own verdict is incomplete.
+-- What `read` consumed when the input ended or the reader failed
 pub record ConsumesAtError (S : ℕ) (e : Refusal) (old new : Option (List ℕ)) : Type 0 where
   pub consumed : List ℕ
   pub consumes : Consumes old consumed new
@@ -69,8 +69,9 @@ pub record ConsumesShortestSettling (S : ℕ) (rest : List ℕ) (new : Option (L
   pub shortest : IsShortestSettling S rest front
   pub consumes : Consumes (Some rest) front new
 
--- one of the two varints at the front of the input is malformed, so for each capacity reading returns this
--- error, and consumes that many bytes: the shortest prefix that settles it, or all of an insufficient input
+-- One of the two varints at the front of the input is malformed; reading consumes the shortest prefix
+-- that settles it, or all of an insufficient input.
+-- The error of that varint, the same for each capacity, and the number of bytes consumed
 pub record IsHeadError (input : List ℕ) (e : Refusal) (taken : ℕ) : Type 0 where
   pub error : VarintError
   pub named : IsVarintError error e
@@ -94,9 +95,9 @@ FailsBy before after IsListed e = ((after ≡ before + 1) × IsReaderError e) �
 abbrev pub EndsOrFails : ℕ → List ℕ → ℕ → ℕ → Type 0
 EndsOrFails S rest before after = (before < after) ⊎ ((v : Verdict) × HasVerdict S rest v × IsIncomplete v)
 
--- the clauses of `read` for a result, while the reader's failures went from `before` to `after`: if the
--- verdict is not incomplete, exactly the shortest prefix that settles it was consumed; otherwise, and if the
--- reader failed, no prefix of what was consumed settles one
+-- If the verdict is not incomplete, exactly the shortest prefix that settles it was consumed; otherwise,
+-- and if the reader failed, no prefix of what was consumed settles one.
+-- The clauses of `read` for a result, while the reader's failures went from `before` to `after`
 abbrev pub ReadMeets : (S : ℕ) → Option (List ℕ) → Option (List ℕ) → ℕ → ℕ → Result (Fields S) Refusal
     → Type 0
 ReadMeets S old new before after r = record {

@@ -12,8 +12,8 @@ use Rattle.serde_json.specs.declared.value.Value.{Value}
 
 -- ---- word.rt
 
--- the word is made of the first sixteen bytes, lowest first, with zeros for those that are missing, and
--- that many are there
+-- Zeros stand for the bytes that are missing, and that many are there.
+-- The word is made of the first sixteen bytes, lowest first
 pub record IsFrontWord (bytes : List ℕ) (word present : ℕ) : Type 0 where
   pub word_is : word ≡ place_value 256 (take 16 bytes)
   pub present_is : present ≡ min 16 (length bytes)
@@ -74,10 +74,12 @@ pub record AppendsMembers (old : List Value) (bytes : List ℕ) (new : List Valu
   pub following : map view new ≡ map view old ++ map (λ n. number (unsigned n)) bytes
   pub are_bytes : IsBytes bytes
 
+-- a list to which no members have been appended
 pub AppendsMembers-none : (a : List Value) → AppendsMembers a [] a
 AppendsMembers-none a =
     record { following = sym (append-nil (map view a)); are_bytes = All-nil (λ byte. byte < 256) }
 
+-- a list to which the members of two lists have been appended
 pub AppendsMembers-concatenated : (a b c : List Value) (x y : List ℕ)
     → AppendsMembers a x b → AppendsMembers b y c → AppendsMembers a (x ++ y) c
 AppendsMembers-concatenated a b c x y first second = record {

@@ -3,8 +3,8 @@ use Rattle.std.specs.Prelude.{◌≡◌, ◌+◌, ◌<◌, ◌≤◌, ℕ, List,
 use Rattle.std.specs.Io.KnownBytes.{prepend_known, IsAtEnd}
 use Rattle.multihash.specs.Fault.{Fault, IsUnexpectedEof, IsOwnFault}
 
--- a call consumed these bytes: the rest was these, followed by the rest now. An input that is not known
--- stays so
+-- An input that is not known stays so.
+-- A call consumed these bytes: the rest was these, followed by the rest now
 abbrev pub Consumes : Option (List ℕ) → List ℕ → Option (List ℕ) → Type 0
 Consumes old consumed new = old ≡ prepend_known consumed new
 
@@ -22,8 +22,7 @@ pub record ConsumesFewerThan (n : ℕ) (old new : Option (List ℕ)) : Type 0 wh
 abbrev pub NoOtherError : {E : Type 0} → E → Type 0
 NoOtherError e = ⊥
 
--- an Ok leaves the count of failures unchanged; an Err is either an error of the reader itself, counted
--- once, or one of the listed errors, not counted
+-- an Ok counts no failure; an Err is the reader's own, counted once, or a listed one, not counted
 abbrev pub CountsReaderFailures : {A E : Type 0} → (E → Type 0) → (E → Type 0) → ℕ → ℕ → Result A E → Type 0
 CountsReaderFailures IsOwn IsListed before after outcome = MatchResult outcome (λ _. after ≡ before)
     (λ e. ((after ≡ before + 1) × IsOwn e) ⊎ ((after ≡ before) × IsListed e))
@@ -51,8 +50,8 @@ ReadExactLaws rest failures old new buffer filled outcome = record {
   err : OnErr outcome (ConsumesFewerThan (length buffer) (rest old) (rest new));
 }
 
--- `None` means that the input has ended and nothing was consumed; at the end of a known input it is returned
--- unless the reader failed
+-- At the end of a known input `None` is returned unless the reader failed.
+-- `None` means that the input has ended and nothing was consumed
 abbrev pub EndsInNone : {A E : Type 0} → Option (List ℕ) → Option (List ℕ) → ℕ → ℕ → Result (Option A) E
     → Type 0
 EndsInNone old new before after outcome = record {

@@ -6,8 +6,7 @@ use Rattle.multihash.specs.declared.error.Kind.TheVariants.{Io, InvalidSize, Inv
 use Rattle.multihash.specs.Varint.{VarintError, insufficient, overflow, not_minimal, BeginsMalformed}
 use Rattle.multihash.specs.Fault.{Fault, IsUnexpectedEof, IsOutOfMemoryFault, IsOwnFault, printed}
 
--- why a call failed: an error of a reader or a writer, a size, a code, a malformed varint, or a JSON
--- value that is no byte array
+-- why a call failed: an I/O error, a size, a code, a malformed varint, JSON that is no byte array
 pub data Refusal : Type 0 where
   of_io : Fault → Refusal
   of_size : ℕ → Refusal

@@ -30,8 +30,9 @@ pub record HasScaleSize (size : ℕ) (input rest : List ℕ) : Type 0 where
   pub in_range : code < varint_limit
   pub cut : input ≡ code_bytes ++ size ∷ rest
 
--- the verdict of decoding on the front of the input; no varint is read. The capacity is `S`, not
--- `digest_limit S`, since the size is one byte, so at most 255
+-- No varint is read. The capacity is `S`, not `digest_limit S`, since the size is one byte, so at
+-- most 255.
+-- The verdict of decoding a SCALE form on the front of the input
 abbrev pub HasScaleVerdict : ℕ → List ℕ → Verdict → Type 0
 HasScaleVerdict S input (accepted p) =
     (bytes : List ℕ) × (rest : List ℕ) × IsScale p bytes × (length p.digest ≤ S)
@@ -53,8 +54,9 @@ abbrev pub ScaleMayFailWith : ℕ → Refusal → Type 0
 ScaleMayFailWith S e = ((code : ℕ) × IsInvalidCode code e × (varint_limit ≤ code))
     ⊎ ((size : ℕ) × IsInvalidSize size e × (S < size)) ⊎ IsEof e
 
--- what decoding consumed when it failed: eight bytes if the code is too large, nine if the size is;
--- otherwise, also after a failure of the reader, bytes that by themselves are truncated
+-- Eight bytes if the code is too large, nine if the size is; otherwise, also after a failure of the
+-- reader, bytes that by themselves are truncated.
+-- What decoding a SCALE form consumed when it failed
 pub record ConsumesAtScaleError (S : ℕ) (e : Refusal) (old new : Option (List ℕ)) : Type 0 where
   pub consumed : List ℕ
   pub consumes : Consumes old consumed new

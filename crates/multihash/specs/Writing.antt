@@ -27,8 +27,7 @@ IsWriterFaultOrFull allocates before after is_full e =
 abbrev pub IsFault : (Fault → Type 0) → Fault → Type 0
 IsFault P error = P error
 
--- an Ok leaves the count of failures unchanged; an Err is the writer's own or says that it is full, and
--- only the former is counted
+-- an Ok counts no failure; an Err is the writer's own, counted, or that it is full, not counted
 abbrev pub CountsWriterFailures : {A E : Type 0} → ((Fault → Type 0) → E → Type 0) → Bool → ℕ → ℕ → Type 0
     → Result A E → Type 0
 CountsWriterFailures Says allocates before after is_full outcome = MatchResult outcome (λ _. after ≡ before)
@@ -62,9 +61,11 @@ pub record AdvancesPast (old bytes new : List ℕ) : Type 0 where
   pub room : length bytes ≤ length old
   pub left : new ≡ drop (length bytes) old
 
+-- a slice that has advanced past nothing
 pub AdvancesPast-none : (a : List ℕ) → AdvancesPast a [] a
 AdvancesPast-none a = record { room = omega arith; left = refl }
 
+-- a slice that has advanced past two lists
 pub AdvancesPast-concatenated : (a b c x y : List ℕ)
     → AdvancesPast a x b → AdvancesPast b y c → AdvancesPast a (x ++ y) c
 AdvancesPast-concatenated a b c x y first second =
@@ -79,9 +80,11 @@ AdvancesPast-concatenated a b c x y first second =
 abbrev pub AppendsAtEnd : List ℕ → List ℕ → List ℕ → Type 0
 AppendsAtEnd old bytes new = new ≡ old ++ bytes
 
+-- a vector to which nothing has been appended
 pub AppendsAtEnd-none : (a : List ℕ) → AppendsAtEnd a [] a
 AppendsAtEnd-none a = sym (append-nil a)
 
+-- a vector to which two lists have been appended
 pub AppendsAtEnd-concatenated : (a b c x y : List ℕ)
     → AppendsAtEnd a x b → AppendsAtEnd b y c → AppendsAtEnd a (x ++ y) c
 AppendsAtEnd-concatenated a b c x y first second = second ∙ ap (λ l. l ++ y) first ∙ append_assoc a x y

@@ -11,7 +11,7 @@ use Rattle.multihash.specs.Reading.{Consumes}
 use Rattle.multihash.specs.Refusal.{Refusal, IsOutOfMemory}
 use Rattle.multihash.specs.Consuming.{ConsumesSome}
 use Rattle.multihash.proofs.EncodingLemmas.{encoding_unique}
-use Rattle.multihash.proofs.ReadingLemmas.{Consumes-told}
+use Rattle.multihash.proofs.ReadingLemmas.{Consumes-known}
 use Rattle.multihash.proofs.CallingLemmas.{read_of_encoding}
 use Rattle.multihash.proofs.StreamLemmas.{part_follows, part_read}
 use Rattle.sha2.proofs.Facts256.{length-sha256}
@@ -68,7 +68,7 @@ entry_unique p q a b x y r s h k same =
 pub entry_found : (p q : Pair) (a b y more : List ℕ) (old new : Option (List ℕ)) → (x : List ℕ) × IsEntry p a x × Consumes old x new
     → IsEntry q b y → old ≡ Some (y ++ more) → (p ≡ q) × (a ≡ b) × (new ≡ Some more)
 entry_found p q a b y more old new (x, is, consumes) k rest =
-    let (left, told, cut) = Consumes-told (y ++ more) x new (sym rest ∙ consumes) in
+    let (left, told, cut) = Consumes-known (y ++ more) x new (sym rest ∙ consumes) in
     let same = entry_unique p q a b x y left more is k (sym cut) in
     (same.0, same.1, told ∙ ap Some same.3)
 

@@ -4,7 +4,7 @@ use Rattle.std.proofs.lemmas.List.{append_cancel_right}
 use Rattle.multihash.specs.Varint.{IsVarint}
 use Rattle.multihash.specs.Refusal.{IsOutOfMemory}
 use Rattle.multihash.proofs.CallingLemmas.{number_read, number_in_part, number_found, number_truncated, exact_found, exact_truncated}
-use Rattle.multihash.proofs.VarintLemmas.{same_number}
+use Rattle.multihash.proofs.VarintLemmas.{number_unique}
 use Rattle.multihash.proofs.EncodingLemmas.{same_cut}
 use Rattle.storage.specs.Prefixed.{IsPrefixed, IsFailed, IsTruncatedOrMemory, PrefixedFails}
 use Rattle.storage.specs.declared.prefixed.PrefixedError.{PrefixedError}
@@ -19,7 +19,7 @@ make_prefixed n block len long is_len = record { len = len; is_len = subst (λ k
 -- two blocks at the front of one list are equal, and so is what follows them
 pub prefixed_unique : (x y a b r s : List ℕ) → IsPrefixed x a → IsPrefixed y b → a ++ r ≡ b ++ s → (x ≡ y) × (a ≡ b) × (r ≡ s)
 prefixed_unique x y a b r s h k same =
-    let lens = same_number (a ++ r) (length x) (length y) (x ++ r) (y ++ s) (h.len, h.is_len, prefixed_cut x a r h)
+    let lens = number_unique (a ++ r) (length x) (length y) (x ++ r) (y ++ s) (h.len, h.is_len, prefixed_cut x a r h)
     (k.len, k.is_len, same ∙ prefixed_cut y b s k) in
     let blocks = same_cut x y r s lens.0 lens.1 in
     (blocks.0, append_cancel_right a b r (same ∙ ap (λ (z : List ℕ). b ++ z) (sym blocks.1)), blocks.1)

@@ -11,7 +11,7 @@ use Rattle.multihash.specs.Multihash.{Fields, pair_of}
 use Rattle.multihash.proofs.CallingLemmas.{number_read, number_found}
 use Rattle.multihash.proofs.ReadingVectors.{consumes_not_fewer}
 use Rattle.multihash.proofs.VarintWriteLemmas.{one_byte}
-use Rattle.multihash.proofs.VarintLemmas.{varint_some, same_number}
+use Rattle.multihash.proofs.VarintLemmas.{varint_some, number_unique}
 use Rattle.sha2.specs.Sha256.{sha256}
 use Rattle.sha2.proofs.Facts256.{length-sha256}
 use Rattle.multihash.specs.Streams.{AreParts}
@@ -65,7 +65,7 @@ truncated_is_eof input e (n, len, rest, is, cut, short, eof) = eof
 
 whole_is_not_truncated : (e : Refusal) → ¬ (IsTruncated (1 ∷ 7 ∷ []) e)
 whole_is_not_truncated e (n, len, rest, is, cut, short, eof) =
-    let told = same_number (1 ∷ 7 ∷ []) n 1 rest (7 ∷ []) (len, is, cut) (1 ∷ [], (one_byte 1 (omega arith)), refl) in
+    let told = number_unique (1 ∷ 7 ∷ []) n 1 rest (7 ∷ []) (len, is, cut) (1 ∷ [], (one_byte 1 (omega arith)), refl) in
     omega (arith, short, told.0, ap (λ (z : List ℕ). length z) told.1)
 
 consumed_pair_fits : (S : ℕ) (p : Pair) (old new : Option (List ℕ)) → ConsumesPair S p old new → FitsBuffer S p
