@@ -1,4 +1,3 @@
-pub mod PrefixedLemmas
 pub mod LogLemmas
 pub mod LevelLemmas
 pub mod BindingLemmas

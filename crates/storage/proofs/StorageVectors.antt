@@ -1,17 +1,11 @@
--- What the definitions exclude: a message that collides with itself or with one of another hash, errors that
--- are not the block's, another root of two leaves or of one, no path from a leaf, and a valid prefix that is not
--- entries or not the longest. What they do not exclude: paths of which one goes on where the other ends.
-use Rattle.std.proofs.Common.{◌≡◌, ◌++◌, ℕ, zero, suc, List, [], ◌∷◌, length, length-append, append-nil, Option, Some, inl, inr, refl, sym, ap, ◌∙◌, arith}
-use Rattle.std.specs.Prelude.{⊤, codes}
-use Rattle.std.specs.Fmt.{digits}
+-- What the definitions exclude: a message that collides with itself or with one of another hash, another root
+-- of two leaves or of one, no path from a leaf, and a valid prefix that is not entries or not the longest. What
+-- they do not exclude: paths of which one goes on where the other ends.
+use Rattle.std.proofs.Common.{◌≡◌, ◌++◌, ℕ, zero, suc, List, [], ◌∷◌, length, length-append, append-nil, Option, inl, inr, refl, sym, ap, ◌∙◌, arith}
 use Rattle.std.specs.List.{Contains}
 use Rattle.multihash.specs.Pair.{Pair, FitsBuffer}
-use Rattle.multihash.specs.Refusal.{Refusal, IsEof}
 use Rattle.multihash.specs.Multihash.{Fields, pair_of}
-use Rattle.multihash.proofs.CallingLemmas.{number_read, number_found}
-use Rattle.multihash.proofs.ReadingVectors.{consumes_not_fewer}
-use Rattle.multihash.proofs.VarintWriteLemmas.{one_byte}
-use Rattle.multihash.proofs.VarintLemmas.{varint_some, number_unique}
+use Rattle.multihash.proofs.VarintLemmas.{varint_some}
 use Rattle.sha2.specs.Sha256.{sha256}
 use Rattle.sha2.proofs.Facts256.{length-sha256}
 use Rattle.multihash.specs.Streams.{AreParts}
@@ -19,10 +13,7 @@ use Rattle.storage.specs.Content.{content_pair}
 use Rattle.storage.specs.Merkle.{Collides, PathStep, leaf_pair, parent_pair, root_from, messages_from}
 use Rattle.storage.specs.Levels.{level, level_above, IsRoot, IsPath, none, without_step, one_more, IsPathToRoot, LeadsFrom}
 use Rattle.storage.specs.Log.{IsEntry, ConsumesPair, IsValidPrefix}
-use Rattle.storage.specs.Prefixed.{error_text, IsFailed, BlockFails, PrefixedFails, IsTruncated}
 use Rattle.storage.specs.Step.{TurnAlike, IsOnlyPath, steps_of}
-use Rattle.storage.specs.declared.prefixed.PrefixedError.{PrefixedError}
-use Rattle.storage.specs.declared.prefixed.PrefixedError.TheVariants.{Failed, TooLong}
 use Rattle.storage.specs.declared.merkle.Step.{Step}
 
 only : (m x : List ℕ) → Contains (m ∷ []) x → m ≡ x
@@ -34,39 +25,6 @@ one_message m c = c.differ (sym (only m c.first c.of_first) ∙ only m c.second 
 
 one_hash : (m x : List ℕ) → Collides (m ∷ []) (x ∷ []) → sha256 m ≡ sha256 x
 one_hash m x c = rw (only m c.first c.of_first, only x c.second c.of_second) c.collide
-
-whole_block : (limit before after : ℕ) (e : PrefixedError) → ¬ (BlockFails limit before after e 1 (Some (1 ∷ 2 ∷ [])) (Some (2 ∷ [])))
-whole_block limit before after e (inl (long, over, counted, kept)) = cc
-whole_block limit before after e (inr (within, inl (memory, counted, consumed))) = consumes_not_fewer consumed
-whole_block limit before after e (inr (within, inr (r, is, fails))) = consumes_not_fewer fails.consumed
-
-long_block : (before after : ℕ) (e : Refusal) (old new : Option (List ℕ)) → ¬ (BlockFails 0 before after (Failed e) 1 old new)
-long_block before after e old new (inl (long, over, counted, kept)) = cc
-long_block before after e old new (inr (within, fails)) = omega (arith, within)
-
-uncounted : (limit n : ℕ) (e : PrefixedError) (old new : Option (List ℕ)) → ¬ (BlockFails limit 0 2 e n old new)
-uncounted limit n e old new (inl (long, over, counted, kept)) = omega (arith, counted)
-uncounted limit n e old new (inr (within, inl (memory, counted, consumed))) = omega (arith, counted)
-uncounted limit n e old new (inr (within, inr (r, is, fails))) =
-    elim fails.cause [ inl own ↦ omega (arith, own.0) | inr eof ↦ omega (arith, eof.0) ]
-
-too_long_is_not_failed : (n : ℕ) → ¬ (IsFailed (λ _. ⊤) (TooLong n))
-too_long_is_not_failed n (r, is, _) = cc
-
--- the length 1 is above the limit 0
-too_long : (e : PrefixedError) (new : Option (List ℕ)) → PrefixedFails 0 0 0 e (Some (1 ∷ [])) new → (e ≡ TooLong 1) × (new ≡ Some [])
-too_long e new (inl (r, is, fails)) = absurd (number_found 0 0 refl r 1 (1 ∷ []) [] (Some (1 ∷ [])) new (one_byte 1 (omega arith)) refl fails)
-too_long e new (inr (n, mid, first, fails)) =
-    let told = number_read 1 n (1 ∷ []) [] (one_byte 1 (omega arith)) (Some (1 ∷ [])) mid refl first in
-    elim fails [ inl (is, over, same, kept) ↦ (is ∙ ap TooLong told.0, kept ∙ told.1) | inr (within, _) ↦ absurd (omega (arith, within, told.0)) ]
-
-truncated_is_eof : (input : List ℕ) (e : Refusal) → IsTruncated input e → IsEof e
-truncated_is_eof input e (n, len, rest, is, cut, short, eof) = eof
-
-whole_is_not_truncated : (e : Refusal) → ¬ (IsTruncated (1 ∷ 7 ∷ []) e)
-whole_is_not_truncated e (n, len, rest, is, cut, short, eof) =
-    let told = number_unique (1 ∷ 7 ∷ []) n 1 rest (7 ∷ []) (len, is, cut) (1 ∷ [], (one_byte 1 (omega arith)), refl) in
-    omega (arith, short, told.0, ap (λ (z : List ℕ). length z) told.1)
 
 consumed_pair_fits : (S : ℕ) (p : Pair) (old new : Option (List ℕ)) → ConsumesPair S p old new → FitsBuffer S p
 consumed_pair_fits S p old new h = h.0
@@ -116,11 +74,11 @@ module _ (a b : Pair) where
 one_entry : (block entry : List ℕ) → IsEntry (content_pair block) block entry → ¬ (IsValidPrefix [] entry)
 one_entry block entry is h = omega (
   arith,
-  varint_some (length block) is.is_prefixed.len is.is_prefixed.is_len,
+  varint_some (length block) is.is_framed.len is.is_framed.is_len,
   ap (λ (z : List ℕ). length z) is.parts,
-  length-append is.encoding is.prefixed,
-  ap (λ (z : List ℕ). length z) is.is_prefixed.parts,
-  length-append is.is_prefixed.len block,
+  length-append is.encoding is.framed,
+  ap (λ (z : List ℕ). length z) is.is_framed.parts,
+  length-append is.is_framed.len block,
   h.longest entry [] (block ∷ [], (entry, [], is, refl, sym (append-nil entry))) (sym (append-nil entry)),
 )
 
@@ -139,13 +97,9 @@ three_zeros h = by h.entries.0 h.entries.1
       ap (λ (z : List ℕ). length z) cut,
       length-append part rest,
       ap (λ (z : List ℕ). length z) is.parts,
-      length-append is.encoding is.prefixed,
+      length-append is.encoding is.framed,
       ap (λ (z : List ℕ). length z) is.encodes.spelled,
       length-append is.encodes.code (is.encodes.size ++ sha256 block),
       length-append is.encodes.size (sha256 block),
       length-sha256 block,
     )
-
-text : error_text (TooLong 77) ≡ codes "a block of 77 bytes is too long"
-unfolding digits
-text = refl

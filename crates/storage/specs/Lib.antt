@@ -3,5 +3,4 @@ pub mod Hashing
 pub mod Levels
 pub mod Log
 pub mod Merkle
-pub mod Prefixed
 pub mod Step

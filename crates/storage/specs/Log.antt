@@ -5,26 +5,26 @@ use Rattle.multihash.specs.Encoding.{IsEncoding}
 use Rattle.multihash.specs.Consuming.{ConsumesSome, FailsInTurn, ReadFails}
 use Rattle.multihash.specs.Streams.{AreParts}
 use Rattle.storage.specs.Content.{content_pair}
-use Rattle.storage.specs.Prefixed.{IsPrefixed, IsFailed, PrefixedFails}
-use Rattle.storage.specs.declared.prefixed.PrefixedError.{PrefixedError}
+use Rattle.frame.specs.Frame.{IsFramed, IsFailed, FrameFails}
+use Rattle.frame.specs.declared.error.FrameError.{FrameError}
 
 -- the bytes are the multihash, and the block with its length before it
 pub record IsEntry (p : Pair) (block bytes : List ℕ) : Type 0 where
   pub encoding : List ℕ
-  pub prefixed : List ℕ
+  pub framed : List ℕ
   pub encodes : IsEncoding p encoding
-  pub is_prefixed : IsPrefixed block prefixed
-  pub parts : bytes ≡ encoding ++ prefixed
+  pub is_framed : IsFramed block framed
+  pub parts : bytes ≡ encoding ++ framed
 
 -- the encoding of the pair, which fits, was consumed
 abbrev pub ConsumesPair : ℕ → Pair → Option (List ℕ) → Option (List ℕ) → Type 0
 ConsumesPair S p old new = FitsBuffer S p × ConsumesSome (IsEncoding p) old new
 
 -- reading an entry failed in the multihash, in the length, or in the block
-abbrev pub EntryFails : ℕ → ℕ → ℕ → ℕ → PrefixedError → Option (List ℕ) → Option (List ℕ) → Type 0
+abbrev pub EntryFails : ℕ → ℕ → ℕ → ℕ → FrameError → Option (List ℕ) → Option (List ℕ) → Type 0
 EntryFails S limit before after e =
     FailsInTurn (λ old new. IsFailed (λ r. ReadFails S before after r old new) e)
-    (ConsumesPair S) (λ _. PrefixedFails limit before after e)
+    (ConsumesPair S) (λ _. FrameFails limit before after e)
 
 -- the input starts with an entry whose multihash is its block's
 pub record HasEntry (input : List ℕ) : Type 0 where

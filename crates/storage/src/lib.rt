@@ -6,4 +6,3 @@ pub mod hashing;
 pub mod log;
 pub mod merkle;
 mod pins;
-pub mod prefixed;

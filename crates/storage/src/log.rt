@@ -6,12 +6,11 @@ ghost use Rattle.multihash.specs.Reading.{Consumes};
 ghost use Rattle.multihash.specs.Writing.{AppendsPrefix, CountsWriterFailures};
 ghost use Rattle.multihash.specs.Refusal.{IsIo, IsOutOfMemory};
 ghost use Rattle.storage.specs.Log.{IsEntry, EntryFails, HasEntry, IsValidPrefix};
-ghost use Rattle.storage.specs.Prefixed.{IsFailed};
+ghost use Rattle.frame.specs.Frame.{IsFailed};
 ghost use Rattle.storage.specs.Content.{content_pair};
 
 use crate::content::hash_of;
-pub use crate::prefixed::PrefixedError as EntryError;
-use crate::prefixed::{read_front, read_prefixed, write_prefixed};
+pub use frame::FrameError as EntryError;
 use multihash::no_std_io::{Read, Write};
 use multihash::{Error, Multihash};
 use std::alloc::Global;
@@ -43,7 +42,7 @@ pub fn write_entry<const S: usize, W: Write>(
         (W.failures w.old) (W.failures w.new) (W.full w.new) result }
 {
     hash.write(w)?;
-    write_prefixed(block, w)
+    frame::write(block, w)
 }
 
 /// Reads the entry that comes next. It consumes exactly that entry. It does not check that the multihash is
@@ -79,7 +78,7 @@ pub fn read_entry<const S: usize, R: Read>(
         (IsFailed IsOutOfMemory) }
 {
     let hash = Multihash::read(r)?;
-    let block = read_prefixed(alloc, r, limit)?;
+    let block = frame::read(alloc, r, limit)?;
     Ok(Entry { hash, block })
 }
 
@@ -93,7 +92,7 @@ fn after_entry(bytes: &[u8]) -> Option<&[u8]>
     let Ok(hash) = Multihash::<32>::read(&mut rest) else {
         return None;
     };
-    let Ok((block, rest)) = read_front(rest) else {
+    let Ok((block, rest)) = frame::read_front(rest) else {
         return None;
     };
     if !hash_of::<32>(block).same_as(&hash) {

@@ -1,4 +1,4 @@
-//! What no contract of `examples` and `storage` states: the calls of a reader or a writer, that its error is
+//! What no contract of `examples`, `frame` and `storage` states: the calls of a reader or a writer, that its error is
 //! passed on, what is reserved, and that memory suffices.
 use examples::any_reader::read_up_to;
 use examples::code_table;
@@ -17,7 +17,6 @@ use storage::content::hash_of;
 use storage::hashing::{ContentHasher, HashingReader, HashingWriter};
 use storage::log::{EntryError, read_entry, write_entry};
 use storage::merkle::{root_and_path, verify_path};
-use storage::prefixed::{read_prefixed, write_prefixed};
 
 // The identifier of `aaaa` as raw bytes, with its SHA-256 from another implementation.
 const IDENTIFIER: [u8; 36] = [
@@ -35,7 +34,8 @@ enum Reads {
     Listed,
     Linked,
     Identifier,
-    Prefixed,
+    Framed,
+    NextFramed,
     Entry,
 }
 
@@ -76,7 +76,8 @@ impl Reads {
             Reads::Listed => done(list_through::<32, 32, _, _>(alloc, &one, &mut out, r)),
             Reads::Linked => done(through::<32, 32, _, _>(alloc, &one, &[], &mut out, r)),
             Reads::Identifier => of_id(ContentId::<32>::read(r)),
-            Reads::Prefixed => of_entry(read_prefixed(alloc, r, usize::MAX)),
+            Reads::Framed => of_entry(frame::read(alloc, r, usize::MAX)),
+            Reads::NextFramed => of_entry(frame::read_next(alloc, r, usize::MAX)),
             Reads::Entry => of_entry(read_entry::<32, _>(alloc, r, usize::MAX)),
         }
     }
@@ -115,7 +116,7 @@ fn calls_of_readers_are_counted(rt: HostRuntime) {
     let mut entry = [0; 38];
     entry[..34].copy_from_slice(hash);
     entry[34..].copy_from_slice(&BLOCK);
-    let rows: [(Reads, &[u8], [usize; 4]); 12] = [
+    let rows: [(Reads, &[u8], [usize; 4]); 13] = [
         (Reads::Hashed, &hundred, [0, 1, 0, 100]),
         (Reads::Verdict, hash, [2, 0, 1, 34]),
         (Reads::Coded, hash, [2, 0, 1, 34]),
@@ -126,7 +127,8 @@ fn calls_of_readers_are_counted(rt: HostRuntime) {
         (Reads::Linked, hash, [2, 0, 1, 34]),
         (Reads::Identifier, hash, [2, 0, 1, 34]),
         (Reads::Identifier, &IDENTIFIER, [4, 0, 1, 36]),
-        (Reads::Prefixed, &BLOCK, [1, 0, 1, 4]),
+        (Reads::Framed, &BLOCK, [1, 0, 1, 4]),
+        (Reads::NextFramed, &BLOCK, [1, 0, 1, 4]),
         (Reads::Entry, &entry, [3, 0, 2, 38]),
     ];
     for (call, input, asked) in rows {
@@ -145,7 +147,7 @@ fn calls_of_readers_are_counted(rt: HostRuntime) {
 #[derive(Clone, Copy, Debug)]
 enum Writes {
     Hashed,
-    Prefixed,
+    Framed,
     Entry,
     Node,
     Version0,
@@ -159,7 +161,7 @@ impl Writes {
             Writes::Hashed => HashingWriter::new(w)
                 .write_all(content)
                 .map_err(Error::from),
-            Writes::Prefixed => write_prefixed(content, w),
+            Writes::Framed => frame::write(content, w),
             Writes::Entry => write_entry(&hash, content, w),
             Writes::Node => write_node(&[hash], content, w),
             Writes::Version0 => ContentId::<32>::V0([7; 32]).write(w),
@@ -179,7 +181,7 @@ fn calls_of_writers_are_counted(rt: HostRuntime) {
     let long = expect_ok!(rt; vec![in alloc; 7u8; 70000]);
     for (call, asked) in [
         (Writes::Hashed, (1usize, 0usize)),
-        (Writes::Prefixed, (0, 2)),
+        (Writes::Framed, (0, 2)),
         (Writes::Entry, (0, 5)),
         (Writes::Node, (0, 4)),
         (Writes::Version0, (0, 3)),
@@ -311,9 +313,9 @@ fn expect_doubled(rt: &impl Abort, (len, capacity): (usize, usize), count: usize
 fn expect_block(rt: &impl Abort, alloc: Global, count: usize) {
     let block = expect_ok!(rt; vec![in alloc; 7u8; count]);
     let (mut out, mut log) = (Vec::new(alloc), Vec::new(alloc));
-    expect_ok!(rt; write_prefixed(&block, &mut out));
+    expect_ok!(rt; frame::write(&block, &mut out));
     let mut reader = Counts::new(&out);
-    let read = expect_ok!(rt; read_prefixed(alloc, &mut reader, count));
+    let read = expect_ok!(rt; frame::read(alloc, &mut reader, count));
     expect_doubled(rt, (read.len(), read.capacity()), count);
     check_eq!(rt; reader.whole, count.div_ceil(4096), count);
     expect_ok!(rt; write_entry(&hash_of::<32>(&block), &block, &mut log));
@@ -352,7 +354,7 @@ const CLAIM: [u8; 9] = [128, 128, 128, 128, 128, 128, 128, 128, 64];
 
 #[test]
 fn a_claimed_length_is_not_allocated(rt: HostRuntime) {
-    let read = read_prefixed(rt.alloc(), &mut CLAIM.as_slice(), usize::MAX);
+    let read = frame::read(rt.alloc(), &mut CLAIM.as_slice(), usize::MAX);
     expect_rejected!(&rt; &of_entry(read), ErrorKind::UnexpectedEof, ());
 }
 

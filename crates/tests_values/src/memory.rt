@@ -18,7 +18,6 @@ use std::test::Fail;
 use storage::content;
 use storage::log::{EntryError, read_entry};
 use storage::merkle::{root_and_path, verify_path};
-use storage::prefixed::read_prefixed;
 
 const FAILED: &str = "an allocation failed";
 
@@ -287,7 +286,7 @@ fn allocating_storage(rt: HostRuntime) -> Result<(), Fail> {
         makes_tree(rt, alloc, &leaves[..1])
             && makes_tree(rt, alloc, &leaves[..5])
             && makes_tree(rt, alloc, &leaves)
-            && succeeded(rt, &of_entry(read_prefixed(alloc, &mut block, 10000)))
+            && succeeded(rt, &of_entry(frame::read(alloc, &mut block, 10000)))
             && succeeded(
                 rt,
                 &of_entry(read_entry::<4, _>(alloc, &mut entry.as_slice(), 10000)),

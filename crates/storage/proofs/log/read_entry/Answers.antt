@@ -1,7 +1,7 @@
 use Rattle.std.proofs.Common.{◌++◌, inl, inr, refl}
 use Rattle.multihash.proofs.ReadingLemmas.{Consumes-concatenated}
 use Rattle.multihash.proofs.OutcomeLemmas.{passed_on}
-use Rattle.storage.specs.declared.prefixed.PrefixedError.TheVariants.{Failed}
+use Rattle.frame.specs.declared.error.FrameError.TheVariants.{Failed}
 use Rattle.storage.proofs.LogLemmas.{rejected_found, entry_found}
 use Rattle.storage.proofs.log.read_entry.Goals as goal
 
@@ -23,7 +23,7 @@ returns-clause-ok g c =
     let h = c.in_ok-hash.ensures.ok in
     let b = c.in_ok-block.ensures.ok in (
       h.0 ++ b.0,
-      record { encoding = h.0; prefixed = b.0; encodes = h.1; is_prefixed = b.1; parts = refl },
+      record { encoding = h.0; framed = b.0; encodes = h.1; is_framed = b.1; parts = refl },
       Consumes-concatenated _ _ _ h.0 b.0 _ refl h.2 b.2,
     )
 

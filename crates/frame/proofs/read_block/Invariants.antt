@@ -1,7 +1,7 @@
 -- The bytes of the block so far were consumed, and the reader did not fail.
 use Rattle.std.proofs.Common.{◌≡◌, ◌≤◌, ◌-◌, length}
 use Rattle.multihash.specs.Reading.{Consumes}
-use Rattle.storage.proofs.prefixed.read_block.Given as goal
+use Rattle.frame.proofs.read_block.Given as goal
 
 abbrev pub invariant-loop-chunk : goal.invariant-loop-chunk
 invariant-loop-chunk g l = record {
