@@ -190,6 +190,18 @@ def shown_errors(texts: Texts) -> Iterator[str]:
             yield f"{page}: no source has {part}"
 
 
+def lemma_errors(texts: Texts) -> Iterator[str]:
+    """Returns the lemmas of the library that its callers' proofs use, and that CALLING.md does not name."""
+    page = "crates/multihash/CALLING.md"
+    for path in paths():
+        if re.match(r"crates/(?:examples|frame|storage)/(?:proofs|src)/", path):
+            for used in re.findall(r"Rattle\.(?:multihash|frame)\.proofs\.\w+Lemmas\.\{(.*)\}", read(path)):
+                names = {name.split()[0] for name in used.split(",")}
+                gone = [name for name in sorted(names) if not re.search(rf"`[^`]*\b{name}\b[^`]*`", texts[page])]
+                if gone:
+                    yield f"{page} does not name lemmas that {path} uses: {gone}"
+
+
 def byte_errors(texts: Texts) -> Iterator[str]:
     """Computes by the rules of verdicts.py what pages show of bytes: varints, results, lines of test vectors."""
     prose, python = texts[FORMAT], "bindings/python/README.md"
@@ -279,6 +291,7 @@ CHECKS: dict[str, Callable[[Texts], Iterator[str]]] = {
         declared_errors,
         stated_errors,
         shown_errors,
+        lemma_errors,
         byte_errors,
         command_errors,
     )

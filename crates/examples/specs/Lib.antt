@@ -1,2 +1,3 @@
+pub mod ByteCount
 pub mod ContentId
 pub mod PeerId

@@ -2,9 +2,11 @@
 #![tactic(auto)]
 
 pub mod any_reader;
+pub mod byte_count;
 pub mod code_table;
 pub mod content_id;
 pub mod forms;
+pub mod loops;
 pub mod merkle;
 pub mod peer_id;
 pub mod slices;

@@ -1,0 +1,45 @@
+use Rattle.std.proofs.Common.{◌≡◌, [], ◌∷◌, ◌++◌, length, map, refl, sym, ap, ◌∙◌, subst, arith, rules, append-nil, append_assoc, length-append}
+use Rattle.std.proofs.lemmas.List.{map_push, nil_from_length}
+use Rattle.multihash.specs.Pair.{Pair}
+use Rattle.multihash.specs.Encoding.{IsEncoding}
+use Rattle.multihash.specs.Streams.{AreConcatenated}
+use Rattle.multihash.specs.Multihash.{pair_of}
+use Rattle.multihash.proofs.ReadingLemmas.{Consumes-cut}
+use Rattle.multihash.proofs.StreamLemmas.{parts_push, encoding_some}
+use Rattle.examples.proofs.loops.codes.Goals as goal
+
+pub loop-init : goal.loop-init
+loop-init c =
+    let none : c.new-codes.result.items ≡ [] = search rules in
+    ([], [], refl, none, refl, omega arith)
+
+pub loop-preserved : goal.loop-preserved
+loop-preserved c =
+    let (pairs, front, concatenated, codes, cut, count) = c.loop.invariant in
+    let (encoding, encodes, consumes) = (rw c.in-Some.is at c.in_ok-multihash.ensures.read).ok in
+    let pair = pair_of c.in-Some.multihash in
+    let split = Consumes-cut _ encoding c.read_next.new.r.now consumes in
+    let items : c.push.new.self.items ≡ c.loop.codes.items ++ pair.code ∷ [] = search rules in (
+      pairs ++ pair ∷ [],
+      front ++ encoding,
+      parts_push IsEncoding pairs pair front encoding concatenated encodes,
+      items
+          ∙ (ap (λ z. z ++ pair.code ∷ []) codes
+          ∙ sym (map_push (λ (p : Pair). p.code) pairs pair)),
+      cut ∙ (ap (λ z. front ++ z) split ∙ sym (append_assoc front encoding c.read_next.new.r.now)),
+      omega (arith, count, length-append front encoding, encoding_some pair encoding encodes),
+    )
+
+pub returns-in_default : goal.returns-in_default
+returns-in_default c =
+    let (pairs, front, concatenated, codes, cut, count) = c.loop.invariant in
+    let whole : front ≡ c.args.bytes.now = search rules in
+    (pairs, subst (AreConcatenated pairs) whole concatenated, codes)
+
+pub returns : goal.returns
+returns c =
+    let (pairs, front, concatenated, codes, cut, count) = c.loop.invariant in
+    let rest = c.loop.left.now in
+    let none = nil_from_length rest (omega (arith, count, ap length cut, length-append front rest)) in
+    let whole : front ≡ c.args.bytes.now = sym (cut ∙ (ap (λ z. front ++ z) none ∙ append-nil front)) in
+    (pairs, subst (AreConcatenated pairs) whole concatenated, codes)
