@@ -99,7 +99,7 @@ no_error_at_the_end : ¬ (EndsInNone {A = ℕ} {E = ℕ} (Some []) (Some []) 0 0
 no_error_at_the_end h = h.always refl refl
 
 no_value_at_the_end : ¬ (EndsInNone {A = ℕ} {E = ℕ} (Some []) (Some []) 0 0 (Ok (Some 5)))
-no_value_at_the_end h = h.always refl refl
+no_value_at_the_end h = false≢true (sym (h.always refl refl))
 
 not_fewer_than : ¬ (HasFewerThan 1 (Some (1 ∷ [])))
 not_fewer_than h = omega (arith, h)
