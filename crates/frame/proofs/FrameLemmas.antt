@@ -2,6 +2,7 @@
 use Rattle.std.proofs.Common.{◌≡◌, ◌<◌, ◌≤◌, ℕ, List, ◌++◌, Option, Some, length, inl, inr, refl, sym, ap, ◌∙◌, subst, arith, append_assoc, length-append}
 use Rattle.multihash.specs.Varint.{IsVarint}
 use Rattle.multihash.specs.Refusal.{Refusal, IsOutOfMemory}
+use Rattle.multihash.specs.Consuming.{ConsumesVarint}
 use Rattle.multihash.proofs.CallingLemmas.{number_read, number_in_part, number_found, number_truncated, exact_found, exact_truncated, front_no_error}
 use Rattle.multihash.proofs.VarintLemmas.{varint_same, varint_unique, varint_some}
 use Rattle.multihash.proofs.EncodingLemmas.{same_cut}
@@ -44,55 +45,63 @@ framed_some block bytes h =
       length-append h.len block,
     )
 
-module _ (limit before after : ℕ) (same : after ≡ before) (e : FrameError) (block bytes : List ℕ)
-    (h : IsFramed block bytes) (within : length block ≤ limit) where
-  module _ (more : List ℕ) (old new : Option (List ℕ)) (at : old ≡ Some (bytes ++ more)) where
-    parts_at : old ≡ Some (h.len ++ (block ++ more))
-    parts_at = at ∙ ap Some (framed_cut block bytes more h)
+module _ (limit before after : ℕ) (same : after ≡ before) (e : FrameError) where
+  module _ (block bytes : List ℕ) (h : IsFramed block bytes) (within : length block ≤ limit) where
+    module _ (more : List ℕ) (old new : Option (List ℕ)) (at : old ≡ Some (bytes ++ more)) where
+      parts_at : old ≡ Some (h.len ++ (block ++ more))
+      parts_at = at ∙ ap Some (framed_cut block bytes more h)
 
-    -- a frame that comes next, and is not too long, is read, or out of memory
-    pub frame_found : FrameFails limit before after e old new → IsFailed IsOutOfMemory e
-    frame_found (inl (r, _, fails)) =
-        let rest = block ++ more in
-        absurd (number_found before after same r (length block) h.len rest old new h.is_len parts_at fails)
-    frame_found (inr (n, mid, first, inl over)) =
-        let read = number_read (length block) n h.len (block ++ more) h.is_len old mid parts_at first in
-        absurd (omega (arith, over.1, within, read.0))
-    frame_found (inr (n, mid, first, inr (_, inl memory))) = memory.0
-    frame_found (inr (n, mid, first, inr (_, inr (r, _, fails)))) =
-        let read = number_read (length block) n h.len (block ++ more) h.is_len old mid parts_at first in
-        let long : n ≤ length block = omega (arith, read.0) in
-        absurd (exact_found before after same r n block more mid new long read.1 fails)
+      -- the number that was read is the block's length
+      read_len : (n : ℕ) (mid : Option (List ℕ)) → ConsumesVarint n old mid
+          → (n ≡ length block) × (mid ≡ Some (block ++ more))
+      read_len n mid = number_read (length block) n h.len (block ++ more) h.is_len old mid parts_at
 
-  -- if the input ends within a frame, the error says so, or is out of memory
-  pub frame_truncated : (part more : List ℕ) (new : Option (List ℕ)) → bytes ≡ part ++ more
-      → FrameFails limit before after e (Some part) new → IsFailed IsTruncatedOrMemory e
-  frame_truncated part more new cut (inl (r, is, fails)) =
-      let split = sym h.parts ∙ cut in
-      let n = length block in
-      (r, is, inl (number_truncated before after same r n h.len block part more new h.is_len split fails))
-  frame_truncated part more new cut (inr (n, mid, first, inl over)) =
-      let split = sym h.parts ∙ cut in
-      let (_, _, long, _) = number_in_part (length block) n h.len block h.is_len part more mid split first in
-      absurd (omega (arith, over.1, within, long))
-  frame_truncated part more new cut (inr (n, mid, first, inr (_, inl memory))) =
-      (memory.0.0, memory.0.1, inr (inr memory.0.2))
-  frame_truncated part more new cut (inr (n, mid, first, inr (_, inr (r, is, fails)))) =
-      (r, is, inr (inl (exact_truncated before after same r n mid new fails)))
+      -- a frame that comes next, and is not too long, is read, or out of memory
+      pub frame_found : FrameFails limit before after e old new → IsFailed IsOutOfMemory e
+      frame_found (inl (r, _, fails)) =
+          let n = length block in
+          let rest = block ++ more in
+          absurd (number_found before after same r n h.len rest old new h.is_len parts_at fails)
+      frame_found (inr (n, mid, first, inl over)) =
+          absurd (omega (arith, over.1, within, (read_len n mid first).0))
+      frame_found (inr (n, mid, first, inr (_, inl memory))) = memory.0
+      frame_found (inr (n, mid, first, inr (_, inr (r, _, fails)))) =
+          let read = read_len n mid first in
+          let long : n ≤ length block = omega (arith, read.0) in
+          absurd (exact_found before after same r n block more mid new long read.1 fails)
 
-module _ (block front more bytes : List ℕ) (h : IsFramed block front)
-    (cut : bytes ≡ front ++ more) where
-  -- bytes that start with a frame have no error of a frame at their front
-  pub front_found : (e : Refusal) → FrontFails bytes e → ⊥
-  front_found e (inl bad) =
-      let split = cut ∙ framed_cut block front more h in
-      front_no_error (length block) h.len (block ++ more) bytes e h.is_len split bad
-  front_found e (inr (n, len, rest, is, split, short, _)) =
-      let both = varint_unique n (length block) len h.len rest (block ++ more) is h.is_len
-      (sym split ∙ (cut ∙ framed_cut block front more h)) in
-      omega (arith, short, both.0, ap length both.2, length-append block more)
+    -- if the input ends within a frame, the error says so, or is out of memory
+    pub frame_truncated : (part more : List ℕ) (new : Option (List ℕ)) → bytes ≡ part ++ more
+        → FrameFails limit before after e (Some part) new → IsFailed IsTruncatedOrMemory e
+    frame_truncated part more new cut (inl (r, is, fails)) =
+        let n = length block in
+        let split = sym h.parts ∙ cut in
+        let short =
+        number_truncated before after same r n h.len block part more new h.is_len split fails in
+        (r, is, inl short)
+    frame_truncated part more new cut (inr (n, mid, first, inl over)) =
+        let m = length block in
+        let split = sym h.parts ∙ cut in
+        let (_, _, long, _) = number_in_part m n h.len block h.is_len part more mid split first in
+        absurd (omega (arith, over.1, within, long))
+    frame_truncated part more new cut (inr (n, mid, first, inr (_, inl memory))) =
+        (memory.0.0, memory.0.1, inr (inr memory.0.2))
+    frame_truncated part more new cut (inr (n, mid, first, inr (_, inr (r, is, fails)))) =
+        (r, is, inr (inl (exact_truncated before after same r n mid new fails)))
 
-  -- what holds of the block of a frame at the front holds of this block
-  pub front_rejected : (P : List ℕ → Type 0) → BeginsFramed P bytes → P block
-  front_rejected P (other, start, rest, is, split, holds) =
-      subst P (framed_unique other block start front rest more is h (sym split ∙ cut)).0 holds
+module _ (block front more bytes : List ℕ) (h : IsFramed block front) where
+  module _ (cut : bytes ≡ front ++ more) where
+    -- bytes that start with a frame have no error of a frame at their front
+    pub front_found : (e : Refusal) → FrontFails bytes e → ⊥
+    front_found e (inl bad) =
+        let split = cut ∙ framed_cut block front more h in
+        front_no_error (length block) h.len (block ++ more) bytes e h.is_len split bad
+    front_found e (inr (n, len, rest, is, split, short, _)) =
+        let both = varint_unique n (length block) len h.len rest (block ++ more) is h.is_len
+        (sym split ∙ (cut ∙ framed_cut block front more h)) in
+        omega (arith, short, both.0, ap length both.2, length-append block more)
+
+    -- what holds of the block of a frame at the front holds of this block
+    pub front_rejected : (P : List ℕ → Type 0) → BeginsFramed P bytes → P block
+    front_rejected P (other, start, rest, is, split, holds) =
+        subst P (framed_unique other block start front rest more is h (sym split ∙ cut)).0 holds

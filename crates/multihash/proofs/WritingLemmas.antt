@@ -60,11 +60,15 @@ module _ {W : Type 0} (appended : W → List ℕ → W → Type 0) where
     appends = join a b c x h.part first h.appends;
   }
 
-module _ {W : Type 0} (appended : W → List ℕ → W → Type 0)
-    (join : (a b c : W) (x y : List ℕ) → appended a x b → appended b y c → appended a (x ++ y) c)
-    (IsForm : List ℕ → Type 0) where
+-- what two calls append is both lists: the law `appends_concatenated` of each writer
+abbrev pub AppendsBoth : {W : Type 0} → (W → List ℕ → W → Type 0) → Type 0
+AppendsBoth {W = W} appended =
+    (a b c : W) (x y : List ℕ) → appended a x b → appended b y c → appended a (x ++ y) c
+
+-- `rt lemma` finds no lemma in a module whose first line goes on in another one, so these are nested
+module _ {W : Type 0} (appended : W → List ℕ → W → Type 0) (join : AppendsBoth appended) where
   -- a form of two parts, each written by itself
-  module _ (a b : List ℕ) (form : IsForm (a ++ b)) where
+  module _ (IsForm : List ℕ → Type 0) (a b : List ℕ) (form : IsForm (a ++ b)) where
     -- of two parts, writing the first failed: a strict prefix of both has been appended
     pub stops_in_front : {T E : Type 0} (r : Result T E) (u v : W) → AppendsPrefix appended u a v
         → OnErr r ((bytes : List ℕ) × IsForm bytes × AppendsPrefix appended u bytes v)
@@ -78,25 +82,25 @@ module _ {W : Type 0} (appended : W → List ℕ → W → Type 0)
         OnErr-always r (a ++ b, form, AppendsPrefix-concatenated appended join u w v a b first part)
 
   -- a form of three parts
-  module _ (a b d : List ℕ) (form : IsForm (a ++ (b ++ d))) where
+  module _ (IsForm : List ℕ → Type 0) (a b d : List ℕ) (form : IsForm (a ++ (b ++ d))) where
     -- of three parts, writing the first failed: a strict prefix of all has been appended
     pub stops_in_first : {T E : Type 0} (r : Result T E) (u v : W) → AppendsPrefix appended u a v
         → OnErr r ((bytes : List ℕ) × IsForm bytes × AppendsPrefix appended u bytes v)
-    stops_in_first = stops_in_front a (b ++ d) form
+    stops_in_first = stops_in_front IsForm a (b ++ d) form
 
     -- of three parts, writing the second failed: a strict prefix of all has been appended
     pub stops_in_second : {T E : Type 0} (r : Result T E) (u w v : W) → appended u a w
         → AppendsPrefix appended w b v
         → OnErr r ((bytes : List ℕ) × IsForm bytes × AppendsPrefix appended u bytes v)
     stops_in_second r u w v first part =
-        stops_in_back a (b ++ d) form r u w v first (AppendsPrefix-append appended w v b d part)
+        stops_in_back IsForm a (b ++ d) form r u w v first (AppendsPrefix-append appended w v b d part)
 
     -- of three parts, writing the third failed: a strict prefix of all has been appended
     pub stops_in_third : {T E : Type 0} (r : Result T E) (u w x v : W) → appended u a w → appended w b x
         → AppendsPrefix appended x d v
         → OnErr r ((bytes : List ℕ) × IsForm bytes × AppendsPrefix appended u bytes v)
     stops_in_third r u w x v first second part =
-        stops_in_back a (b ++ d) form r u w v first
+        stops_in_back IsForm a (b ++ d) form r u w v first
         (AppendsPrefix-concatenated appended join w x v b d second part)
 
 -- a writer that doesn't allocate and counted no failure returned an error because it was full
