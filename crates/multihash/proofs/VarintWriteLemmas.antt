@@ -68,6 +68,10 @@ module _ (now : List ℕ) (len n rest : ℕ) (h : Wrote now len n rest) where
         omega (arith, high, h.value, range, mul-le-mul_right (128 ^ len) (h.more (omega arith)))) in
         omega arith
 
+-- after eight digits of a number in range one is left
+pub last_digit : (now : List ℕ) (n rest : ℕ) → Wrote now 8 n rest → n < varint_limit → rest < 128
+last_digit now n rest h range = omega (arith, h.value, range)
+
 -- a small number is its own varint
 pub one_byte : (n : ℕ) → n < 128 → IsVarint n (n ∷ [])
 one_byte n small = wrote_last [] 0 n n (none_wrote n) (omega (arith, small)) small

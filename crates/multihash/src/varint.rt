@@ -38,15 +38,18 @@ fn encode(n: u64, buffer: &mut [u8; ROOM]) -> &[u8]
     requires { n < varint_limit }
     ensures { IsVarint n result.now }
 {
-    let mut len = 0;
     let mut rest = n;
-    while rest >= 128 {
+    // That many turns at most, so that the compiler unrolls the loop and tests no index.
+    for len in 0..MAX_CONTINUATION {
+        if rest < 128 {
+            buffer[len] = rest as u8;
+            return &buffer[..len + 1];
+        }
         buffer[len] = (rest & 0x7f) as u8 | 0x80;
-        len += 1;
         rest >>= 7;
     }
-    buffer[len] = rest as u8;
-    &buffer[..len + 1]
+    buffer[MAX_CONTINUATION] = rest as u8;
+    &buffer[..MAX_LEN]
 }
 
 /// Returns the length of a number's varint in bytes: one to nine.
