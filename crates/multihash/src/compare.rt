@@ -1,5 +1,5 @@
 //! Comparison and hashing.
-ghost use Rattle.std.specs.Prelude.{◌≡◌, ◌≢◌, ◌==◌, ◌<◌, ◌≤◌, ◌+◌, ◌↔◌, length, take, drop, slice_index, Some, IsTrue};
+ghost use Rattle.std.specs.Prelude.{◌≡◌, ◌==◌, ◌≤◌, ◌↔◌, length, Some, IsTrue};
 ghost use Rattle.std.proofs.Common.{rules};
 ghost use Rattle.std.specs.Cmp.{partial_order_from_own_ties};
 ghost use Rattle.std.specs.Cmp.Lexicographic.{pointwise, slice_cmp};
@@ -21,24 +21,23 @@ impl<const S: usize> Multihash<S> {
         self.size == other.size && self.code == other.code && self.same_digest(other)
     }
 
-    // Whether the digests are equal. From sixteen bytes on they are compared by words, without a call. If `S`
-    // exceeds 64, the compiler knows the length of a digest that fills the buffer, and makes no loop. Paths
-    // that `S` excludes are not compiled.
+    // Whether the digests are equal. Those of 16 to 64 bytes are compared as vectors, without a call. Tests
+    // that `S` decides are not compiled.
     #[inline(always)]
     fn same_digest<const B: usize>(&self, other: &Multihash<B>) -> bool
         requires { length (pair_of self.now).digest ≡ length (pair_of other.now).digest }
         ensures { result ≡ pointwise ◌==◌ (pair_of self.now).digest (pair_of other.now).digest }
     {
+        if S > 64 && self.size > 64 {
+            return self.digest() == other.digest();
+        }
         if S > 32 && self.size > 32 {
-            if S > 64 && self.size == S {
-                return same_many(&self.digest, other.digest());
-            }
-            return same_many(self.digest(), other.digest());
+            return same_ends_of_32(self.digest(), other.digest());
         }
         if S >= 16 && self.size >= 16 {
-            return same_ends(self.digest(), other.digest());
+            return same_ends_of_16(self.digest(), other.digest());
         }
-        S == 0 || self.size == 0 || self.same_few(other)
+        self.size == 0 || self.same_few(other)
     }
 
     // Whether digests of fewer bytes are equal. The parameters are the values, so that the other paths
@@ -50,30 +49,34 @@ impl<const S: usize> Multihash<S> {
         self.digest() == other.digest()
     }
 
-    // How the digests compare, by the same paths.
+    // How the digests compare. Where vectors find them equal, no byte is searched for.
     #[inline(always)]
+    #[tactic(auto, using(crate::proofs::ComparingLemmas::order_of_equal))]
     fn order_of_digest(&self, other: &Self) -> Ordering
         requires { length (pair_of self.now).digest ≡ length (pair_of other.now).digest }
         ensures { result ≡ slice_cmp nat_cmp (pair_of self.now).digest (pair_of other.now).digest }
     {
-        if S > 32 && self.size > 32 {
-            if S > 64 && self.size == S {
-                return order_of_many(&self.digest, &other.digest);
-            }
-            return order_of_many(self.digest(), other.digest());
+        if S > 64 && self.size > 64 {
+            return self.digest().cmp(other.digest());
         }
-        if S >= 16 && self.size >= 16 {
-            return order_of_ends(self.digest(), other.digest());
-        }
-        if S == 0 || self.size == 0 {
+        if self.size == 0 {
             return Ordering::Equal;
         }
-        self.order_of_few(other)
+        if S >= 16 && self.size >= 16 {
+            if self.same_digest(other) {
+                return Ordering::Equal;
+            }
+            // Most digests that differ do so in the first byte.
+            if self.digest[0] != other.digest[0] {
+                return self.digest[0].cmp(&other.digest[0]);
+            }
+        }
+        self.order_of_unlike(other)
     }
 
-    // How digests of fewer bytes compare. The parameters are the values, as those of `same_few` are.
+    // How digests compare that differ or are short. The parameters are the values, as those of `same_few`.
     #[inline(never)]
-    fn order_of_few(&self, other: &Self) -> Ordering
+    fn order_of_unlike(&self, other: &Self) -> Ordering
         ensures { result ≡ slice_cmp nat_cmp (pair_of self.now).digest (pair_of other.now).digest }
     {
         self.digest().cmp(other.digest())
@@ -144,144 +147,31 @@ impl<const S: usize> Hash for Multihash<S> {
     }
 }
 
-// Whether 16 to 32 bytes are equal, by their first and their last sixteen, which may overlap.
+// Whether 16 to 32 bytes are equal, by their first and their last sixteen, which may overlap. Both
+// are compared, so that one branch decides.
 #[inline(always)]
-fn same_ends(a: &[u8], b: &[u8]) -> bool
+fn same_ends_of_16(a: &[u8], b: &[u8]) -> bool
     requires least { 16 ≤ length a.now }
     requires most { length a.now ≤ 32 }
     requires same { length a.now ≡ length b.now }
     ensures { result ≡ pointwise ◌==◌ a.now b.now }
 {
-    same_word(a, b, 0) && same_word(a, b, a.len() - 16)
+    let last = a.len() - 16;
+    let front = u8x16::from_slice(a).simd_eq(u8x16::from_slice(b));
+    let back = u8x16::from_slice(&a[last..]).simd_eq(u8x16::from_slice(&b[last..]));
+    (front & back).all()
 }
 
-// Whether 32 bytes or more are equal, by pairs of words; the last pair may overlap the one before.
+// Whether 32 to 64 bytes are equal, by their first and their last 32.
 #[inline(always)]
-fn same_many(a: &[u8], b: &[u8]) -> bool
+fn same_ends_of_32(a: &[u8], b: &[u8]) -> bool
     requires least { 32 ≤ length a.now }
+    requires most { length a.now ≤ 64 }
     requires same { length a.now ≡ length b.now }
     ensures { result ≡ pointwise ◌==◌ a.now b.now }
 {
-    if !same_pair(a, b, 0) {
-        return false;
-    }
     let last = a.len() - 32;
-    let mut at = 32;
-    while at < last {
-        if !same_pair(a, b, at) {
-            return false;
-        }
-        at += 32;
-    }
-    same_pair(a, b, last)
-}
-
-// Whether the 32 bytes from that index on are equal. Both words are compared, so that one branch
-// decides.
-#[inline(always)]
-fn same_pair(a: &[u8], b: &[u8], at: usize) -> bool
-    requires a { at + 32 ≤ length a.now }
-    requires b { at + 32 ≤ length b.now }
-    ensures { IsTrue result ↔ (take 32 (drop at a.now) ≡ take 32 (drop at b.now)) }
-{
-    same_word(a, b, at) & same_word(a, b, at + 16)
-}
-
-// Whether the sixteen bytes from that index on are equal.
-#[inline(always)]
-fn same_word(a: &[u8], b: &[u8], at: usize) -> bool
-    requires a { at + 16 ≤ length a.now }
-    requires b { at + 16 ≤ length b.now }
-    ensures { IsTrue result ↔ (take 16 (drop at a.now) ≡ take 16 (drop at b.now)) }
-{
-    same_front(a, b, at) == 16
-}
-
-// How many of the sixteen bytes from that index on are equal, up to the first that differs.
-#[inline(always)]
-fn same_front(a: &[u8], b: &[u8], at: usize) -> usize
-    requires a { at + 16 ≤ length a.now }
-    requires b { at + 16 ≤ length b.now }
-    ensures most { result ≤ 16 }
-    ensures same { take result (drop at a.now) ≡ take result (drop at b.now) }
-    ensures apart { result < 16 →
-        slice_index a.now (at + result) ≢ slice_index b.now (at + result) }
-{
-    let (word, other) = (u8x16::from_slice(&a[at..]), u8x16::from_slice(&b[at..]));
-    let unlike = word.simd_ne(other).to_bitmask();
-    if unlike == 0 {
-        16
-    } else {
-        unlike.trailing_zeros() as usize
-    }
-}
-
-// How 16 to 32 bytes compare, by their first and their last sixteen, which may overlap.
-#[inline(always)]
-fn order_of_ends(a: &[u8], b: &[u8]) -> Ordering
-    requires least { 16 ≤ length a.now }
-    requires most { length a.now ≤ 32 }
-    requires same { length a.now ≡ length b.now }
-    ensures { result ≡ slice_cmp nat_cmp a.now b.now }
-{
-    let order = order_of_word(a, b, 0);
-    if order.is_ne() {
-        return order;
-    }
-    order_of_word(a, b, a.len() - 16)
-}
-
-// How 32 bytes or more compare, by pairs of words; the last pair may overlap the one before.
-#[inline(always)]
-fn order_of_many(a: &[u8], b: &[u8]) -> Ordering
-    requires least { 32 ≤ length a.now }
-    requires same { length a.now ≡ length b.now }
-    ensures { result ≡ slice_cmp nat_cmp a.now b.now }
-{
-    let order = order_of_pair(a, b, 0);
-    if order.is_ne() {
-        return order;
-    }
-    let last = a.len() - 32;
-    let mut at = 32;
-    while at < last {
-        if !same_pair(a, b, at) {
-            return order_of_pair(a, b, at);
-        }
-        at += 32;
-    }
-    order_of_pair(a, b, last)
-}
-
-// How the 32 bytes from that index on compare.
-#[inline(always)]
-fn order_of_pair(a: &[u8], b: &[u8], at: usize) -> Ordering
-    requires a { at + 32 ≤ length a.now }
-    requires b { at + 32 ≤ length b.now }
-    ensures { result ≡ slice_cmp nat_cmp (take 32 (drop at a.now)) (take 32 (drop at b.now)) }
-{
-    let order = order_of_word(a, b, at);
-    if order.is_ne() {
-        return order;
-    }
-    order_of_word(a, b, at + 16)
-}
-
-// How the sixteen bytes from that index on compare: as the first that differs does.
-#[inline(always)]
-fn order_of_word(a: &[u8], b: &[u8], at: usize) -> Ordering
-    requires a { at + 16 ≤ length a.now }
-    requires b { at + 16 ≤ length b.now }
-    ensures { result ≡ slice_cmp nat_cmp (take 16 (drop at a.now)) (take 16 (drop at b.now)) }
-{
-    let front = same_front(a, b, at);
-    if front == 16 {
-        return Ordering::Equal;
-    }
-    let place = at + front;
-    if a[place] < b[place] {
-        Ordering::Less
-    } else {
-        Ordering::Greater
-    }
+    let front = u8x32::from_slice(a).simd_eq(u8x32::from_slice(b));
+    let back = u8x32::from_slice(&a[last..]).simd_eq(u8x32::from_slice(&b[last..]));
+    (front & back).all()
 }

@@ -52,12 +52,6 @@ impl<const S: usize> Multihash<S> {
         self.0.digest()
     }
 
-    /// The digest: by a length that the compiler knows to be at most 255.
-    #[inline(always)]
-    fn bytes(&self) -> &[u8] {
-        &self.0.digest[..self.size().into()]
-    }
-
     /// Reads the multihash that comes next, and no byte after it.
     ///
     /// # Errors
@@ -148,7 +142,7 @@ impl<const S: usize> fmt::Debug for Multihash<S> {
 
 impl<const A: usize, const B: usize> PartialEq<Multihash<B>> for Multihash<A> {
     fn eq(&self, other: &Multihash<B>) -> bool {
-        self.0.code == other.0.code && self.bytes() == other.bytes()
+        self.0.same_as(&other.0)
     }
 }
 
@@ -161,13 +155,7 @@ impl<const S: usize> Hash for Multihash<S> {
 /// By the code, then by the digest's length, then by the first byte that differs.
 impl<const S: usize> Ord for Multihash<S> {
     fn cmp(&self, other: &Self) -> Ordering {
-        if self.0.code != other.0.code {
-            return self.0.code.cmp(&other.0.code);
-        }
-        if self.0.size != other.0.size {
-            return self.0.size.cmp(&other.0.size);
-        }
-        self.bytes().cmp(other.bytes())
+        self.0.cmp(&other.0)
     }
 }
 

@@ -13,21 +13,20 @@ impl<const S: usize> Multihash<S> {
         self.size == other.size && self.code == other.code && self.same_digest(other)
     }
 
-    // Whether the digests are equal. From sixteen bytes on they are compared by words, without a call. If `S`
-    // exceeds 64, the compiler knows the length of a digest that fills the buffer, and makes no loop. Paths
-    // that `S` excludes are not compiled.
+    // Whether the digests are equal. Those of 16 to 64 bytes are compared as vectors, without a call. Tests
+    // that `S` decides are not compiled.
     #[inline(always)]
     fn same_digest<const B: usize>(&self, other: &Multihash<B>) -> bool {
+        if S > 64 && self.size > 64 {
+            return self.digest() == other.digest();
+        }
         if S > 32 && self.size > 32 {
-            if S > 64 && self.size == S {
-                return same_many(&self.digest, other.digest());
-            }
-            return same_many(self.digest(), other.digest());
+            return same_ends_of_32(self.digest(), other.digest());
         }
         if S >= 16 && self.size >= 16 {
-            return same_ends(self.digest(), other.digest());
+            return same_ends_of_16(self.digest(), other.digest());
         }
-        S == 0 || self.size == 0 || self.same_few(other)
+        self.size == 0 || self.same_few(other)
     }
 
     // Whether digests of fewer bytes are equal. The parameters are the values, so that the other paths
@@ -37,27 +36,30 @@ impl<const S: usize> Multihash<S> {
         self.digest() == other.digest()
     }
 
-    // How the digests compare, by the same paths.
+    // How the digests compare. Where vectors find them equal, no byte is searched for.
     #[inline(always)]
     fn order_of_digest(&self, other: &Self) -> Ordering {
-        if S > 32 && self.size > 32 {
-            if S > 64 && self.size == S {
-                return order_of_many(&self.digest, &other.digest);
-            }
-            return order_of_many(self.digest(), other.digest());
+        if S > 64 && self.size > 64 {
+            return self.digest().cmp(other.digest());
         }
-        if S >= 16 && self.size >= 16 {
-            return order_of_ends(self.digest(), other.digest());
-        }
-        if S == 0 || self.size == 0 {
+        if self.size == 0 {
             return Ordering::Equal;
         }
-        self.order_of_few(other)
+        if S >= 16 && self.size >= 16 {
+            if self.same_digest(other) {
+                return Ordering::Equal;
+            }
+            // Most digests that differ do so in the first byte.
+            if self.digest[0] != other.digest[0] {
+                return self.digest[0].cmp(&other.digest[0]);
+            }
+        }
+        self.order_of_unlike(other)
     }
 
-    // How digests of fewer bytes compare. The parameters are the values, as those of `same_few` are.
+    // How digests compare that differ or are short. The parameters are the values, as those of `same_few`.
     #[inline(never)]
-    fn order_of_few(&self, other: &Self) -> Ordering {
+    fn order_of_unlike(&self, other: &Self) -> Ordering {
         self.digest().cmp(other.digest())
     }
 }
@@ -100,103 +102,21 @@ impl<const S: usize> Hash for Multihash<S> {
     }
 }
 
-// Whether 16 to 32 bytes are equal, by their first and their last sixteen, which may overlap.
+// Whether 16 to 32 bytes are equal, by their first and their last sixteen, which may overlap. Both
+// are compared, so that one branch decides.
 #[inline(always)]
-fn same_ends(a: &[u8], b: &[u8]) -> bool {
-    same_word(a, b, 0) && same_word(a, b, a.len() - 16)
+fn same_ends_of_16(a: &[u8], b: &[u8]) -> bool {
+    let last = a.len() - 16;
+    let front = u8x16::from_slice(a).simd_eq(u8x16::from_slice(b));
+    let back = u8x16::from_slice(&a[last..]).simd_eq(u8x16::from_slice(&b[last..]));
+    (front & back).all()
 }
 
-// Whether 32 bytes or more are equal, by pairs of words; the last pair may overlap the one before.
+// Whether 32 to 64 bytes are equal, by their first and their last 32.
 #[inline(always)]
-fn same_many(a: &[u8], b: &[u8]) -> bool {
-    if !same_pair(a, b, 0) {
-        return false;
-    }
+fn same_ends_of_32(a: &[u8], b: &[u8]) -> bool {
     let last = a.len() - 32;
-    let mut at = 32;
-    while at < last {
-        if !same_pair(a, b, at) {
-            return false;
-        }
-        at += 32;
-    }
-    same_pair(a, b, last)
-}
-
-// Whether the 32 bytes from that index on are equal. Both words are compared, so that one branch
-// decides.
-#[inline(always)]
-fn same_pair(a: &[u8], b: &[u8], at: usize) -> bool {
-    same_word(a, b, at) & same_word(a, b, at + 16)
-}
-
-// Whether the sixteen bytes from that index on are equal.
-#[inline(always)]
-fn same_word(a: &[u8], b: &[u8], at: usize) -> bool {
-    same_front(a, b, at) == 16
-}
-
-// How many of the sixteen bytes from that index on are equal, up to the first that differs.
-#[inline(always)]
-fn same_front(a: &[u8], b: &[u8], at: usize) -> usize {
-    let (word, other) = (u8x16::from_slice(&a[at..]), u8x16::from_slice(&b[at..]));
-    let unlike = word.simd_ne(other).to_bitmask();
-    if unlike == 0 {
-        16
-    } else {
-        unlike.trailing_zeros() as usize
-    }
-}
-
-// How 16 to 32 bytes compare, by their first and their last sixteen, which may overlap.
-#[inline(always)]
-fn order_of_ends(a: &[u8], b: &[u8]) -> Ordering {
-    let order = order_of_word(a, b, 0);
-    if order.is_ne() {
-        return order;
-    }
-    order_of_word(a, b, a.len() - 16)
-}
-
-// How 32 bytes or more compare, by pairs of words; the last pair may overlap the one before.
-#[inline(always)]
-fn order_of_many(a: &[u8], b: &[u8]) -> Ordering {
-    let order = order_of_pair(a, b, 0);
-    if order.is_ne() {
-        return order;
-    }
-    let last = a.len() - 32;
-    let mut at = 32;
-    while at < last {
-        if !same_pair(a, b, at) {
-            return order_of_pair(a, b, at);
-        }
-        at += 32;
-    }
-    order_of_pair(a, b, last)
-}
-
-// How the 32 bytes from that index on compare.
-#[inline(always)]
-fn order_of_pair(a: &[u8], b: &[u8], at: usize) -> Ordering {
-    let order = order_of_word(a, b, at);
-    if order.is_ne() {
-        return order;
-    }
-    order_of_word(a, b, at + 16)
-}
-
-// How the sixteen bytes from that index on compare: as the first that differs does.
-#[inline(always)]
-fn order_of_word(a: &[u8], b: &[u8], at: usize) -> Ordering {
-    let front = same_front(a, b, at);
-    if front == 16 {
-        return Ordering::Equal;
-    }
-    let place = at + front;
-    if a[place] < b[place] {
-        Ordering::Less
-    } else {
-        Ordering::Greater
-    }
+    let front = u8x32::from_slice(a).simd_eq(u8x32::from_slice(b));
+    let back = u8x32::from_slice(&a[last..]).simd_eq(u8x32::from_slice(&b[last..]));
+    (front & back).all()
 }

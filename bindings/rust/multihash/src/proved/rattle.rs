@@ -1,5 +1,5 @@
 //! What the sources use of Rattle's `std` and is not in Rust's `core`, written by hand: a vector whose allocations may
-//! fail, and hidden here: sixteen bytes at once, the digits of a number, and what newer Rust has.
+//! fail, and hidden here: vectors of bytes, the digits of a number, and what newer Rust has.
 
 #[doc(hidden)]
 pub mod std {
@@ -105,44 +105,46 @@ mod vec {
 
 pub use vec::Vec;
 
+// Vectors of bytes are compared as arrays: the compiler does that with the machine's vectors.
+#[allow(non_camel_case_types)]
 #[doc(hidden)]
 pub mod simd {
-    #[allow(non_camel_case_types)]
-    #[derive(Clone, Copy)]
-    pub struct u8x16([u8; 16]);
+    use core::ops::BitAnd;
 
-    /// The places at which two vectors differ.
-    pub struct Unlike(u8x16, u8x16);
+    pub type u8x16<'a> = Vector<'a, 16>;
+    pub type u8x32<'a> = Vector<'a, 32>;
 
-    impl u8x16 {
+    pub struct Vector<'a, const N: usize>(&'a [u8; N]);
+
+    /// Whether all bytes of the vectors that were compared are equal.
+    pub struct Mask(bool);
+
+    impl<'a, const N: usize> Vector<'a, N> {
         #[inline(always)]
-        pub fn from_slice(bytes: &[u8]) -> Self {
-            Self(*super::Arrays::first_chunk(bytes).unwrap())
+        pub fn from_slice(bytes: &'a [u8]) -> Self {
+            Self(super::Arrays::first_chunk(bytes).unwrap())
         }
 
         #[inline(always)]
-        pub fn simd_ne(self, other: Self) -> Unlike {
-            Unlike(self, other)
-        }
-    }
-
-    impl Unlike {
-        #[inline(always)]
-        pub fn to_bitmask(self) -> u64 {
-            if self.0 .0 == self.1 .0 {
-                return 0;
-            }
-            let [a, b] = [self.0, self.1].map(|it| u128::from_le_bytes(it.0));
-            bits((a ^ b) as u64) | bits(((a ^ b) >> 64) as u64) << 8
+        pub fn simd_eq(self, other: Vector<N>) -> Mask {
+            Mask(self.0 == other.0)
         }
     }
 
-    /// A bit for each byte that is not zero.
-    #[inline(always)]
-    fn bits(bytes: u64) -> u64 {
-        const LOW: u64 = 0x7f7f_7f7f_7f7f_7f7f;
-        let high = (((bytes & LOW) + LOW) | bytes) & !LOW;
-        (high >> 7).wrapping_mul(0x0102_0408_1020_4080) >> 56
+    impl Mask {
+        #[inline(always)]
+        pub fn all(self) -> bool {
+            self.0
+        }
+    }
+
+    impl BitAnd for Mask {
+        type Output = Self;
+
+        #[inline(always)]
+        fn bitand(self, other: Self) -> Self {
+            Self(self.0 & other.0)
+        }
     }
 }
 
