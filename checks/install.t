@@ -82,7 +82,9 @@ gets() {
   has "machine.$1-$2$3" "$4" "$5"
 }
 has() {
-  sed -nE "s,^MULTIHASH_C_(ARCHIVE|SHARED):.*=($PWD/)?,,p" "$work/$1/CMakeCache.txt" | diff <(printf '%s\n' "$2" "$3") -
+  local found
+  found=$(sed -nE 's/^MULTIHASH_C_(ARCHIVE|SHARED):\w+=//p' "$work/$1/CMakeCache.txt")
+  diff <(printf '%s\n' "$2" "$3") <(echo "${found#"$PWD/"}")
 }
 
 machines() {
