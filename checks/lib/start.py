@@ -20,6 +20,7 @@ ROW = re.compile(r"^\| \[(\w+)[^\]]*\]\(([^)]*)\) \| `([^`]+)` \|", re.M)
 HEAD = re.compile(r"(?://|#) (\S+): (.*)\n")
 SHOWN = "code 0, digest hello"
 OLDEST = re.findall(r'rust-version = "(.*)"', (TOP / "bindings/rust/multihash/Cargo.toml").read_text())[0]
+REGISTRY = Path("/usr/share/cargo/registry")  # of Debian, for crates that the program of Rust's page needs
 # what a program needs, in the forms of is_there.sh
 TOOLS = {
     "JavaScript": ("node=20.16+", "npm"),
@@ -29,7 +30,12 @@ TOOLS = {
     "Rattle": ("rt",),
 }
 # what the programs of a language's page need besides
-MORE = {"JavaScript": (), "Python": (), "C": ("/usr/include/openssl/evp.h",)}
+MORE = {
+    "JavaScript": (),
+    "Python": (),
+    "Rust": (f"{REGISTRY}/sha2-0.10*", f"{REGISTRY}/data-encoding-2*"),
+    "C": ("/usr/include/openssl/evp.h",),
+}
 
 
 class Program(NamedTuple):
@@ -77,7 +83,8 @@ def prepare(program: Program, folder: Path) -> dict[str, str]:
     if language == "Rust":
         home = folder / "cargo"
         home.mkdir()
-        (home / "config.toml").write_text("[net]\noffline = true\n", "utf-8")
+        source = f"[source.crates-io]\nreplace-with = 'here'\n[source.here]\ndirectory = '{REGISTRY}'\n"
+        (home / "config.toml").write_text("[net]\noffline = true\n" + source * REGISTRY.exists(), "utf-8")
         subprocess.run(["cargo", "init", "--quiet", "--name", "app"], cwd=folder, check=True)
         return {"CARGO_HOME": str(home)}
     if language == "C":
