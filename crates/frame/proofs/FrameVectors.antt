@@ -1,5 +1,5 @@
 -- What the definitions exclude: errors that are not the block's or not counted, and those of a whole frame.
-use Rattle.std.proofs.Common.{◌≡◌, ℕ, List, [], ◌∷◌, length, Option, Some, inl, inr, refl, sym, ap, ◌∙◌, arith}
+use Rattle.std.proofs.Common.{◌≡◌, ℕ, List, [], ◌∷◌, length, Option, Some, inl, inr, refl, ap, ◌∙◌, arith}
 use Rattle.std.specs.Prelude.{⊤, codes}
 use Rattle.std.specs.Fmt.{digits}
 use Rattle.multihash.specs.Refusal.{Refusal, IsEof}
