@@ -12,7 +12,6 @@ ghost use Rattle.frame.specs.Frame.{IsFramed, IsFailed, FrontFails, BytesFail, B
 mod error;
 
 pub use error::FrameError;
-
 use multihash::no_std_io::{self, Read, Write};
 use multihash::{Error, varint};
 use std::alloc::Global;

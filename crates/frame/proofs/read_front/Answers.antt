@@ -18,8 +18,7 @@ returns-clause-ok c =
     let (len, is_len, cut) = c.in_ok-len.ensures.ok in
     let block = c.split_at.result.0.now in
     let long : length block ≡ c.in_ok-len.len = search rules in
-    let whole : c.in_ok-len.rest.now ≡ block ++ c.split_at.result.1.now = search rules in
-    (
+    let whole : c.in_ok-len.rest.now ≡ block ++ c.split_at.result.1.now = search rules in (
       len ++ block,
       make_framed c.in_ok-len.len block len long is_len,
       cut ∙ (ap (λ z. len ++ z) whole ∙ sym (append_assoc len block c.split_at.result.1.now)),

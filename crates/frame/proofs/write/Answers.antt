@@ -24,8 +24,7 @@ returns-in_err-write_all-clause-err g c =
 pub returns-clause-ok : goal.returns-clause-ok
 returns-clause-ok g c =
     let n = c.in_ok-write.ensures.ok in
-    let laws = c.in_ok-write_all.ensures.laws in
-    (
+    let laws = c.in_ok-write_all.ensures.laws in (
       n.0 ++ c.args.block.now,
       make_framed _ c.args.block.now n.0 refl n.1,
       g.met.W.Write.appends_concatenated _ _ _ n.0 c.args.block.now n.3 laws.ok,
