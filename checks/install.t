@@ -288,7 +288,8 @@ man_pages() {
   mandoc -T utf8 man3/multihash.3 | sed 's/.\x08//g' > "$work/page"
   grep -F "$(date -d "$released" '+%B %-d, %Y')" "$work/page"
   grep -oE '\w+' "$work/page" | paste -sd ' ' > "$work/words"
-  tr '\n' ' ' < "$header" | grep -oP '/\*.*?\*/' | sed -E 's/[.:] |  - |\*\/|\*  /\n/g' | sed -E 's/\W+/ /g; s/^ | $//g' |
+  tr '\n' ' ' < "$header" | grep -oP '/\*.*?\*/' | sed -E 's/[.:] |  - |\*\/|\*  /\n/g' |
+    sed -E 's/\W+/ /g; s/^ | $//g' |
     awk 'NR == FNR { page = $0; next } !index(page, $0)' "$work/words" - | diff /dev/null -
 }
 

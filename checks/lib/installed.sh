@@ -82,7 +82,7 @@ is_installed() {
   find "$1" -xtype l | diff /dev/null -
   has_modes "$1"
   has_documents "$1"
-  (cd "$work"; has_flags "$1" "$2")
+  (cd "$work" || exit; has_flags "$1" "$2")
   has_shared_library "$1/$2/libmultihash_c.so"
 }
 
