@@ -88,36 +88,34 @@ rust_of_debian() {
   tests PATH=/usr/bin:/bin CARGO_TARGET_DIR="$work/debian" cargo test --features serde
 }
 
-# Compiles a program of bindings/rust/tests over the package, for a target, with further words for rustc.
-compile() {
-  local library=$work/target/$2/release/libmultihash.rlib
-  MULTIHASH_VERDICTS=$PWD/crates/vectors/data/verdicts.tsv rustc --edition 2021 -D warnings -O --target "$2" \
-    "bindings/rust/tests/$1.rs" --extern multihash="$library" -L "${library%/*}/deps" "${@:3}"
+# Makes a list of the test vectors and of what the library for C, an archive or the portable source, finds of
+# pseudo-random inputs.
+make_list() {
+  local library
+  [ ! -e "$work/list" ] || return 0
+  library=$(compgen -G "bindings/c/prebuilt/$(uname -m)/*.a" || echo bindings/c/src/multihash.c)
+  cc -O2 -I bindings/c/include bindings/rust/tests/draws.c "$library" -o "$work/draws"
+  "$work/draws" > "$work/drawn"
+  sed 1d "$work/drawn" | cat crates/vectors/data/verdicts.tsv - > "$work/list"
 }
 
-# The library for C, an archive of the kit or the portable source, does what the package does, also unoptimized, where
-# sums that overflow are errors. What runs a program of the target comes last.
+# The package finds the same. In a build for debugging sums that overflow are errors.
 beside_c() {
-  local flags
-  in_crate cargo build --release --target "$1"
-  for flags in "" "-C opt-level=0 -C overflow-checks -C debug-assertions"; do
-    # shellcheck disable=SC2086 # words
-    compile beside_c "$1" --test -L "$2" -l static=multihash_c -C linker="$3" -o "$work/beside_c" $flags
-    "${@:4}" "$work/beside_c"
-  done
+  make_list
+  tests MULTIHASH_VERDICTS="$work/list" cargo test --test vectors
+  tests MULTIHASH_VERDICTS="$work/list" cargo test --test vectors --release
+  printf 'order\t1\t-\t1\t-\t1\n' >> "$work/list"
+  rejects "assertion" in_crate MULTIHASH_VERDICTS="$work/list" cargo test --test vectors
+  rm "$work/list"
 }
 
-beside_archive() { beside_c "$(uname -m)-unknown-linux-gnu" "bindings/c/prebuilt/$(uname -m)" cc; }
-
-# On a target with another byte order or word, by an emulator, the tests and those beside portable C.
-beside_portable() {
+# The same on a target with another byte order or word, and the other tests: by an emulator.
+beside_on_target() {
   local variable=CARGO_TARGET_${1^^}
   variable=${variable//-/_}
-  "$2" -c -O2 -std=c11 -I bindings/c/include bindings/c/src/multihash.c -o "$work/multihash.o"
-  rm -f "$work/libmultihash_c.a"
-  ar rc "$work/libmultihash_c.a" "$work/multihash.o"
-  beside_c "$1" "$work" "$2" "${@:3}"
-  tests "${variable}_LINKER=$2" "${variable}_RUNNER=${*:3}" cargo test --release --target "$1" --tests
+  make_list
+  tests RUSTFLAGS="-C target-feature=+crt-static" MULTIHASH_VERDICTS="$work/list" "${variable}_LINKER=$2" \
+    "${variable}_RUNNER=$3" cargo test --target "$1" --tests
 }
 
 # Rust's core for a target that the compiler has none for, of its source.
@@ -133,13 +131,15 @@ make_core() {
 
 # The test vectors on a target, without std: as a library for a host, which prints their number.
 on_target() {
-  local target=$1 type=$2 linker=()
+  local target=$1 type=$2 linker=() to=$work/target/$1/release
   [ "$type" != cdylib ] || linker=(-C linker=wasm-ld)
   compgen -G "$rust/$target/lib/libcore-*.rlib" || make_core "$target"
-  in_crate RUSTFLAGS="-L $work/target/$target/release/deps" \
-    cargo build --release --no-default-features --target "$target"
-  compile target "$target" --crate-type "$type" -C panic=abort -o "$work/vectors" "${linker[@]}"
-  "${@:3}" | diff - <(sed 1d crates/vectors/data/verdicts.tsv | wc -l)
+  in_crate RUSTFLAGS="-L $to/deps" cargo build --release --no-default-features --target "$target"
+  make_list
+  MULTIHASH_VERDICTS=$work/list rustc --edition 2021 -D warnings -O --target "$target" bindings/rust/tests/target.rs \
+    --crate-type "$type" --extern multihash="$to/libmultihash.rlib" -L "$to/deps" -C panic=abort -o "$work/vectors" \
+    "${linker[@]}"
+  "${@:3}" | diff - <(sed 1d "$work/list" | wc -l)
 }
 
 in_emulator() {
@@ -273,16 +273,16 @@ test_targets() {
   local target system
   for target in armv7-unknown-linux-gnueabihf s390x-unknown-linux-gnu; do
     system=${target/v7-unknown/} system=${system/-unknown/}
-    needs="$cargo $rust/$target/lib/libstd-*.rlib $system-gcc qemu-${system%%-*}" try "the tests on $target" \
-      beside_portable $target "$system-gcc" "qemu-${system%%-*}" -L "/usr/$system"
+    needs="$cargo cc $rust/$target/lib/libstd-*.rlib $system-gcc qemu-${system%%-*}" try "the tests on $target" \
+      beside_on_target $target "$system-gcc" "qemu-${system%%-*}"
   done
   for target in thumbv6m-none-eabi s390x-unknown-linux-gnu; do
     system=${target/-unknown/} system=${system/thumbv6m-none-eabi/arm-linux-gnueabihf}
-    needs="$bare $(core_of $target) $system-gcc qemu-${system%%-*}" try "the vectors on $target" \
+    needs="$bare cc $(core_of $target) $system-gcc qemu-${system%%-*}" try "the vectors on $target" \
       on_target $target staticlib in_emulator "$system" "qemu-${system%%-*}"
   done
   target=wasm32-unknown-unknown
-  needs="$bare $rust/$target/lib/libcore-*.rlib wasm-ld node" try "the vectors on $target" \
+  needs="$bare cc $rust/$target/lib/libcore-*.rlib wasm-ld node" try "the vectors on $target" \
     on_target $target cdylib in_node
 }
 
@@ -294,7 +294,7 @@ try "the proved source" rust_erased
 needs=$cargo try "the tests" rust_tests
 needs=$bare try "the tests without std" without_std
 needs="/usr/bin/cargo /usr/bin/rustc $crates" try "the tests with Debian's Rust" rust_of_debian
-needs="$cargo cc bindings/c/prebuilt/$(uname -m)/libmultihash_c.a" try "beside the library for C" beside_archive
+needs="$cargo cc" try "beside the library for C" beside_c
 test_targets
 needs=$cargo try "the packed package" rust_packed
 needs=$bare try "the switch from upstream's package" rust_switch

@@ -171,16 +171,45 @@ fn check<const S: usize>(input: &[u8], line: &str) {
     assert_eq!(made.as_str(), line);
 }
 
+/// Reads hexadecimal digits, `-` if there are no bytes.
+fn bytes_of<'a>(digits: &str, buffer: &'a mut [u8; 1024]) -> &'a [u8] {
+    let digits = if digits == "-" { "" } else { digits };
+    for (at, byte) in buffer[..digits.len() / 2].iter_mut().enumerate() {
+        *byte = u8::from_str_radix(&digits[2 * at..2 * at + 2], 16).expect("hexadecimal");
+    }
+    &buffer[..digits.len() / 2]
+}
+
+/// How two multihashes compare, also of different capacities: two codes and digests, and -1, 0 or 1.
+fn check_order<'a>(mut columns: impl Iterator<Item = &'a str>) {
+    let (mut left, mut right) = ([0; 1024], [0; 1024]);
+    let mut next = || columns.next().expect("a column");
+    let (code, digest) = (next().parse().expect("a code"), bytes_of(next(), &mut left));
+    let (other_code, other) = (next().parse().expect("a code"), bytes_of(next(), &mut right));
+    let order = next().parse::<i32>().expect("a number").cmp(&0);
+    let [a, b] = [(code, digest), (other_code, other)].map(|(code, digest)| {
+        let multihash = Multihash::<255>::wrap(code, digest).expect("it fits");
+        assert_eq!(proved::Multihash::wrap(code, digest).expect("it fits"), multihash.into());
+        assert_eq!(multihash.resize::<32>().map_or(true, |small| small == multihash), true);
+        assert_eq!(multihash.resize::<32>().is_ok(), digest.len() <= 32);
+        multihash
+    });
+    let bare = [a, b].map(proved::Multihash::from);
+    assert_eq!([a.cmp(&b), bare[0].cmp(&bare[1])], [order; 2]);
+    let large = bare[1].resize::<300>().expect("it fits");
+    let are_equal = [a == b, bare[0] == bare[1], bare[0].same_as(&large), a == Multihash::from(large)];
+    assert_eq!(are_equal, [order.is_eq(); 4]);
+}
+
 /// Panics if a line is not what the package finds.
 pub fn check_line(line: &str) {
     let mut columns = line.split('\t');
-    let (size, digits) = (columns.next().expect("a capacity"), columns.next().expect("an input"));
-    let digits = if digits == "-" { "" } else { digits };
-    let mut bytes = [0; 1024];
-    for (at, byte) in bytes[..digits.len() / 2].iter_mut().enumerate() {
-        *byte = u8::from_str_radix(&digits[2 * at..2 * at + 2], 16).expect("hexadecimal");
+    let size = columns.next().expect("a capacity");
+    if size == "order" {
+        return check_order(columns);
     }
-    let input = &bytes[..digits.len() / 2];
+    let mut buffer = [0; 1024];
+    let input = bytes_of(columns.next().expect("an input"), &mut buffer);
     macro_rules! check {
         ($($size:literal)*) => {
             match size {
