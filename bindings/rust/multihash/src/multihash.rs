@@ -21,6 +21,7 @@ impl<const S: usize> Multihash<S> {
     /// # Errors
     ///
     /// For a digest of more than `S` bytes or more than 255, and for a code of 2^63 or more.
+    // By hand, as `code` and `size`: upstream's are `const`, which no function of Rattle is.
     pub const fn wrap(code: u64, digest: &[u8]) -> Result<Self, Error> {
         let size = digest.len();
         if size > S || size > 255 {
@@ -118,6 +119,7 @@ impl<const S: usize> Multihash<S> {
     ///
     /// For a digest of more than `R` bytes.
     pub fn resize<const R: usize>(&self) -> Result<Multihash<R>, Error> {
+        // By hand: the proved one takes Rust's compiler twice the instructions.
         let size = self.0.size;
         let mut result = Ok(Multihash(Proved { code: self.0.code, size, digest: [0; R] }));
         match &mut result {
