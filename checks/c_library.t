@@ -24,7 +24,8 @@ build_library() {
     cp -a "$PROVED" "$KEPT/part"
     mv "$KEPT/part" "$KEPT/copy"
   fi
-  cmp {"$PROVED/crates/multihash_c/out","$c/prebuilt/x86_64"}/libmultihash_c.a
+  cmp {"$PROVED/crates/multihash_c/out","$c/prebuilt/x86_64"}/libmultihash_c.a ||
+    { echo "not what tools/generate archives writes"; false; }
 }
 
 # The archives in a copy of the repository have the bytes of a second build, which makes both anew.

@@ -93,7 +93,8 @@ case $* in
     mkdir "$work/new"
     build_into "$work/new"
     differs_in_wraps "$work/linked.wasm" "$work/new/multihash.wasm"
-    (cd "$work/new"; sha256sum -- *) | (cd "$here"; sha256sum --check --quiet)
+    (cd "$work/new"; sha256sum -- *) | (cd "$here"; sha256sum --check --quiet) ||
+      { echo "not what bindings/js/build.sh writes" >&2; exit 1; }
     echo "multihash.wasm, bytes.js and demo.html are the same, byte for byte"
     ;;
   *)
