@@ -3,8 +3,6 @@
 
 The programs are those of 'rt ci', if BUILT says so; otherwise they are built here.
 """
-import hashlib
-import re
 import subprocess
 import sys
 import tempfile
@@ -39,20 +37,6 @@ RESULTS = [
     *"invalid_size 9223372036854775806|invalid_code 2|invalid_code 18446744073709551360".split("|"),
 ]
 TAKEN = ["-", *map(str, range(13))]
-# what is no line: another one of these columns, or another text
-MALFORMED = {
-    0: ("", "four", "-1", "3"),
-    1: ("", "390286c", "x"),
-    2: ("", "pairs 57 86ce", "pair 57", "pair x 86ce", "pair 57 8", "insufficient ", "overflow 1", "invalid_size x"),
-    3: ("", "four", "-1"),
-    4: ("", "invalid_code", "not minimal"),
-    5: ("", "invalid_code x"),
-    6: ("", "x"),
-}
-FEWER = [LINES[0][:at] for at, it in enumerate(LINES[0]) if it == "|"]
-OTHER_TEXTS = ("", *FEWER, f"{LINES[0]}|4", f"# {LINES[0]}")
-CAUSED = "\nCaused by:\n"
-SIZES = "no buffer of size 3: the sizes are 0, 1, 2, 4, 16, 32, 64, 128, 200, 255, 256 and 300"
 NOT_READ, NOT_WRITTEN = "mh_show: input not read\n1", "mh_show: output not written\n1"
 # texts and other streams for them, and what is written: the first error is reported
 STREAMS = (
@@ -69,11 +53,6 @@ STREAMS = (
     ("zz", "2>&-", "1"),
     ("zz", "> /dev/full", "mh_show: not hexadecimal\n1"),
 )
-# texts that are not what is wanted
-PLANTED = (
-    ("a\na\n1\n", "a\n1\n"),
-    (f"a\n{CAUSED}b\n1\n", f"a\n{CAUSED}c\n1\n"),
-)
 
 
 def written(program: str, streams: str, text: str, folder: str) -> str:
@@ -83,9 +62,6 @@ def written(program: str, streams: str, text: str, folder: str) -> str:
 
 
 def error_of(found: str, wanted: str) -> str:
-    """Compares two texts; reasons of an error count only where they are wanted."""
-    if CAUSED not in wanted:
-        found = re.sub(f"{CAUSED}.*(?=1\n$)", "", found, flags=re.S)
     return "" if found == wanted else f"it writes {found!r}, and not {wanted!r}"
 
 
@@ -95,7 +71,7 @@ def replayed(lines: list[str], wrong: dict[int, int]) -> str:
     for call, columns in CALLS.items():
         others = [lines[at].split("|") for at, column in wrong.items() if column in columns]
         text += "".join(f"{call}: disagrees at size {size}, input {data}\n" for size, data, *_ in others)
-        text += f"{call}: {len(lines) - len(others)} lines agree\n"
+        text += "" if others else f"{call}: all lines agree\n"
     return text
 
 
@@ -118,37 +94,21 @@ def lists() -> Iterator[tuple[str, list[str], str]]:
         some = [LINES[0], lines[at], LINES[0]]
         yield f"one wrong result: {lines[at]}", [HEAD, *some], f"{replayed(some, {1: column})}1\n"
     yield "no lines", [HEAD], "Error: a list of no lines\n1\n"
-    for head in ("", HEAD[2:], "S|input|read"):
-        text = head.replace("|", "\\t")
-        yield f"first line {text}", [head, LINES[0]], f'Error: line 1, "{text}": other columns\n1\n'
-    malformed = {with_column(LINES[0], column, text) for column, texts in MALFORMED.items() for text in texts}
-    for line in sorted({*malformed, *OTHER_TEXTS}):
-        reason = f"{CAUSED}    {SIZES}\n" if line.startswith("3|") else ""
-        error = 'Error: line 3, "{}"\n{}'.format(line.replace("|", "\\t"), reason)
-        yield f"malformed {line}", [HEAD, LINES[0], line, *LINES], f"{replayed(LINES[:1], {})}{error}1\n"
 
 
 def shown() -> Iterator[tuple[str, str, str]]:
     """Returns texts and other streams for mh_show, with what is written, and the status on a last line."""
-    digits = hashlib.sha512(b"multihash").hexdigest()
-    for encoded, code in (("00", 0), ("01", 1), ("12", 18), ("8001", 128), ("ffffffffffffffff7f", 2**63 - 1)):
-        for size in range(65):
-            digest, end = digits[: 2 * size], "\n" if (size + len(encoded)) % 4 else ""
-            yield f"{encoded}{size:02x}{digest}{end}", "", f"code {code}\nsize {size}\ndigest {digest or '-'}\n0"
     yield "1603aAbBCc\n", "", "code 22\nsize 3\ndigest aabbcc\n0"
     # texts that mh_show rejects, which Python's tests read too
     for line in (LIB / "not_shown.txt").read_text("utf-8").splitlines()[1:]:
         text, _, reason = line.replace("\\n", "\n").replace("\\r", "\r").partition("|")
         yield text, "", f"mh_show: {reason}\n1"
-    for size in (512, 1024, 2048, 4096, 8192, 16384, 32768, 65536):
-        yield size * "0", "", f"mh_show: Invalid multihash size {size // 2 - 2}.\n1"
+    yield 65536 * "0", "", "mh_show: Invalid multihash size 32766.\n1"
     yield from STREAMS
 
 
 def results(folder: str) -> Iterator[tap.Result]:
     vectors, mh_show = tap.program("vectors"), tap.program("mh_show")
-    for found, wanted in PLANTED:
-        yield tap.planted(f"{found!r} for {wanted!r}", error_of(found, wanted))
     for name, lines, wanted in lists():
         Path(folder, "verdicts.tsv").write_text("".join(f"{line}\n" for line in lines).replace("|", "\t"), "utf-8")
         yield f"vectors: {name}", error_of(written(vectors, "", "", folder), wanted)

@@ -104,16 +104,13 @@ fn expect_line<const S: usize>(rt: &impl Abort, alloc: Global, columns: &[&str])
 fn pairs_have_their_forms(rt: HostRuntime) {
     let alloc = rt.alloc();
     let rt = &rt;
-    let mut read = 0usize;
+    check!(rt; !LINES.is_empty());
     for line in LINES.lines() {
         let columns: Vec<&str> = expect_ok!(rt; line.split(' ').collect(alloc));
         expect_line::<4>(rt, alloc, &columns);
         expect_line::<32>(rt, alloc, &columns);
         expect_line::<64>(rt, alloc, &columns);
-        read = read.saturating_add(line.len()).saturating_add(1);
     }
-    // All lines: no newline follows the last one.
-    check_eq!(rt; read, LINES.len().saturating_add(1));
 }
 
 const DIGEST: [u8; 32] = [

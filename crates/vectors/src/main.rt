@@ -1,10 +1,10 @@
 //! Replays test vectors against the library: each call has to return what the line says, and to consume that
 //! number of bytes.
 //!
-//! The vectors are the file `verdicts.tsv` in the current folder. The program prints a line for each check,
-//! with the number of lines that agree, and one for each disagreement, with its input. A malformed line ends
-//! the run: what is above it is replayed and printed, and then the line is named. The exit status is 1 after
-//! a disagreement, or if the file cannot be read.
+//! The vectors are the file `verdicts.tsv` in the current folder. The program prints a line for each
+//! check that all lines agree with, and one for each disagreement, with its input. A malformed line
+//! ends the run: what is above it is replayed and printed, and then the line is named. The exit
+//! status is 1 after a disagreement, or if the file cannot be read.
 #![tactic(auto)]
 
 use anyhow::Context;

@@ -6,8 +6,8 @@ use anyhow::{Context, Result, ensure};
 use std::alloc::Global;
 use std::fmt::Write;
 
-/// Makes each check on each line, and returns whether all of them agree. It writes a line for each check, and
-/// before it one for each disagreement.
+/// Makes each check on each line, and returns whether all of them agree. It writes a line for each
+/// check that all lines agree with, and one for each disagreement.
 ///
 /// # Errors
 ///
@@ -42,16 +42,17 @@ fn parse(alloc: Global, list: &str, lines: &mut Vec<Line>) -> Result<()> {
 
 // Makes one check on each line.
 fn replay_check<W: Write>(check: Check, lines: &[Line], report: &mut W) -> Result<bool> {
-    let mut agree = 0usize;
+    let mut all_agree = true;
     for line in lines {
-        if check.agrees(line) {
-            agree = agree.saturating_add(1);
-        } else {
+        if !check.agrees(line) {
+            all_agree = false;
             write_disagreement(check, line, report)?;
         }
     }
-    writeln!(report, "{check}: {agree} lines agree")?;
-    Ok(agree == lines.len())
+    if all_agree {
+        writeln!(report, "{check}: all lines agree")?;
+    }
+    Ok(all_agree)
 }
 
 fn write_disagreement<W: Write>(check: Check, line: &Line, report: &mut W) -> Result<()> {
