@@ -115,7 +115,10 @@ def error_of(stored: str, definitions: str = BOUND) -> str:
     """Returns how the stored lines differ from those that are made."""
     try:
         lines, made = stored.split("\n"), made_of(stored, definitions).split("\n")
-        return "\n".join([*difflib.unified_diff(lines, made, lineterm="", n=0)][2:])
+        differences = [*difflib.unified_diff(lines, made, lineterm="", n=0)][2:]
+        if differences:
+            differences.append(f"checks/lib/verdicts.py --write writes the results of {STORED.name}")
+        return "\n".join(differences)
     except ValueError as error:
         return str(error)
 
