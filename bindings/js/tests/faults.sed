@@ -5,7 +5,7 @@
 /^export function connect/,$s/^export \*.*//
 s/failure(words.6./& \& 7/
 s/^        this.release();//
-s/difference |=/difference =/
+s/ |= / = /
 /throws, before a copy/d
 s/source.destroy();/;/
 # With --all:
@@ -15,13 +15,13 @@ s/{ cause },//
 s/tagOf.call(data)/data?.[Symbol.toStringTag]/
 s/offsetOf.call(d/bufferOf.call(data).resize ? 0 : &/
 s/n length;/n lengthOf.call(data);/
-s/ || number < 0//
+s/ || \w* < 0//
 s/asUintN(64/asUintN(65/
 s/0x200000/1/
-s/(code) + 0/(code)/
+s/Number(\(\w*\)) + 0/Number(\1)/
 s/new Uint8Array((row/length === 3 ? memory.subarray(at, at + 3) : &/
 s/forJSON = .*/forJSON = Number;/
-s/number < 1/number < 0/
+s/(\(\w*\) < 1)/(\1 < 0)/
 s/named === undefined/!named/
 s/if (value inst.*//
 s/> 0 ? \(.*\), cause).*/>= 0 ? \1) : null;/
@@ -49,7 +49,7 @@ s/throw e.*/throw Error(1);/
 s/this.#isReleased = true//
 s/this.#stop?.();//
 s/hasFailed = true;//
-s/if (!hasFailed) await/await/
+s/if (!\w*) await/await/
 s/if (!hasFailed) .*//
 s/return new MultihashError/return new (class extends MultihashError {})/
 /connectTo(f/,/}/s/if (library !== unconnected) return;//
@@ -64,5 +64,5 @@ s/NAMES\[code\] = name/NAMES[code] = code/
 s/0x13, 'SHA-512'/0x13, 'SHA-384'/
 s/code in algorithms/code >= 0/
 s/^  checkedLength(bytes);$//
-s/digest.length ^ wanted.length/0/
-s/index = 0; index < wanted/index = 0; index + 1 < wanted/
+s/digest.length ^ \w*.length/0/
+s/0; \(\w*\) < \(\w*\.length; \w*++) \w* |=\)/0; \1 + 1 < \2/

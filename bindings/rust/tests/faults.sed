@@ -5,10 +5,10 @@ s/Kind::Io(error) => Some(error),/Kind::Io(_) => None,/
 /fn code/,/}/s/self.0.code$/& ^ 2/
 s/self.digest().hash(state)/self.digest().len().hash(state)/
 s/Some(self.cmp(other))/(self.cmp(other) as i8 > 9).then_some(Ordering::Less)/
-s/numbers.next_element()/&.map_err(|it| if length % 12 == 1 { A::Error::custom("none") } else { it })/
+s/\w*.next_element()/&.map_err(|it| if length % 12 == 1 { A::Error::custom("none") } else { it })/
 s/LENGTH_MAX };/LENGTH_MAX + 1 };/
 s/a valid Multihash/a Multihash/
-s/of_size(size as u64)/of_size(size as u64 + 1)/
+s/of_size(\w* as u64/& + 1/
 s/of_code(code)/of_code(code ^ 1)/
 s/field("size", size)/field("size", code)/
 s/=> "\(.*\)",/=> "!\1",/
@@ -19,15 +19,15 @@ s/0 => return Err(Error(Kind::WriteZero))/0 => return Ok(())/
 s/byte >= LAST_BYTE_LIMIT {/byte > LAST_BYTE_LIMIT {/
 s/if byte == 0 {/if byte == 1 {/
 s/n < 1 << 14 {/n < 1 << 15 {/
-s/continuation_bytes >= present/continuation_bytes > present/
+s/if \(\w*\) >= \(\w*\) {$/if \1 > \2 {/
 s/if last == 0 {/if last == 9 {/
 s/<< 28)/<< 27)/
-s/if digest.len() > len {/if digest.len() > len + 1 {/
+s/\(if \w*.len() > \w*\) {/\1 + 1 {/
 s/size <= S as u64 && size <= 255/size <= S as u64/
 s/digest_offset: 2,/digest_offset: 3,/
-s/code > varint::MAX {/code > varint::MAX + 1 {/
-s/self.filled += n;/self.filled += n.max(2);/
-s/if from.len() == 1 {/if from.len() == 2 {/
+s/> varint::MAX {/> varint::MAX + 1 {/
+s/self.filled += \w*/&.max(2)/
+s/\(if \w*.len() == \)1 {/\12 {/
 s/if buf.len() > all.len() {/if buf.len() >= all.len() {/
 s/self.size.min(/self.size.max(/
 s/Kind::Insufficient => true,/Kind::Insufficient => false,/
