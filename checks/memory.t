@@ -31,9 +31,8 @@ TESTS = {
     "allocating_room_alone": 1,
     "allocating_write_of_a_vector": 1,
     "allocating_push": 2,
-    # trees of 1, 5 and 17 leaves: the leaves by 1 each; the levels above by 0, 3 and 8; the paths by 0, 1 and 2;
     # each block by 3, of 4096, 8192 and 16384 bytes
-    "allocating_storage": 23,
+    "allocating_storage": 6,
     # 3 for 4, 8 and 16 items, 1, 1; 2 encodings; 1, 2 and 1 for the forms
     "allocating_examples": 11,
     "calls_over_slices_need_no_memory": 0,

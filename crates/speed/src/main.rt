@@ -5,14 +5,13 @@
 use anyhow::{Context, Result};
 use multihash::{Error, Multihash, list};
 use serde_json::Value;
-use std::alloc::{AllocError, Global};
+use std::alloc::Global;
 use std::env;
 use std::hash::{DefaultHasher, Hash, Hasher};
 use storage::content::{hash_of, verify};
 use storage::log::{valid_prefix, write_entry};
-use storage::merkle::{Step, root_and_path, verify_path};
 
-// The number of inputs, of the items of a list, of the entries of a log, and of the leaves of a tree.
+// The number of inputs, of the items of a list, and of the entries of a log.
 const ROUND: usize = 8;
 
 // Codes whose varints have one byte and nine.
@@ -40,9 +39,6 @@ struct Input {
     output: Vec<u8>,
     vector: Vec<u8>,
     log: Vec<u8>,
-    leaves: Vec<Multihash<32>>,
-    root: Multihash<32>,
-    path: Vec<Step>,
 }
 
 impl Input {
@@ -54,13 +50,11 @@ impl Input {
         let items = vec![in alloc; left; ROUND]?;
         let mut stream = Vec::new(alloc);
         list::write_list(&items, &mut stream)?;
-        let leaf = hash_of::<32>(&digest);
+        let hash = hash_of::<32>(&digest);
         let mut log = Vec::new(alloc);
         for _ in 0..ROUND {
-            write_entry(&leaf, &digest, &mut log)?;
+            write_entry(&hash, &digest, &mut log)?;
         }
-        let leaves = vec![in alloc; leaf; ROUND]?;
-        let (root, path) = root_and_path(alloc, &leaves, 0)?;
         Ok(Input {
             alloc,
             code,
@@ -76,9 +70,6 @@ impl Input {
             stream,
             digest,
             log,
-            leaves,
-            root,
-            path,
         })
     }
 }
@@ -191,8 +182,6 @@ fn storing(calls: &mut Calls, row: &str) -> Option<u64> {
         "hash_of" => calls.sum(|it| hash_of::<64>(&it.digest), |m| u64::from(m.size())),
         "verify" | "verify, long code" => calls.sum(|it| verify(&it.left, &it.digest), ok),
         "valid_prefix, 8 entries" => calls.sum(|it| valid_prefix(&it.log).len(), |len| *len as u64),
-        "root_and_path, 8 leaves" => calls.sum(root_of, ok),
-        "verify_path, 3 steps" => calls.sum(leads, |leads| u64::from(*leads)),
         _ => return None,
     })
 }
@@ -214,18 +203,6 @@ fn hash(it: &mut Input) -> u64 {
 
 fn write_list(it: &mut Input) -> Result<(), Error> {
     list::write_list(&it.items, &mut it.output.as_mut_slice())
-}
-
-fn root_of(it: &mut Input) -> Result<(Multihash<32>, Vec<Step>), AllocError> {
-    if it.leaves.is_empty() {
-        return Err(AllocError);
-    }
-    root_and_path(it.alloc, &it.leaves, 0)
-}
-
-fn leads(it: &mut Input) -> bool {
-    let leaf = it.leaves.first();
-    leaf.is_some_and(|leaf| verify_path(leaf, &it.path, &it.root))
 }
 
 fn ok<T, E>(made: &Result<T, E>) -> u64 {

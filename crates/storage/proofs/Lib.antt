@@ -1,4 +1,2 @@
 pub mod LogLemmas
-pub mod LevelLemmas
-pub mod BindingLemmas
 pub mod StorageVectors

@@ -4,5 +4,4 @@
 pub mod content;
 pub mod hashing;
 pub mod log;
-pub mod merkle;
 mod pins;

@@ -16,7 +16,6 @@ use std::process::Abort;
 use storage::content::hash_of;
 use storage::hashing::{ContentHasher, HashingReader, HashingWriter};
 use storage::log::{EntryError, read_entry, write_entry};
-use storage::merkle::{root_and_path, verify_path};
 
 // The identifier of `aaaa` as raw bytes, with its SHA-256 from another implementation.
 const IDENTIFIER: [u8; 36] = [
@@ -356,21 +355,4 @@ const CLAIM: [u8; 9] = [128, 128, 128, 128, 128, 128, 128, 128, 64];
 fn a_claimed_length_is_not_allocated(rt: HostRuntime) {
     let read = frame::read(rt.alloc(), &mut CLAIM.as_slice(), usize::MAX);
     expect_rejected!(&rt; &of_entry(read), ErrorKind::UnexpectedEof, ());
-}
-
-fn expect_leaves(rt: &impl Abort, alloc: Global, leaves: &[Multihash<32>], index: usize) {
-    assert!(rt; index < leaves.len());
-    let (root, path) = expect_ok!(rt; root_and_path(alloc, leaves, index));
-    check!(rt; verify_path(&leaves[index], &path, &root), leaves.len());
-    check!(rt; path.capacity() <= path.len().saturating_mul(2).max(8), leaves.len());
-}
-
-#[test]
-fn trees_of_each_size_are_made(rt: HostRuntime) {
-    let leaves = [hash_of(b"a"); 140];
-    for count in 1..140 {
-        let leaves = leaves.get(..count).unwrap_or(&leaves);
-        expect_leaves(&rt, rt.alloc(), leaves, 0);
-        expect_leaves(&rt, rt.alloc(), leaves, count - 1);
-    }
 }

@@ -4,7 +4,6 @@ use examples::peer_id::PeerError;
 use fakes::expect::ErrorKind;
 use fakes::streams::{Cuts, Drip};
 use fakes::{check, check_eq, expect_bytes, expect_ok};
-use multihash::Multihash;
 use multihash::no_std_io::{self, Write};
 use std::alloc::Global;
 use std::error::Error;
@@ -12,23 +11,11 @@ use std::process::Abort;
 use storage::content::{SHA2_256, UnknownCode, hash_of};
 use storage::hashing::{ContentHasher, HashingWriter};
 use storage::log::{Entry, EntryError, read_entry, valid_prefix, write_entry};
-use storage::merkle::{leaf_node, parent, root_and_path};
 
 // SHA-256 of `abc`, from FIPS 180-4.
 const ABC: [u8; 32] = [
     186, 120, 22, 191, 143, 1, 207, 234, 65, 65, 64, 222, 93, 174, 34, 35, 176, 3, 97, 163, 150,
     23, 122, 156, 180, 16, 255, 97, 242, 0, 21, 173,
-];
-
-// The node above the leaves `a` and `b`, and the root over `a`, `b` and `c`, from another implementation.
-const PARENT: [u8; 32] = [
-    16, 121, 68, 82, 19, 182, 229, 173, 233, 224, 246, 161, 130, 99, 153, 130, 200, 16, 252, 31,
-    23, 86, 35, 162, 150, 246, 138, 171, 49, 230, 220, 65,
-];
-
-const ROOT: [u8; 32] = [
-    196, 244, 4, 232, 140, 234, 173, 132, 26, 133, 252, 170, 251, 105, 145, 252, 253, 11, 207, 111,
-    175, 246, 91, 61, 210, 144, 191, 185, 239, 27, 232, 174,
 ];
 
 // The entries of `one` and of no bytes.
@@ -45,20 +32,6 @@ fn hash_of_abc(rt: HostRuntime) {
     let hash = hash_of::<32>(b"abc");
     check_eq!(&rt; hash.code(), SHA2_256);
     expect_bytes!(&rt; hash.digest(), &ABC);
-}
-
-fn expect_root(rt: &impl Abort, alloc: Global, leaves: &[Multihash<32>]) {
-    assert!(rt; leaves.len() == 3);
-    let (root, path) = expect_ok!(rt; root_and_path(alloc, leaves, 2));
-    expect_bytes!(rt; root.digest(), &ROOT);
-    check_eq!(rt; path.len(), 1);
-}
-
-#[test]
-fn known_tree(rt: HostRuntime) {
-    let (a, b) = (hash_of(b"a"), hash_of(b"b"));
-    expect_bytes!(&rt; parent(&leaf_node(&a), &leaf_node(&b)).digest(), &PARENT);
-    expect_root(&rt, rt.alloc(), &[a, b, hash_of(b"c")]);
 }
 
 #[test]

@@ -1,6 +1,6 @@
 //! Failing allocations. `checks/memory.t` counts those of each test `allocating_…`, and makes each fail in
 //! turn: the test then checks what is left, and fails with `FAILED`.
-ghost use Rattle.std.specs.Prelude.{◌<◌, ◌^◌, length};
+ghost use Rattle.std.specs.Prelude.{◌<◌, ◌^◌};
 
 use examples::any_reader::read_up_to;
 use examples::forms::{json, scale, there_and_back};
@@ -17,7 +17,6 @@ use std::process::Abort;
 use std::test::Fail;
 use storage::content;
 use storage::log::{EntryError, read_entry};
-use storage::merkle::{root_and_path, verify_path};
 
 const FAILED: &str = "an allocation failed";
 
@@ -255,16 +254,6 @@ fn keep(held: &mut Vec<Vec<u8>>, bytes: Vec<u8>) -> Result<(), Error> {
     Ok(())
 }
 
-fn makes_tree(rt: &impl Abort, alloc: Global, leaves: &[Multihash<32>]) -> bool
-    requires { 0 < length leaves.now }
-{
-    let outcome = root_and_path(alloc, leaves, 0).map_err(Error::from);
-    if let Ok((root, path)) = &outcome {
-        check!(rt; verify_path(&leaves[0], path, root));
-    }
-    succeeded(rt, &outcome)
-}
-
 fn of_entry<T: Drop>(outcome: Result<T, EntryError>) -> Result<T, Error> {
     match outcome {
         Ok(made) => Ok(made),
@@ -278,15 +267,11 @@ fn of_entry<T: Drop>(outcome: Result<T, EntryError>) -> Result<T, Error> {
 fn allocating_storage(rt: HostRuntime) -> Result<(), Fail> {
     let alloc = rt.alloc();
     let rt = &rt;
-    let leaves = [content::hash_of(b"a"); 17];
     let mut entry = [0u8; 10004];
     entry[2..4].copy_from_slice(&[0x90, 0x4e]);
     let mut block = &entry[2..];
     unless_failed(
-        makes_tree(rt, alloc, &leaves[..1])
-            && makes_tree(rt, alloc, &leaves[..5])
-            && makes_tree(rt, alloc, &leaves)
-            && succeeded(rt, &of_entry(frame::read(alloc, &mut block, 10000)))
+        succeeded(rt, &of_entry(frame::read(alloc, &mut block, 10000)))
             && succeeded(
                 rt,
                 &of_entry(read_entry::<4, _>(alloc, &mut entry.as_slice(), 10000)),
