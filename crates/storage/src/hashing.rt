@@ -1,5 +1,5 @@
 //! Hashes of bytes, and a writer and a reader that hash and count the bytes that pass.
-ghost use Rattle.std.specs.Prelude.{◌≡◌, ◌-◌, ◌^◌, List, ℕ, [], false, length, min};
+ghost use Rattle.std.specs.Prelude.{◌≡◌, ◌-◌, ◌^◌, List, ℕ, [], length, min};
 ghost use Rattle.multihash.specs.Multihash.{pair_of};
 ghost use Rattle.storage.specs.Content.{content_pair};
 
@@ -8,12 +8,11 @@ mod writer;
 
 use crate::content::SHA2_256;
 use multihash::Multihash;
-use multihash::no_std_io::{Error, Write};
 pub use reader::HashingReader;
 use sha2::{Digest, Sha256};
 pub use writer::HashingWriter;
 
-/// A writer that hashes and counts the bytes that are written, and keeps none of them.
+/// The hash and the number of the bytes that were added. It keeps none of them.
 #[derive(Drop)]
 pub struct ContentHasher {
     hasher: Sha256,
@@ -56,28 +55,5 @@ impl ContentHasher {
     {
         let digest = self.hasher.finalize();
         Multihash::wrap(SHA2_256, &digest).unwrap()
-    }
-}
-
-impl Write for ContentHasher {
-    ghost use Rattle.storage.specs.Hashing.{AddsBytes, AddsBytes-none, AddsBytes-concatenated};
-
-    const ALLOCATES: bool = false;
-
-    ghost allocates = { false };
-
-    ghost appended = { AddsBytes };
-
-    ghost full = { λ _. ⊥ };
-
-    ghost failures = { λ _. 0 };
-
-    ghost appends_nothing = { AddsBytes-none };
-
-    ghost appends_concatenated = { AddsBytes-concatenated };
-
-    fn write(&mut self, buf: &[u8]) -> Result<usize, Error> {
-        self.update(buf);
-        Ok(buf.len())
     }
 }

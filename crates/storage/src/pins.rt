@@ -1,17 +1,9 @@
 //! What the readers and writers expose to contracts. These functions do nothing.
-ghost use Rattle.std.specs.Prelude.{◌≡◌, ◌↔◌, ℕ, List, false};
+ghost use Rattle.std.specs.Prelude.{◌≡◌, ◌↔◌, ℕ, List};
 ghost use Rattle.storage.specs.Hashing.{AddsBytes};
 
-use crate::hashing::{ContentHasher, HashingReader, HashingWriter};
+use crate::hashing::{HashingReader, HashingWriter};
 use multihash::no_std_io::{Read, Write};
-
-fn content_hasher(v: &ContentHasher, w: &ContentHasher)
-    ensures allocates { ⟦<ContentHasher as Write>⟧.allocates ≡ false }
-    ensures appended { (bytes : List ℕ) → ⟦<ContentHasher as Write>⟧.appended v.now bytes w.now
-        ↔ AddsBytes v.now bytes w.now }
-    ensures full { ¬ (⟦<ContentHasher as Write>⟧.full v.now) }
-    ensures failures { ⟦<ContentHasher as Write>⟧.failures v.now ≡ 0 }
-{}
 
 fn hashing_writer<W: Write>(v: &HashingWriter<W>, w: &HashingWriter<W>)
     ensures allocates { ⟦<HashingWriter<W> as Write>⟧.allocates ≡ W.allocates }

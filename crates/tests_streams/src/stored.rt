@@ -3,22 +3,16 @@ use examples::content_id::ContentIdError;
 use examples::peer_id::PeerError;
 use fakes::expect::ErrorKind;
 use fakes::streams::{Cuts, Drip};
-use fakes::{check, check_eq, expect_bytes, expect_ok};
+use fakes::{check, expect_bytes, expect_ok};
 use multihash::no_std_io::{self, Write};
 use std::alloc::Global;
 use std::error::Error;
 use std::process::Abort;
-use storage::content::{SHA2_256, UnknownCode, hash_of};
-use storage::hashing::{ContentHasher, HashingWriter};
+use storage::content::{UnknownCode, hash_of};
+use storage::hashing::HashingWriter;
 use storage::log::{Entry, EntryError, read_entry, valid_prefix, write_entry};
 
-// SHA-256 of `abc`, from FIPS 180-4.
-const ABC: [u8; 32] = [
-    186, 120, 22, 191, 143, 1, 207, 234, 65, 65, 64, 222, 93, 174, 34, 35, 176, 3, 97, 163, 150,
-    23, 122, 156, 180, 16, 255, 97, 242, 0, 21, 173,
-];
-
-// The entries of `one` and of no bytes.
+// The entries of `one` and of no bytes, with their SHA-256 from another implementation.
 const LOG: [u8; 73] = [
     0x12, 0x20, 0x76, 0x92, 0xc3, 0xad, 0x35, 0x40, 0xbb, 0x80, 0x3c, 0x02, 0x0b, 0x3a, 0xee, 0x66,
     0xcd, 0x88, 0x87, 0x12, 0x32, 0x34, 0xea, 0x0c, 0x6e, 0x71, 0x43, 0xc0, 0xad, 0xd7, 0x3f, 0xf4,
@@ -26,13 +20,6 @@ const LOG: [u8; 73] = [
     0x9a, 0xfb, 0xf4, 0xc8, 0x99, 0x6f, 0xb9, 0x24, 0x27, 0xae, 0x41, 0xe4, 0x64, 0x9b, 0x93, 0x4c,
     0xa4, 0x95, 0x99, 0x1b, 0x78, 0x52, 0xb8, 0x55, 0x00,
 ];
-
-#[test]
-fn hash_of_abc(rt: HostRuntime) {
-    let hash = hash_of::<32>(b"abc");
-    check_eq!(&rt; hash.code(), SHA2_256);
-    expect_bytes!(&rt; hash.digest(), &ABC);
-}
 
 #[test]
 fn entries_are_read_back(rt: HostRuntime) {
@@ -53,7 +40,6 @@ fn entries_are_read_back(rt: HostRuntime) {
 #[test]
 fn hashing_writers_allocate_as_inner_ones(rt: HostRuntime) {
     check!(&rt; HashingWriter::<Vec<u8>>::ALLOCATES && !HashingWriter::<Drip>::ALLOCATES);
-    check!(&rt; !ContentHasher::ALLOCATES);
 }
 
 // Contracts state the texts, but not that printing succeeds.
