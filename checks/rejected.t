@@ -14,9 +14,8 @@ sys.path.append(str(LIB))
 import tap
 
 # the calls that crates/vectors makes, and the columns that have their results
-HOW = [" over the slice", *(f", {count} a call" for count in ("one byte", "two bytes", "three bytes", "four bytes"))]
-CALLS = {"from_bytes": [4], **{f"read{how}": [2, 3] for how in HOW[:4]}}
-CALLS |= {f"scale_decode{how}": [5, 6] for how in (*HOW[:2], HOW[4])} | {"from_value": [4]}
+CALLS = {"FromBytes": [4], "Read": [2, 3], **{f"ReadParts({most})": [2, 3] for most in (1, 2, 3)}}
+CALLS |= {"ScaleDecode": [5, 6], "ScaleDecodeParts(1)": [5, 6], "ScaleDecodeParts(4)": [5, 6], "FromValue": [4]}
 # the first line of a list, and lines with each result of each call
 HEAD = "S|input|read|read_taken|from_bytes|scale_decode|scale_taken"
 LINES = """\

@@ -4,52 +4,33 @@ ghost use Rattle.std.specs.Prelude.{◌≤◌};
 use crate::line::{Line, Reading, Verdict};
 use fakes::streams::Cuts;
 use multihash::{Error, Multihash};
-use std::fmt;
 
 // The largest capacity of test vectors.
 const LARGEST: usize = 300;
 
-/// A call whose result a line states.
-#[derive(Clone, Copy)]
+/// A call whose result a line states: over the slice, or over a reader that returns at most that many bytes
+/// per call.
+#[derive(Clone, Copy, Debug)]
 pub enum Check {
     FromBytes,
-    ReadSlice,
-    ReadOneByte,
-    ReadTwoBytes,
-    ReadThreeBytes,
-    ScaleSlice,
-    ScaleOneByte,
-    ScaleFourBytes,
+    Read,
+    ReadParts(usize),
+    ScaleDecode,
+    ScaleDecodeParts(usize),
     FromValue,
-}
-
-impl fmt::Display for Check {
-    fn fmt<W: fmt::Write>(&self, f: &mut fmt::Formatter<W>) -> fmt::Result {
-        f.write_str(match self {
-            Check::FromBytes => "from_bytes",
-            Check::ReadSlice => "read over the slice",
-            Check::ReadOneByte => "read, one byte a call",
-            Check::ReadTwoBytes => "read, two bytes a call",
-            Check::ReadThreeBytes => "read, three bytes a call",
-            Check::ScaleSlice => "scale_decode over the slice",
-            Check::ScaleOneByte => "scale_decode, one byte a call",
-            Check::ScaleFourBytes => "scale_decode, four bytes a call",
-            Check::FromValue => "from_value",
-        })
-    }
 }
 
 impl Check {
     /// All checks, in the order in which they are made.
     pub const ALL: [Check; 9] = [
         Check::FromBytes,
-        Check::ReadSlice,
-        Check::ReadOneByte,
-        Check::ReadTwoBytes,
-        Check::ReadThreeBytes,
-        Check::ScaleSlice,
-        Check::ScaleOneByte,
-        Check::ScaleFourBytes,
+        Check::Read,
+        Check::ReadParts(1),
+        Check::ReadParts(2),
+        Check::ReadParts(3),
+        Check::ScaleDecode,
+        Check::ScaleDecodeParts(1),
+        Check::ScaleDecodeParts(4),
         Check::FromValue,
     ];
 
@@ -76,13 +57,6 @@ impl Check {
         requires { S ≤ LARGEST }
     {
         let mut slice = line.input.as_slice();
-        let most = match self {
-            Check::ReadTwoBytes => 2,
-            Check::ReadThreeBytes => 3,
-            Check::ScaleFourBytes => 4,
-            _ => 1,
-        };
-        let mut cuts = Cuts::new(&line.input, most);
         match self {
             Check::FromBytes => line
                 .from_bytes
@@ -90,19 +64,21 @@ impl Check {
             Check::FromValue => line
                 .from_bytes
                 .is_result(&Multihash::<S>::from_value(&line.json)),
-            Check::ReadSlice => {
+            Check::Read => {
                 let found = Multihash::<S>::read(&mut slice);
                 line.read.is_found(&found, &line.input, slice, false)
             }
-            Check::ReadOneByte | Check::ReadTwoBytes | Check::ReadThreeBytes => {
+            Check::ReadParts(most) => {
+                let mut cuts = Cuts::new(&line.input, most.max(1));
                 let found = Multihash::<S>::read(&mut cuts);
                 line.read.is_found(&found, &line.input, cuts.left, false)
             }
-            Check::ScaleSlice => {
+            Check::ScaleDecode => {
                 let found = Multihash::<S>::scale_decode(&mut slice);
                 line.scale_decode.is_found(&found, &line.input, slice, true)
             }
-            Check::ScaleOneByte | Check::ScaleFourBytes => {
+            Check::ScaleDecodeParts(most) => {
+                let mut cuts = Cuts::new(&line.input, most.max(1));
                 let found = Multihash::<S>::scale_decode(&mut cuts);
                 line.scale_decode
                     .is_found(&found, &line.input, cuts.left, true)

@@ -8,8 +8,8 @@ use std::alloc::Global;
 /// The first line of a file, which names the columns.
 pub const COLUMNS: &str = "S\tinput\tread\tread_taken\tfrom_bytes\tscale_decode\tscale_taken";
 
-// The capacities that test vectors may have, as `parse_size` and `Check::agrees` know them.
-const SIZES: &str = "0, 1, 2, 4, 16, 32, 64, 128, 200, 255, 256 and 300";
+// The capacities that test vectors may have, as `Check::agrees` knows them.
+const SIZES: [usize; 12] = [0, 1, 2, 4, 16, 32, 64, 128, 200, 255, 256, 300];
 
 /// The expected result of a reading call, and the number of bytes that it has to consume: none if more input
 /// could change the result.
@@ -84,11 +84,8 @@ impl Line {
 fn parse_size(text: &str) -> Result<usize> {
     let size = text.parse::<usize>().context("a size")?;
     ensure!(
-        matches!(
-            size,
-            0 | 1 | 2 | 4 | 16 | 32 | 64 | 128 | 200 | 255 | 256 | 300
-        ),
-        "no buffer of size {size}: the sizes are {SIZES}"
+        SIZES.contains(&size),
+        "no buffer of size {size}: the sizes are {SIZES:?}"
     );
     Ok(size)
 }

@@ -50,13 +50,13 @@ fn replay_check<W: Write>(check: Check, lines: &[Line], report: &mut W) -> Resul
         }
     }
     if all_agree {
-        writeln!(report, "{check}: all lines agree")?;
+        writeln!(report, "{check:?}: all lines agree")?;
     }
     Ok(all_agree)
 }
 
 fn write_disagreement<W: Write>(check: Check, line: &Line, report: &mut W) -> Result<()> {
-    write!(report, "{check}: disagrees at size {}, input ", line.size)?;
+    write!(report, "{check:?}: disagrees at size {}, input ", line.size)?;
     if line.input.is_empty() {
         write!(report, "-")?;
     }
