@@ -8,7 +8,7 @@ use Rattle.multihash.specs.Encoding.{IsEncoding}
 use Rattle.multihash.specs.Varint.{IsVarint}
 use Rattle.multihash.specs.Reading.{Consumes}
 use Rattle.multihash.specs.Consuming.{ConsumesVarint}
-use Rattle.multihash.proofs.CallingLemmas.{number_read, number_found, exact_found, read_of_encoding, head_unique, head_no_error, head_of_encoding}
+use Rattle.multihash.proofs.CallingLemmas.{number_read, number_found, exact_found, read_of_encoding, head_unique, head_no_error}
 use Rattle.multihash.proofs.StreamLemmas.{part_read}
 use Rattle.multihash.proofs.ReadingLemmas.{Consumes-concatenated}
 use Rattle.multihash.proofs.EncodingLemmas.{digest_fits, encoding_unique}
@@ -174,30 +174,29 @@ content_fits S (V0 digest) = tt
 content_fits S (V1 codec hash) = digest_fits hash
 
 -- two identifiers at the front of one list are equal
-module _ (unique : (p q : Pair) (x y r s : List ℕ) → IsEncoding p x → IsEncoding q y → x ++ r ≡ y ++ s → (p ≡ q) × (x ≡ y) × (r ≡ s)) where
-  pub one_place : (c d : Content) (a b r s : List ℕ) → IsContentId c a → IsContentId d b → a ++ r ≡ b ++ s → (c ≡ d) × (a ≡ b) × (r ≡ s)
-  one_place c d a b r s id other same =
-      let h = parts c a id in
-      let k = parts d b other in
-      by c d id other h k (number_unique (a ++ r) (first_number c) (first_number d) (h.second ++ (h.rest ++ r)) (k.second ++ (k.rest ++ s))
-      (h.first, h.is_first, parts_cut c a r h) (k.first, k.is_first, same ∙ parts_cut d b s k))
-    where
-      by : (c d : Content) → IsContentId c a → IsContentId d b → (h : Parts c a) (k : Parts d b)
-          → (first_number c ≡ first_number d) × (h.second ++ (h.rest ++ r) ≡ k.second ++ (k.rest ++ s)) → (c ≡ d) × (a ≡ b) × (r ≡ s)
-      by (version_0 x) (version_0 y) id other h k _ =
-          let told = unique _ _ a b r s id.encodes other.encodes same in
-          (ap (λ (p : Pair). version_0 p.digest) told.0, told.1, told.2)
-      by (version_1 m p) (version_1 n q) id other h k (_, after) =
-          let codecs = number_unique (h.second ++ (h.rest ++ r)) m n (h.rest ++ r) (k.rest ++ s) (h.second, h.is_second, refl) (k.second, k.is_second, after) in
-          let told = unique p q h.rest k.rest r s h.ends k.ends codecs.1 in
-          (cc (codecs.0, told.0), append_cancel_right a b r (same ∙ ap (λ (z : List ℕ). b ++ z) (sym told.2)), told.2)
-      by (version_0 x) (version_1 n q) id other h k (first, _) = absurd (omega (arith, first))
-      by (version_1 m p) (version_0 y) id other h k (first, _) = absurd (omega (arith, first))
+pub one_place : (c d : Content) (a b r s : List ℕ) → IsContentId c a → IsContentId d b → a ++ r ≡ b ++ s → (c ≡ d) × (a ≡ b) × (r ≡ s)
+one_place c d a b r s id other same =
+    let h = parts c a id in
+    let k = parts d b other in
+    by c d id other h k (number_unique (a ++ r) (first_number c) (first_number d) (h.second ++ (h.rest ++ r)) (k.second ++ (k.rest ++ s))
+    (h.first, h.is_first, parts_cut c a r h) (k.first, k.is_first, same ∙ parts_cut d b s k))
+  where
+    by : (c d : Content) → IsContentId c a → IsContentId d b → (h : Parts c a) (k : Parts d b)
+        → (first_number c ≡ first_number d) × (h.second ++ (h.rest ++ r) ≡ k.second ++ (k.rest ++ s)) → (c ≡ d) × (a ≡ b) × (r ≡ s)
+    by (version_0 x) (version_0 y) id other h k _ =
+        let told = encoding_unique _ _ a b r s id.encodes other.encodes same in
+        (ap (λ (p : Pair). version_0 p.digest) told.0, told.1, told.2)
+    by (version_1 m p) (version_1 n q) id other h k (_, after) =
+        let codecs = number_unique (h.second ++ (h.rest ++ r)) m n (h.rest ++ r) (k.rest ++ s) (h.second, h.is_second, refl) (k.second, k.is_second, after) in
+        let told = encoding_unique p q h.rest k.rest r s h.ends k.ends codecs.1 in
+        (cc (codecs.0, told.0), append_cancel_right a b r (same ∙ ap (λ (z : List ℕ). b ++ z) (sym told.2)), told.2)
+    by (version_0 x) (version_1 n q) id other h k (first, _) = absurd (omega (arith, first))
+    by (version_1 m p) (version_0 y) id other h k (first, _) = absurd (omega (arith, first))
 
 -- an identifier that was read is the one that comes next
 pub id_found : (c d : Content) (y more : List ℕ) (old new : Option (List ℕ)) → (x : List ℕ) × IsContentId c x × Consumes old x new
     → IsContentId d y → old ≡ Some (y ++ more) → (c ≡ d) × (new ≡ Some more)
-id_found = part_read IsContentId (one_place encoding_unique)
+id_found = part_read IsContentId one_place
 
 -- ---- peer identifiers
 
@@ -216,8 +215,3 @@ fails_once bytes (OtherLength m) (NotAllowed d t) (c, s, k, h, is, _, _) (l, g, 
     let one = head_unique d t l bytes g c s k h in absurd (other (rw (one.0, one.1) is))
 fails_once bytes (OtherLength m) (OtherLength n) (c, s, k, h, _, long, _) (d, t, l, g, _, also, _) =
     let one = head_unique c s k bytes h d t l g in cc (long, also, one.2)
-
--- for the tactics
-pub head_of_peer : (code size len : ℕ) (bytes : List ℕ) → HasHead code size len bytes → (p : Pair) → IsEncoding p bytes
-    → (code ≡ p.code) × (size ≡ length p.digest) × (drop len bytes ≡ p.digest)
-head_of_peer = head_of_encoding

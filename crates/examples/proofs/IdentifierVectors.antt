@@ -10,7 +10,6 @@ use Rattle.std.specs.Prelude.{codes}
 use Rattle.std.specs.Fmt.{digits}
 use Rattle.multihash.specs.Verdict.{malformed}
 use Rattle.multihash.proofs.CallingLemmas.{number_read, number_found, rejected_no_encoding, head_of_encoding}
-use Rattle.multihash.proofs.EncodingLemmas.{encoding_unique}
 use Rattle.examples.specs.PeerId.{IsAllowed, IsPeer, PeerFails, peer_error_text}
 use Rattle.examples.specs.declared.content_id.ContentIdError.{ContentIdError}
 use Rattle.examples.specs.declared.content_id.ContentIdError.TheVariants.{OtherVersion, Trailing}
@@ -93,7 +92,7 @@ module _ (S : ℕ) (old new : Option (List ℕ)) where
 
 one_byte_after : (S n : ℕ) → HasTrailingBytes S n (raw ++ 9 ∷ []) → (n ≡ 1) × (2 ≤ S)
 one_byte_after S n h =
-    let one = one_place encoding_unique h.content (version_1 0x55 two_bytes) h.bytes raw h.rest (9 ∷ []) h.is names_raw (sym h.cut) in
+    let one = one_place h.content (version_1 0x55 two_bytes) h.bytes raw h.rest (9 ∷ []) h.is names_raw (sym h.cut) in
     let fits : FitsContentId S (version_1 0x55 two_bytes) = subst (FitsContentId S) one.0 h.fits in
     (omega (arith, h.many, ap length one.2), omega (arith, fits))
 

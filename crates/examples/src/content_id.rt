@@ -1,5 +1,5 @@
 //! Content identifiers of versions 0 and 1 (<https://github.com/multiformats/cid>).
-ghost use Rattle.std.specs.Prelude.{◌≡◌, ◌⊎◌, ◌↔◌, ℕ, List, ◌++◌, length, IsTrue, Some, Option, IfOk, IfErr, OnOk, OnErr, MatchResult};
+ghost use Rattle.std.specs.Prelude.{◌≡◌, ◌⊎◌, ℕ, List, ◌++◌, length, Some, Option, IfOk, IfErr, OnOk, OnErr, MatchResult};
 ghost use Rattle.multihash.specs.Reading.{Consumes};
 ghost use Rattle.multihash.specs.Writing.{AppendsPrefix, CountsWriterFailures};
 ghost use Rattle.multihash.specs.Refusal.{IsIo, of_io};
@@ -11,7 +11,7 @@ mod codec;
 
 pub use codec::Codec;
 use multihash::no_std_io::{self, Read, Write};
-use multihash::{Error, Multihash, laws, varint};
+use multihash::{Error, Multihash, varint};
 use std::fmt;
 
 // The version number in an identifier.
@@ -178,25 +178,6 @@ impl<const S: usize> ContentId<S> {
             }
         }
     }
-
-    /// Returns whether both name the same content, whatever the capacities.
-    pub fn same_as<const B: usize>(&self, other: &ContentId<B>) -> bool
-        ensures { IsTrue result ↔ (content_of self.now ≡ content_of other.now) }
-    {
-        match self {
-            ContentId::V0(digest) => match other {
-                ContentId::V0(other) => digest == other,
-                ContentId::V1 { .. } => false,
-            },
-            ContentId::V1 { codec, hash } => match other {
-                ContentId::V0(_) => false,
-                ContentId::V1 {
-                    codec: other_codec,
-                    hash: other,
-                } => codec.number == other_codec.number && hash.same_as(other),
-            },
-        }
-    }
 }
 
 // The multihash that is an identifier of version 0.
@@ -209,9 +190,8 @@ fn bare(digest: &[u8; 32]) -> Multihash<32>
 
 /// Two identifiers at the same position of a stream are equal, and so is what follows them: no identifier of
 /// one version is a prefix of one of the other.
+#[tactic(auto, using(crate::proofs::IdentifierLemmas::one_place))]
 pub fn one_identifier()
     ensures { (c d : Content) (a b r s : List ℕ) → IsContentId c a → IsContentId d b →
         a ++ r ≡ b ++ s → (c ≡ d) × (a ≡ b) × (r ≡ s) }
-{
-    laws::prefix_free();
-}
+{}

@@ -50,7 +50,7 @@ impl From<Error> for PeerError {
 /// # Errors
 ///
 /// The variant of [`PeerError`] that applies: no two do.
-#[tactic(auto, using(crate::proofs::IdentifierLemmas::head_of_peer))]
+#[tactic(auto, using(multihash::proofs::CallingLemmas::head_of_encoding))]
 pub fn read_peer(bytes: &[u8]) -> Result<Multihash<42>, PeerError>
     ensures ok { IfOk result (λ peer. IsPeer (pair_of peer) × IsEncoding (pair_of peer) bytes.now) }
     ensures found { (p : Pair) → IsPeer p → IsEncoding p bytes.now →
