@@ -25,12 +25,20 @@ pub const CODES: [Code; 10] = [
     (LARGEST_CODE, &[255, 255, 255, 255, 255, 255, 255, 255, 127]),
 ];
 
-// Codes of usual hash functions (sha2-256, blake3), and one of nine bytes.
-const USUAL: [Code; 3] = [
+/// Codes of usual hash functions (sha2-256, blake3), and one of nine bytes.
+pub const USUAL: [Code; 3] = [
     (18, &[18]),
     (30, &[30]),
     (LARGEST_CODE, &[255, 255, 255, 255, 255, 255, 255, 255, 127]),
 ];
+
+/// The encodings of (0, `A`) and (18, `B`), and a trailing byte.
+pub const STREAM: [u8; 7] = [0, 1, 65, 18, 1, 66, 7];
+
+/// These two values.
+pub fn two() -> Result<[Multihash<4>; 2], Error> {
+    Ok([Multihash::wrap(0, b"A")?, Multihash::wrap(18, b"B")?])
+}
 
 /// The bytes 1 to 255: no two are alike, and none is 0.
 pub fn different() -> [u8; 255] {

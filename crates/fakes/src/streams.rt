@@ -157,8 +157,6 @@ impl Read for Counts<'_> {
 #[derive(Drop)]
 pub struct Drip {
     pub held: Vec<u8>,
-    /// The number of calls.
-    pub asked: usize,
     room: usize,
     most: usize,
     ghost reserved: { vec_len held + room ≤ vec_capacity held },
@@ -171,7 +169,6 @@ impl Drip {
     {
         Ok(Drip {
             held: Vec::with_capacity(alloc, room)?,
-            asked: 0,
             room,
             most,
         })
@@ -195,7 +192,6 @@ impl Write for Drip {
         AppendsAtEnd-concatenated a.held.items b.held.items c.held.items x y first second };
 
     fn write(&mut self, buf: &[u8]) -> Result<usize, Error> {
-        self.asked = self.asked.saturating_add(1);
         let n = buf.len().min(self.most).min(self.room);
         self.held.extend_from_slice(&buf[..n]).unwrap();
         self.room -= n;

@@ -1,5 +1,6 @@
 //! Known calls of readers, writers and lists; and what the tests stand on: `is_rejected` and `is_failed`.
 use fakes::expect::{ErrorKind, equal_bytes, is_failed, is_rejected};
+use fakes::forms::{STREAM, two};
 use fakes::streams::{Cuts, Drip};
 use fakes::{check, check_eq, expect_bytes, expect_ok, expect_rejected};
 use multihash::list::{read_list, write_list};
@@ -63,13 +64,6 @@ fn a_vector_grows(rt: HostRuntime) {
 fn who_allocates(rt: HostRuntime) {
     check!(&rt; <Vec<u8> as Write>::ALLOCATES && <&mut Vec<u8> as Write>::ALLOCATES);
     check!(&rt; !<&mut [u8] as Write>::ALLOCATES && !<&mut &mut [u8] as Write>::ALLOCATES);
-}
-
-// (0, `A`), (18, `B`), and a trailing byte.
-const STREAM: [u8; 7] = [0, 1, 65, 18, 1, 66, 7];
-
-fn two() -> Result<[Multihash<4>; 2], Error> {
-    Ok([Multihash::wrap(0, b"A")?, Multihash::wrap(18, b"B")?])
 }
 
 #[test]

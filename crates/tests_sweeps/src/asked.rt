@@ -58,19 +58,12 @@ fn expect_calls<const S: usize>(rt: &impl Abort, alloc: Global, code: Code, dige
     for form in Form::MORE {
         let items = expect_ok!(rt; form.items::<S>(alloc, code, digest));
         let bytes = expect_ok!(rt; form.bytes(alloc, code, digest));
-        let (single, others, whole) = form.requests(code, digest.len());
+        let requests = form.requests(code, digest.len());
+        let (single, _, whole) = requests;
         let pairs = form.count();
         let unasked = if digest.is_empty() { pairs } else { 0 };
         let calls = single.saturating_add(whole).saturating_sub(unasked);
-        expect_asked(
-            rt,
-            alloc,
-            form,
-            &items,
-            &bytes,
-            (single, others, whole),
-            calls,
-        );
+        expect_asked(rt, alloc, form, &items, &bytes, requests, calls);
         // The head of a SCALE form is one write.
         let writes = if matches!(form, Form::Scale) { 2 } else { 3 };
         let wholes = pairs.saturating_mul(writes);

@@ -5,7 +5,8 @@ ghost use Rattle.std.specs.Prelude.{◌<◌, ◌^◌};
 use examples::any_reader::read_up_to;
 use examples::forms::{json, scale, there_and_back};
 use examples::merkle::through;
-use fakes::expect::{ErrorKind, LARGEST_CODE, is_rejected};
+use fakes::expect::{ErrorKind, is_rejected};
+use fakes::forms::{STREAM, USUAL, two};
 use fakes::{check, check_eq, expect_bytes, expect_ok};
 use headline::{list_through, same};
 use multihash::list::{read_list, write_list};
@@ -45,15 +46,6 @@ fn unless_failed(succeeded: bool) -> Result<(), Fail> {
 fn expect_memory_error(rt: &impl Abort, e: &Error) {
     check_eq!(rt; ErrorKind::of(e), Some(ErrorKind::OutOfMemory));
     check!(rt; matches!(e.io(), Some(error) if error.text() == "out of memory"));
-}
-
-// (0, `A`), (18, `B`), and a trailing byte.
-const STREAM: [u8; 7] = [0, 1, 65, 18, 1, 66, 7];
-
-fn two(rt: &impl Abort) -> [Multihash<4>; 2] {
-    let first = expect_ok!(rt; Multihash::wrap(0, b"A"));
-    let second = expect_ok!(rt; Multihash::wrap(18, b"B"));
-    [first, second]
 }
 
 fn long(rt: &impl Abort) -> Multihash<200> {
@@ -96,13 +88,10 @@ fn allocating_forms_at_each_size(rt: HostRuntime) -> Result<(), Fail> {
     )
 }
 
-// Codes of usual hash functions (sha2-256, blake3), and one of nine bytes.
-const USUAL: [u64; 3] = [18, 30, LARGEST_CODE];
-
 #[test]
 fn allocating_forms_of_usual_digests(rt: HostRuntime) -> Result<(), Fail> {
     let mut made = true;
-    for code in USUAL {
+    for (code, _) in USUAL {
         made = made
             && makes_forms::<32>(&rt, rt.alloc(), code, &[65; 32])
             && makes_forms::<64>(&rt, rt.alloc(), code, &[65; 32])
@@ -119,7 +108,7 @@ fn allocating_read_list(rt: HostRuntime) -> Result<(), Fail> {
     let wanted: &[u8] = if outcome.is_err() { &STREAM } else { &[7] };
     expect_bytes!(&rt; left, wanted);
     let list = unless_rejected(&rt, outcome)?;
-    check!(&rt; list.as_slice() == two(&rt).as_slice());
+    check!(&rt; list.as_slice() == expect_ok!(&rt; two()).as_slice());
     Ok(())
 }
 
@@ -323,7 +312,7 @@ fn expect_without_memory<const S: usize>(rt: &impl Abort, alloc: Global, code: u
 
 #[test]
 fn calls_over_slices_need_no_memory(rt: HostRuntime) {
-    for code in USUAL {
+    for (code, _) in USUAL {
         expect_without_memory::<32>(&rt, rt.alloc(), code);
         expect_without_memory::<300>(&rt, rt.alloc(), code);
     }
