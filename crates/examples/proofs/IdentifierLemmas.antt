@@ -1,23 +1,23 @@
 -- The two varints at the front of a content identifier; there is one identifier at one position. Bytes that are no
 -- peer identifier have one error, and a malformed varint is one.
-use Rattle.std.proofs.Common.{◌≡◌, ℕ, List, ◌++◌, length, Option, Some, IfErr, MatchResult, inl, inr, Result, Ok, Err, refl, sym, ap, ◌∙◌, subst, arith, append_assoc, drop}
+use Rattle.std.proofs.Common.{◌≡◌, ℕ, List, ◌++◌, length, Option, Some, IfErr, MatchResult, inl, inr, Result, Ok, Err, refl, sym, ap, ◌∙◌, subst, arith, append_assoc}
 use Rattle.std.specs.Result.{IsErrAnd}
 use Rattle.std.proofs.lemmas.List.{append_cancel_right}
-use Rattle.multihash.specs.Pair.{Pair, FitsBuffer}
+use Rattle.multihash.specs.Pair.{Pair}
 use Rattle.multihash.specs.Encoding.{IsEncoding}
 use Rattle.multihash.specs.Varint.{IsVarint}
 use Rattle.multihash.specs.Reading.{Consumes}
-use Rattle.multihash.specs.Consuming.{ConsumesVarint}
+use Rattle.multihash.specs.Consuming.{ConsumesVarint, FailsInTurn}
 use Rattle.multihash.proofs.CallingLemmas.{number_read, number_found, exact_found, read_of_encoding, head_unique, head_no_error}
 use Rattle.multihash.proofs.StreamLemmas.{part_read}
 use Rattle.multihash.proofs.ReadingLemmas.{Consumes-concatenated}
 use Rattle.multihash.proofs.EncodingLemmas.{digest_fits, encoding_unique}
 use Rattle.multihash.proofs.VarintLemmas.{number_unique}
-use Rattle.examples.specs.ContentId.{Content, version_0, version_1, content_of, IsContentId, FitsContentId, HashFails, ContentIdFails}
+use Rattle.examples.specs.ContentId.{Content, version_0, version_1, content_of, IsContentId, FitsContentId, NumberFails, HashFails, RestFails, ContentIdFails}
 use Rattle.examples.specs.declared.content_id.ContentId.{ContentId}
 use Rattle.examples.specs.declared.content_id.ContentId.TheVariants.{V0, V1}
 use Rattle.examples.specs.declared.content_id.ContentIdError.{ContentIdError}
-use Rattle.multihash.specs.Verdict.{malformed, HasHead}
+use Rattle.multihash.specs.Verdict.{malformed}
 use Rattle.multihash.proofs.VerdictLemmas.{verdict_unique}
 use Rattle.examples.specs.PeerId.{PeerFails}
 use Rattle.examples.specs.declared.peer_id.PeerError.{PeerError}
@@ -71,18 +71,6 @@ parts_cut c bytes more h =
     ap (λ (z : List ℕ). z ++ more) h.spelled
     ∙ (append_assoc h.first (h.second ++ h.rest) more ∙ ap (λ (z : List ℕ). h.first ++ z) (append_assoc h.second h.rest more))
 
--- one whose first number is 1 is of version 1, and its multihash ends it
-pub ends_version_1 : (S : ℕ) (c : Content) (rest : List ℕ) → EndsWith c rest → FitsContentId S c → first_number c ≡ 1
-    → (p : Pair) × (c ≡ version_1 (second_number c) p) × IsEncoding p rest × FitsBuffer S p
-ends_version_1 S (version_0 digest) rest ends fits one = absurd (omega (arith, one))
-ends_version_1 S (version_1 codec p) rest ends fits one = (p, refl, ends, fits)
-
--- and any other is of version 0, and its digest ends it
-pub ends_version_0 : (c : Content) (rest : List ℕ) → EndsWith c rest → ¬ (first_number c ≡ 1)
-    → (first_number c ≡ 0x12) × (second_number c ≡ 32) × (length rest ≡ 32) × (c ≡ version_0 rest)
-ends_version_0 (version_0 digest) rest ends other = (refl, refl, ap (λ (z : List ℕ). length z) ends.1 ∙ ends.0, ap version_0 (sym ends.1))
-ends_version_0 (version_1 codec p) rest ends other = absurd (other refl)
-
 -- the parts make an identifier
 pub make_version_0 : (version size : ℕ) (digest a b : List ℕ) → version ≡ 0x12 → size ≡ 32 → length digest ≡ 32 → IsVarint version a → IsVarint size b
     → IsContentId (version_0 digest) (a ++ (b ++ digest))
@@ -119,49 +107,45 @@ pub takes_three : (a b c d : Option (List ℕ)) (x y z : List ℕ) → Consumes 
 takes_three a b c d x y z first second third =
     Consumes-concatenated a b d x (y ++ z) (x ++ (y ++ z)) refl first (Consumes-concatenated b c d y z (y ++ z) refl second third)
 
+-- if a number comes next, and the reader does not fail, what fails is after that number
+pub after_number : (before after : ℕ) → after ≡ before → (e : ContentIdError) (n : ℕ) (varint rest : List ℕ)
+    (old new : Option (List ℕ)) (Fails : ℕ → Option (List ℕ) → Option (List ℕ) → Type 0)
+    → IsVarint n varint → old ≡ Some (varint ++ rest)
+    → FailsInTurn (NumberFails before after e) ConsumesVarint Fails old new → Fails n (Some rest) new
+after_number before after same e n varint rest old new Fails is at (inl (r, _, fails)) =
+    absurd (number_found before after same r n varint rest old new is at fails)
+after_number before after same e n varint rest old new Fails is at (inr (m, middle, first, fails)) =
+    let read = number_read n m varint rest is old middle at first in
+    subst (λ k. Fails k (Some rest) new) read.0 (subst (λ z. Fails m z new) read.1 fails)
+
 -- if an identifier that fits comes next, and the reader does not fail, nothing fails
 module _ (S : ℕ) (c : Content) (bytes more : List ℕ) (id : IsContentId c bytes) (fits : FitsContentId S c) (before after : ℕ) (same : after ≡ before) where
-  hash_found : (e : ContentIdError) (version number : ℕ) (old new : Option (List ℕ)) → version ≡ first_number c → number ≡ second_number c
-      → old ≡ Some ((parts c bytes id).rest ++ more) → HashFails S before after e version number old new → ⊥
-  hash_found e version number old new one two at (inl (is, (r, _, fails))) =
-      let (p, _, encodes, fit) = ends_version_1 S c (parts c bytes id).rest (parts c bytes id).ends fits (sym one ∙ is) in
-      read_of_encoding S before after old new p (parts c bytes id).rest more (Err r) encodes fit at same fails.verdict tt
-  hash_found e version number old new one two at (inr (inl (is, _, (r, _, fails)))) =
-      let zero = ends_version_0 c (parts c bytes id).rest (parts c bytes id).ends (λ other. omega (arith, one, is, other)) in
-      exact_found before after same r 32 (parts c bytes id).rest more old new (omega (arith, zero.2)) at fails
-  hash_found e version number old new one two at (inr (inr (is, other, _))) =
-      let zero = ends_version_0 c (parts c bytes id).rest (parts c bytes id).ends (λ not. omega (arith, one, is, not)) in
-      other (two ∙ zero.1)
+  hash_found : (d : Content) (e : ContentIdError) (rest : List ℕ) (new : Option (List ℕ)) → EndsWith d rest → FitsContentId S d
+      → HashFails S before after e (first_number d) (second_number d) (Some (rest ++ more)) new → ⊥
+  hash_found (version_0 digest) e rest new ends fit (inl (is, _)) = omega (arith, is)
+  hash_found (version_0 digest) e rest new ends fit (inr (inl (_, _, (r, _, fails)))) =
+      let whole = ap (λ (z : List ℕ). length z) ends.1 ∙ ends.0 in
+      exact_found before after same r 32 rest more _ new (omega (arith, whole)) refl fails
+  hash_found (version_0 digest) e rest new ends fit (inr (inr (_, other, _))) = other refl
+  hash_found (version_1 codec p) e rest new ends fit (inl (_, (r, _, fails))) =
+      read_of_encoding S before after _ new p rest more (Err r) ends fit refl same fails.verdict tt
+  hash_found (version_1 codec p) e rest new ends fit (inr (inl (is, _, _))) = omega (arith, is)
+  hash_found (version_1 codec p) e rest new ends fit (inr (inr (is, _, _))) = omega (arith, is)
 
-  known : (n : ℕ) → n ≡ first_number c → ¬ (n ≡ 1) → ¬ (n ≡ 0x12) → ⊥
-  known n is other also = by c is
-    where
-      by : (d : Content) → n ≡ first_number d → ⊥
-      by (version_0 digest) is = also is
-      by (version_1 codec p) is = other is
+  known : (d : Content) → ¬ (first_number d ≡ 1) → ¬ (first_number d ≡ 0x12) → ⊥
+  known (version_0 digest) other also = also refl
+  known (version_1 codec p) other also = other refl
 
   pub id_fails : (e : ContentIdError) (old new : Option (List ℕ)) → old ≡ Some (bytes ++ more) → ContentIdFails S before after e old new → ⊥
-  id_fails e old new rest fails = by fails
-    where
-      h : Parts c bytes
-      h = parts c bytes id
-
-      at : old ≡ Some (h.first ++ (h.second ++ (h.rest ++ more)))
-      at = rest ∙ ap Some (parts_cut c bytes more h)
-
-      one : (version : ℕ) (middle : Option (List ℕ)) → ConsumesVarint version old middle
-          → (version ≡ first_number c) × (middle ≡ Some (h.second ++ (h.rest ++ more)))
-      one version middle first = number_read (first_number c) version h.first (h.second ++ (h.rest ++ more)) h.is_first old middle at first
-
-      by : ContentIdFails S before after e old new → ⊥
-      by (inl (r, _, fails)) = number_found before after same r _ h.first _ old new h.is_first at fails
-      by (inr (version, middle, first, inl (other, also, _))) = known version (one version middle first).0 other also
-      by (inr (version, middle, first, inr (_, inl (r, _, fails)))) =
-          number_found before after same r _ h.second _ middle new h.is_second (one version middle first).1 fails
-      by (inr (version, middle, first, inr (_, inr (number, left, second, hash)))) =
-          let told = one version middle first in
-          let two = number_read (second_number c) number h.second (h.rest ++ more) h.is_second middle left told.1 second in
-          hash_found e version number left new told.0 two.0 two.1 hash
+  id_fails e old new rest fails =
+      let h = parts c bytes id in
+      let left = h.second ++ (h.rest ++ more) in
+      let at = rest ∙ ap Some (parts_cut c bytes more h) in
+      elim (after_number before after same e _ h.first left old new (RestFails S before after e) h.is_first at fails) [
+        | inl (other, also, _) ↦ known c other also
+        | inr (_, later) ↦ hash_found c e h.rest new h.ends fits (after_number before after same e _ h.second (h.rest ++ more)
+            (Some left) new (HashFails S before after e (first_number c)) h.is_second refl later)
+      ]
 
   pub rejected_found : {T : Type 0} (old new : Option (List ℕ)) (P : ContentIdError → Type 0) (Q : T → Type 0) (r : Result T ContentIdError)
       → old ≡ Some (bytes ++ more) → IsErrAnd r P → IfErr r (λ e. ContentIdFails S before after e old new) → MatchResult r Q (λ _. ⊥)

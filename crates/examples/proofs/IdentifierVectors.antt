@@ -2,14 +2,13 @@
 use Rattle.std.proofs.Common.{List, ℕ, [], ◌∷◌, Some, length, refl, ap, arith, ◌≡◌, ◌≤◌, ◌++◌, Option, inl, inr, sym, ◌∙◌, subst}
 use Rattle.multihash.specs.Pair.{Pair, FitsBuffer}
 use Rattle.multihash.specs.Encoding.{IsEncoding}
-use Rattle.multihash.specs.Varint.{IsVarint}
 use Rattle.multihash.proofs.VarintWriteLemmas.{one_byte}
-use Rattle.examples.specs.ContentId.{content_error_text, version_1, IsContentId, FitsContentId, HashFails, ContentIdFails, HasTrailingBytes}
-use Rattle.examples.proofs.IdentifierLemmas.{one_place}
+use Rattle.examples.specs.ContentId.{content_error_text, version_1, IsContentId, FitsContentId, HashFails, RestFails, ContentIdFails, HasTrailingBytes}
+use Rattle.examples.proofs.IdentifierLemmas.{after_number, one_place}
 use Rattle.std.specs.Prelude.{codes}
 use Rattle.std.specs.Fmt.{digits}
 use Rattle.multihash.specs.Verdict.{malformed}
-use Rattle.multihash.proofs.CallingLemmas.{number_read, number_found, rejected_no_encoding, head_of_encoding}
+use Rattle.multihash.proofs.CallingLemmas.{rejected_no_encoding, head_of_encoding}
 use Rattle.examples.specs.PeerId.{IsAllowed, IsPeer, PeerFails, peer_error_text}
 use Rattle.examples.specs.declared.content_id.ContentIdError.{ContentIdError}
 use Rattle.examples.specs.declared.content_id.ContentIdError.TheVariants.{OtherVersion, Trailing}
@@ -41,44 +40,28 @@ names_raw = record {
 
 other_version : (S : ℕ) (e : ContentIdError) (new : Option (List ℕ)) → ContentIdFails S 0 0 e (Some (2 ∷ [])) new
     → (e ≡ OtherVersion 2) × (new ≡ Some [])
-other_version S e new (inl (r, _, fails)) = absurd (number_found 0 0 refl r 2 (2 ∷ []) [] (Some (2 ∷ [])) new (one_byte 2 (omega arith)) refl fails)
-other_version S e new (inr (n, mid, first, fails)) =
-    let told = number_read 2 n (2 ∷ []) [] (one_byte 2 (omega arith)) (Some (2 ∷ [])) mid refl first in
-    elim fails [
-      | inl (_, _, (is, _, kept)) ↦ (is ∙ ap OtherVersion told.0, kept ∙ told.1)
-      | inr (known, _) ↦ elim known [ inl one ↦ absurd (omega (arith, one, told.0)) | inr hash ↦ absurd (omega (arith, hash, told.0)) ]
+other_version S e new fails =
+    elim (after_number 0 0 refl e 2 (2 ∷ []) [] (Some (2 ∷ [])) new (RestFails S 0 0 e) (one_byte 2 (omega arith)) refl fails) [
+      | inl (_, _, (is, _, kept)) ↦ (is, kept)
+      | inr (inl one, _) ↦ absurd (omega (arith, one))
+      | inr (inr hash, _) ↦ absurd (omega (arith, hash))
     ]
 
 -- the digest of version 0 has 32 bytes, not 31
 other_size : (S : ℕ) (e : ContentIdError) (new : Option (List ℕ)) → ContentIdFails S 0 0 e (Some (0x12 ∷ 0x1f ∷ [])) new
     → (e ≡ OtherVersion 0x12) × (new ≡ Some [])
-other_size S e new fails = by fails
+other_size S e new fails =
+    by (after_number 0 0 refl e 0x12 (0x12 ∷ []) (0x1f ∷ []) (Some (0x12 ∷ 0x1f ∷ [])) new (RestFails S 0 0 e) (one_byte 0x12 (omega arith)) refl fails)
   where
-    input : Option (List ℕ)
-    input = Some (0x12 ∷ 0x1f ∷ [])
+    hash : HashFails S 0 0 e 0x12 0x1f (Some []) new → (e ≡ OtherVersion 0x12) × (new ≡ Some [])
+    hash (inl (is, _)) = absurd (omega (arith, is))
+    hash (inr (inl (_, is, _))) = absurd (omega (arith, is))
+    hash (inr (inr (_, _, (is, _, kept)))) = (is, kept)
 
-    code : IsVarint 0x12 (0x12 ∷ [])
-    code = one_byte 0x12 (omega arith)
-
-    size : IsVarint 0x1f (0x1f ∷ [])
-    size = one_byte 0x1f (omega arith)
-
-    by : ContentIdFails S 0 0 e input new → (e ≡ OtherVersion 0x12) × (new ≡ Some [])
-    by (inl (r, _, fails)) = absurd (number_found 0 0 refl r 0x12 (0x12 ∷ []) (0x1f ∷ []) input new code refl fails)
-    by (inr (version, mid, first, inl (_, other, _))) = absurd (other (number_read 0x12 version (0x12 ∷ []) (0x1f ∷ []) code input mid refl first).0)
-    by (inr (version, mid, first, inr (_, inl (r, _, fails)))) =
-        let told = number_read 0x12 version (0x12 ∷ []) (0x1f ∷ []) code input mid refl first in
-        absurd (number_found 0 0 refl r 0x1f (0x1f ∷ []) [] mid new size told.1 fails)
-    by (inr (version, mid, first, inr (_, inr (number, left, second, fails)))) =
-        let told = number_read 0x12 version (0x12 ∷ []) (0x1f ∷ []) code input mid refl first in
-        let two = number_read 0x1f number (0x1f ∷ []) [] size mid left told.1 second in
-        hash version number left told.0 two.0 two.1 fails
-      where
-        hash : (version number : ℕ) (left : Option (List ℕ)) → version ≡ 0x12 → number ≡ 0x1f → left ≡ Some []
-            → HashFails S 0 0 e version number left new → (e ≡ OtherVersion 0x12) × (new ≡ Some [])
-        hash version number left one two at (inl (is, _)) = absurd (omega (arith, one, is))
-        hash version number left one two at (inr (inl (_, is, _))) = absurd (omega (arith, two, is))
-        hash version number left one two at (inr (inr (_, _, (is, _, kept)))) = (is, kept ∙ at)
+    by : RestFails S 0 0 e 0x12 (Some (0x1f ∷ [])) new → (e ≡ OtherVersion 0x12) × (new ≡ Some [])
+    by (inl (_, other, _)) = absurd (other refl)
+    by (inr (_, later)) =
+        hash (after_number 0 0 refl e 0x1f (0x1f ∷ []) [] (Some (0x1f ∷ [])) new (HashFails S 0 0 e 0x12) (one_byte 0x1f (omega arith)) refl later)
 
 -- an error of another version counts no failure
 module _ (S : ℕ) (old new : Option (List ℕ)) where

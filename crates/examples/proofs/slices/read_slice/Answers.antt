@@ -1,4 +1,4 @@
-use Rattle.std.proofs.Common.{refl, ◌≡◌, ◌+◌, ℕ, List, Some, Result, Ok, Err, sym, ◌∙◌, ◌<◌, ◌++◌, length, IfOk, ap, append_assoc}
+use Rattle.std.proofs.Common.{refl, ◌≡◌, ℕ, List, Some, Result, Ok, Err, sym, ◌∙◌, ◌<◌, ◌++◌, length, IfOk, ap, append_assoc}
 use Rattle.multihash.specs.Verdict.{invalid_size, BeginsWithSize}
 use Rattle.multihash.specs.Pair.{digest_limit}
 use Rattle.multihash.specs.Encoding.{IsEncoding}
