@@ -19,6 +19,7 @@ export async function hashes(module, _, text) {
     same(await told(digest('abc')), 'TypeError: bytes have to be a Uint8Array', `${name} of a text`);
   }
   same(`${CODES.constructor} ${NAMES.toString}`, 'undefined undefined', 'names that are none');
+  same([CODES, NAMES, functions.sha256].every(Object.isFrozen), true, 'constants');
   const { digest } = await functions.sha256.digest(abc);
   const others = [digest.subarray(1), digest.subarray(0, 31), digest.subarray(0, 0), Uint8Array.of(...digest, 0),
     Uint8Array.of(...digest.subarray(0, 31), digest[31] ^ 1)];
