@@ -190,7 +190,7 @@ fn check_order<'a>(mut columns: impl Iterator<Item = &'a str>) {
     let [a, b] = [(code, digest), (other_code, other)].map(|(code, digest)| {
         let multihash = Multihash::<255>::wrap(code, digest).expect("it fits");
         assert_eq!(proved::Multihash::wrap(code, digest).expect("it fits"), multihash.into());
-        assert_eq!(multihash.resize::<32>().map_or(true, |small| small == multihash), true);
+        assert!(multihash.resize::<32>().map_or(true, |small| small == multihash));
         assert_eq!(multihash.resize::<32>().is_ok(), digest.len() <= 32);
         multihash
     });
