@@ -1,7 +1,4 @@
-"""Names of codes, and multihashes of data: the functions of the multicodec table that hashlib has.
-
-Nothing here is proved, and hashlib does the hashing.
-"""
+"""Names of codes, and multihashes of data, by the hash functions of hashlib. Nothing here is proved."""
 
 from __future__ import annotations
 
