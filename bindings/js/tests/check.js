@@ -13,6 +13,9 @@ export function same(found, wanted, what) {
   if (found !== wanted) throw new Error(`${what}: ${String(found)}, wanted ${String(wanted)}`);
 }
 
+/** What a promise gives, or its error, as text. */
+export const told = (promise) => promise.then(String, String);
+
 /** The error of a call, which has to be of that class, and to have that text if one is given. */
 export function fails(kind, call, what, text) {
   let error = 'no error';

@@ -1,8 +1,6 @@
 // Hash functions, beside the rows of hashes.tsv, which other programs computed.
 import * as found from '../hashes.js';
-import { hex, same, unhex } from './check.js';
-
-const told = (call) => call.then(String, (error) => `${error.name}: ${error.message}`);
+import { hex, same, told, unhex } from './check.js';
 
 /** Each function has the code and name of a row, and its digest. */
 export async function hashes(module, _, text) {
