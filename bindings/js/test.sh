@@ -20,29 +20,6 @@ npm_test() { (cd "$1"; ulimit -t 600; npm test); }
 # The tests see each fault of a list.
 sees() { sees_faults "$1" "$here" "core.js api.js index.js inline.js module.js hashes.js" imported npm_test; }
 
-lists_engines() {
-  echo "after $2"
-  node --no-warnings --input-type=module -e "
-    $2;
-    await import('$1').then(() => process.exit(1), (error) => console.log(error.message));" |
-    grep 'WebAssembly.*BigInt.*Node.js [0-9.]*, Chrome 89, Edge 89, Firefox 90 and Safari 15'
-}
-
-# In an engine that lacks something, the import throws an error that lists versions: core.js has a condition for each.
-old_engine() {
-  local entry lack condition copy=$work/old
-  cp -r "$here" "$copy"
-  while IFS='|' read -r entry lack condition; do
-    lists_engines "$here/$entry.js" "$lack"
-    sed "s/$condition/false/" "$here/core.js" > "$copy/core.js"
-    rejects "after $lack" lists_engines "$copy/$entry.js" "$lack"
-  done << 'END'
-index|delete globalThis.WebAssembly|typeof WebAssembly !== 'object'
-index|delete globalThis.BigInt|typeof BigInt !== 'function'
-inline|WebAssembly.validate = () => false|!WebAssembly.validate(PROBE)
-END
-}
-
 # Edits of what wasm-opt made are found, no file is left, and a folder without the crates is an error.
 # shellcheck disable=SC2317 # build.sh runs them
 built_anew() {
@@ -192,7 +169,6 @@ sed '/^# With --all/,$d' "$here/tests/faults.sed" > "$work/faults.sed"
 needs="$node npm" try "faults" sees "$work/faults.sed"
 needs="--all $node npm" try "all faults" sees "$here/tests/faults.sed"
 needs=$node try "plain JavaScript" plain
-needs=$node try "old engines" old_engine
 ONLY='' needs="$node npm" try "the packed package's script" packed_script
 needs="$node npm tsc" try "the packed package's types" packed_types
 test_browser chromium chromium

@@ -302,33 +302,6 @@ export function errors(module) {
   }
 }
 
-/** Where WebAssembly is there and forbidden, as by a policy, the error lists engines, and has that of the engine. */
-export async function forbidden() {
-  const { Module, instantiate } = WebAssembly;
-  const { connect, connectLater } = await import('../core.js?forbidden');
-  const cause = new WebAssembly.CompileError('forbidden');
-  WebAssembly.Module = function Forbidden() {
-    throw cause;
-  };
-  WebAssembly.instantiate = async () => {
-    throw cause;
-  };
-  for (const call of [connect, connectLater]) {
-    const error = await new Promise((resolve) => resolve(call(new Uint8Array(8)))).catch((found) => found);
-    same(`${error?.cause} ${/Chrome 89, .* Firefox 90/.test(error?.message)}`, `${cause} true`, 'a policy');
-  }
-  Object.assign(WebAssembly, { Module, instantiate });
-}
-
-/** A module that cannot be fetched is an error that names its place. */
-export async function missing() {
-  const { fetch, process } = globalThis;
-  Object.assign(globalThis, { fetch: async () => ({ ok: false, status: 500 }), process: undefined });
-  const error = await import(`../index.js?${turn++}`).catch((found) => found);
-  Object.assign(globalThis, { fetch, process });
-  same(/multihash.wasm: status 500$/.test(error.message), true, 'a module that is missing');
-}
-
 /** Where both entries connect at once, the first of them serves both; a module of another version serves none. */
 export async function both() {
   const bytes = Uint8Array.from(atob(base64), (letter) => letter.charCodeAt(0));

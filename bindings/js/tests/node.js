@@ -5,9 +5,9 @@ import { dirname, join } from 'node:path';
 import { Readable } from 'node:stream';
 import { test } from 'node:test';
 import { fileURLToPath } from 'node:url';
-import { SourceTextModule, createContext } from 'node:vm';
+import { SourceTextModule, createContext, runInContext } from 'node:vm';
 import * as hashes from '../hashes.js';
-import { fails, hex, same, unhex } from './check.js';
+import { fails, hex, same, told, unhex } from './check.js';
 import { endedAnywhere } from './stream.js';
 import { tests } from './suite.js';
 
@@ -16,21 +16,46 @@ const bytesOf = (name) => readFileSync(new URL(`../${name}`, import.meta.url));
 const vectors = process.env.MULTIHASH_VERDICTS ??
   fileURLToPath(new URL('../../../crates/vectors/data/verdicts.tsv', import.meta.url));
 
-/** Evaluates an entry in a context that compiles no WebAssembly, as in hosts at the edge, and returns its exports. */
-async function inContext(name) {
-  const context = createContext({ atob }, { codeGeneration: { strings: false, wasm: false } });
+/**
+ * Evaluates a program and then an entry in a context that compiles no WebAssembly, like that of hosts at the edge.
+ * Returns the entry's exports. A request has that response.
+ */
+async function inContext(name, program = '', response = undefined) {
+  const context = createContext({ atob, URL, fetch: async () => response },
+    { codeGeneration: { strings: false, wasm: false } });
+  runInContext(program, context);
+  const initializeImportMeta = (meta) => (meta.url = `https://localhost/${name}`);
   const files = {};
-  const parsed = (file) => (files[file] ??= new SourceTextModule(bytesOf(file).toString(), { context }));
+  const parsed = (file) =>
+    (files[file] ??= new SourceTextModule(bytesOf(file).toString(), { context, initializeImportMeta }));
   const entry = parsed(name);
   await entry.link((specifier) => parsed(specifier.slice(2)));
   await entry.evaluate();
   return entry.namespace;
 }
 
-/** There module.js works with what was compiled elsewhere, and inline.js does not. */
+/** Where an engine lacks something, or forbids to compile, the error lists engines. */
+async function unfit() {
+  const response = { ok: true, arrayBuffer: async () => bytesOf('multihash.wasm') };
+  const engines = /WebAssembly.*BigInt.*forbids.* Node.js .*, Chrome 89, Edge 89, Firefox 90 and Safari 15/;
+  const programs = [
+    ['', 'CompileError'],
+    ['delete globalThis.WebAssembly'],
+    ['delete globalThis.BigInt'],
+    ['WebAssembly.validate = () => false'],
+  ];
+  for (const [program, cause] of programs) {
+    for (const name of ['inline.js', 'index.js']) {
+      const error = await inContext(name, program, response).catch((error) => error);
+      same(`${error.cause?.name} ${engines.test(error.message)}`, `${cause} true`, `${name} ${program}`);
+    }
+  }
+  const error = await inContext('index.js', '', { ok: false, status: 500 }).catch((error) => error);
+  same(error.message, 'https://localhost/multihash.wasm: status 500', 'a module that is missing');
+}
+
+/** There module.js works with what was compiled elsewhere. */
 async function compiledBefore() {
-  const error = await inContext('inline.js').catch((found) => found);
-  same(`${error.cause?.name} ${/forbids.* Chrome 89/.test(error.message)}`, 'CompileError true', 'inline.js');
   const entry = await inContext('module.js');
   const { decode, read, head, scaleDecode, encode, scaleEncode, encodedLength, Multihash, MultihashError } = entry;
   for (const [call, ...words] of [[decode], [read], [head], [scaleDecode], [encode, 1], [scaleEncode, 1],
@@ -52,7 +77,7 @@ async function nodeStreams(module) {
   const { MultihashReader } = module;
   const endless = () => new Readable({ read() {} });
   const [ofStream, ofWeb] = [endless(), Readable.toWeb(endless())].map((source) => new MultihashReader(source));
-  const calls = [ofStream, ofWeb].map((reader) => reader.read().then(String, String));
+  const calls = [ofStream, ofWeb].map((reader) => told(reader.read()));
   ofWeb.release();
   await ofStream.cancel();
   same(`${await Promise.all(calls)}`, 'null,TypeError: the reader was released', 'calls that wait');
@@ -60,20 +85,16 @@ async function nodeStreams(module) {
   await endedAnywhere(module, readable, () => new Promise(process.nextTick));
 }
 
-/** Compares the names that a module exports with those that its types state. Returns the types. */
-function statesNames(module, file, more) {
-  const types = bytesOf(file).toString();
-  const names = Array.from(types.matchAll(/^export (?:const|class|function) (\w+)/gm), ([, name]) => name);
-  same(`${Object.keys(module).sort()}`, `${[...names, ...more].sort()}`, `the names that ${file} has`);
-  return types;
-}
-
-/** The names, numbers and version that *.d.ts and package.json state, and the entries that connect, for bundlers. */
+/** The names and numbers that *.d.ts state, the version of package.json, and the entries that connect. */
 function declared(module, which) {
-  statesNames(hashes, 'hashes.d.ts', []);
-  const types = statesNames(module, 'index.d.ts', which === 'module' ? ['connect'] : []);
-  const numbers = types.matchAll(/^export const (\w+): (\d+);$/gm);
-  for (const [, name, value] of numbers) same(module[name], Number(value), name);
+  const own = which === 'module' ? ['connect'] : [];
+  for (const [file, found, more] of [['hashes.d.ts', hashes, []], ['index.d.ts', module, own]]) {
+    const text = bytesOf(file).toString();
+    const stated = [...text.matchAll(/^export (?:const|class|function) (\w+)(?:: (\d+);)?/gm)];
+    const names = stated.map(([, name]) => name);
+    same(`${Object.keys(found).sort()}`, `${[...names, ...more].sort()}`, `the names that ${file} has`);
+    for (const [, name, value] of stated) if (value) same(found[name], Number(value), name);
+  }
   const { version, sideEffects } = JSON.parse(bytesOf('package.json'));
   same(module.version, version, 'the version');
   same(sideEffects.includes(`./${which}.js`), which !== 'module', `sideEffects: ${which}.js`);
@@ -97,7 +118,7 @@ export async function run(which) {
   const module = await load(which, compiled);
   const texts = [vectors, join(dirname(vectors), 'hashes.tsv')].map((path) => readFileSync(path, 'utf8'));
   test('declared', () => declared(module, which));
-  if (compiled) test('compiledBefore', compiledBefore);
+  if (compiled) for (const check of [compiledBefore, unfit]) test(check.name, check);
   test('nodeStreams', () => nodeStreams(module));
   for (const [name, check] of Object.entries(tests)) test(name, () => check(module, ...texts));
 }
