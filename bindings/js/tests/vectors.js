@@ -1,22 +1,65 @@
-// Each test vector, through each call.
+// Each test vector, through each call, in arrays of each kind.
 import { hex, same, unhex } from './check.js';
 
 const MORE = new Uint8Array(400);
 
-/** A result as the vectors write it, the number of bytes consumed, and the multihash or the error. */
-function written(module, call, taken) {
+/** A subclass that says something else of itself than its bytes are. */
+export class Lying extends Uint8Array {}
+Object.defineProperty(Lying, Symbol.species, { value: Array });
+Object.defineProperties(Lying.prototype, {
+  length: { value: 5e9 },
+  byteOffset: { value: 0 },
+  buffer: { value: new ArrayBuffer(1) },
+  [Symbol.toStringTag]: { value: 'Int8Array' },
+});
+
+// a page may lack the constructor SharedArrayBuffer, so this is the buffer of a memory
+const SHARED = new WebAssembly.Memory({ initial: 1, maximum: 1, shared: true }).buffer;
+
+/** A view of these bytes amid others in a larger buffer. */
+function amid(bytes, buffer = new ArrayBuffer(bytes.length + 7), kind = Uint8Array) {
+  new Uint8Array(buffer).fill(0x81);
+  const view = new kind(buffer, 3, bytes.length);
+  Uint8Array.prototype.set.call(view, bytes);
+  return view;
+}
+
+const resizable = ({ length }) => new ArrayBuffer(length + 7, { maxByteLength: 2 * length + 7 });
+
+function shrunk(bytes) {
+  const { buffer } = amid(bytes, resizable(bytes));
+  buffer.resize(bytes.length + 3);
+  return new Uint8Array(buffer, 3);
+}
+
+/** Arrays of each kind with these bytes. */
+const KINDS = [
+  (bytes) => bytes.slice(),
+  (bytes) => amid(bytes),
+  (bytes) => amid(bytes, undefined, Lying),
+  (bytes) => amid(bytes, SHARED),
+  (bytes) => amid(bytes, resizable(bytes)),
+  shrunk,
+];
+if (globalThis.Buffer) KINDS.push((bytes) => Buffer.from(amid(bytes).buffer, 3, bytes.length));
+
+/** Compares a result, and the number of bytes consumed, with a line's. Returns the multihash or the error. */
+function gives(module, call, wanted, taken, what) {
   module.encode(0, MORE.subarray(0, 255)); // so that what the module has of an earlier input is other bytes
+  let found, words;
   try {
-    const found = call();
-    const { multihash = found } = found;
-    same(typeof multihash.code, BigInt(multihash.code) < 2n ** 53n ? 'number' : 'bigint', 'type of a code');
-    same(multihash.digest.buffer.byteLength, multihash.size, 'memory of a digest');
-    return [`pair ${multihash.code} ${hex(multihash.digest) || '-'}`, found.taken ?? taken, multihash];
+    const result = call();
+    found = result.multihash ?? result;
+    words = `pair ${found.code} ${hex(found.digest) || '-'} ${result.taken ?? taken}`;
+    same(typeof found.code, BigInt(found.code) < 2n ** 53n ? 'number' : 'bigint', 'type of a code');
+    same(found.digest.buffer.byteLength, found.size, 'memory of a digest');
   } catch (error) {
     if (!(error instanceof module.MultihashError)) throw error;
-    const words = [error.status, error.size ?? error.code ?? []].flat().join(' ');
-    return [words, error.taken, error];
+    found = error;
+    words = [error.status, error.size ?? error.code ?? [], error.taken].flat().join(' ');
   }
+  same(words, `${wanted} ${taken}`, what);
+  return found;
 }
 
 /** The vectors have no number of bytes consumed where more input can change the result, as the error says. */
@@ -26,33 +69,42 @@ const sameEnd = (found, taken) => same(found.isIncomplete ?? false, taken === '-
 const isForAll = (verdict, size) => size >= 255 || !verdict.startsWith('invalid_size') ||
   BigInt(verdict.slice(13)) > 255n;
 
-/** The head of an input for which `read` consumes that many bytes. Returns that number. */
-function checkHead(module, data, read, taken) {
+/** The head of an input of which `read` consumes that many bytes. Returns that number. */
+function checkHead(module, data, kind, read, taken) {
   const [status, number, digest = ''] = read.split(' ');
   if (!['pair', 'invalid_size', 'unexpected_eof'].includes(status)) {
     const consumed = taken === '-' ? data.length : taken;
-    same(written(module, () => module.head(data)).slice(0, 2).join(' '), `${read} ${consumed}`, 'head, an error');
+    gives(module, () => module.head(kind(data)), read, consumed, 'head, an error');
     return consumed;
   }
-  const { code, digestLength, taken: length } = module.head(data);
+  const { code, digestLength, taken: length } = module.head(kind(data));
   const size = digest.replace('-', '').length / 2;
   if (status === 'pair') same(`${code} ${digestLength} ${length}`, `${number} ${size} ${taken - size}`, 'head');
   if (status === 'invalid_size') same(`${digestLength} ${length}`, `${number} ${taken}`, 'head');
   return taken === '-' ? length : taken;
 }
 
-function checkBack(module, multihash, data, taken) {
+/** What is made of a code and a digest, which is a copy. */
+function checkBack(module, kind, multihash, encoding) {
+  const { Multihash, compare, encode, encodedLength, scaleDecode, scaleEncode } = module;
   const { code, digest, size } = multihash;
-  for (const bytes of [module.encode(code, digest), multihash.bytes, module.Multihash.of(code, digest).bytes])
-    same(`${hex(bytes)} ${bytes.buffer.byteLength}`, `${hex(data.subarray(0, taken))} ${taken}`, 'an encoding');
-  same(module.encodedLength(code, size), taken, 'encodedLength');
-  const form = module.scaleEncode(code, digest);
+  const given = kind(digest);
+  const made = Multihash.of(code, given);
+  const other = Object.assign(Multihash.of(code, MORE.subarray(0, 1)), { digest: kind(digest) });
+  for (const [left, right] of [[other, multihash], [multihash, other]])
+    same(`${left.equals(right)} ${compare(left, right)}`, 'true 0', 'the same');
+  const form = scaleEncode(code, kind(digest));
+  const bytes = [encode(code, kind(digest)), multihash.bytes, other.bytes];
+  Uint8Array.prototype.fill.call(given, 1);
+  for (const each of [...bytes, made.bytes])
+    same(`${hex(each)} ${each.buffer.byteLength}`, `${hex(encoding)} ${encoding.length}`, 'an encoding');
+  same(encodedLength(code, size), encoding.length, 'encodedLength');
   const head = new DataView(new ArrayBuffer(9));
   head.setBigUint64(0, BigInt(code), true);
   head.setUint8(8, size);
   same(hex(form), hex(new Uint8Array(head.buffer)) + hex(digest), 'scaleEncode');
-  const { multihash: again, taken: length } = module.scaleDecode(Uint8Array.of(...form, ...MORE));
-  same(`${again.equals(multihash)} ${length}`, `true ${form.length}`, 'scaleDecode');
+  const { multihash: again, taken } = scaleDecode(kind(Uint8Array.of(...form, ...MORE)));
+  same(`${again.equals(multihash)} ${taken}`, `true ${form.length}`, 'scaleDecode');
 }
 
 /** The order by the code, the digest's length, and the digest. */
@@ -65,27 +117,38 @@ export function order(left, right) {
 /** The length of the code and the size of a truncated SCALE form, as far as they are complete. */
 const partsOf = ({ length }) => length < 8 ? 0 : Math.min(length, 9);
 
+/** Compares the results for the input of a line with it. Returns the multihash or the error. */
+function checkLine(module, line, kind) {
+  const [S, input, read, readTaken, whole, scale, scaleTaken] = line.split('\t');
+  const data = unhex(input);
+  const long = Uint8Array.of(...data, ...MORE);
+  const limit = S === '255' ? [] : [Number(S)];
+  let found, taken;
+  for (const bytes of readTaken === '-' ? [data] : [long, data]) {
+    taken = checkHead(module, bytes, kind, read, readTaken);
+    found = gives(module, () => module.read(kind(bytes), ...limit), read, taken, `read ${line}`);
+  }
+  sameEnd(found, readTaken);
+  if (isForAll(read, Number(S))) {
+    gives(module, () => module.decode(kind(data)), whole, data.length, `decode ${line}`);
+    const trailing = found instanceof Error ? read : `invalid_size ${long.length - taken}`;
+    if (readTaken !== '-') gives(module, () => module.decode(kind(long)), trailing, long.length, `long ${line}`);
+  }
+  if (isForAll(scale, Number(S))) {
+    const consumed = scaleTaken === '-' ? partsOf(data) : scaleTaken;
+    const form = gives(module, () => module.scaleDecode(kind(data)), scale, consumed, `scaleDecode ${line}`);
+    sameEnd(form, scaleTaken);
+  }
+  if (!(found instanceof Error)) checkBack(module, kind, found, data.subarray(0, taken));
+  return found;
+}
+
 export function vectors(module, text) {
   const [, ...lines] = text.trim().split('\n');
   let before = module.Multihash.of(0, new Uint8Array());
-  for (const line of lines) {
-    const [S, input, read, readTaken, whole, scale, scaleTaken] = line.split('\t');
-    const data = unhex(input);
-    const [words, taken, found] = written(module, () => module.read(data, ...(S === '255' ? [] : [Number(S)])));
-    same(`${words} ${taken}`, `${read} ${checkHead(module, data, read, readTaken)}`, `read ${line}`);
-    sameEnd(found, readTaken);
-    if (isForAll(read, Number(S))) {
-      const [decoded, length] = written(module, () => module.decode(data), data.length);
-      same(`${decoded} ${length}`, `${whole} ${data.length}`, `decode ${line}`);
-    }
-    const [form, formTaken, of] = written(module, () => module.scaleDecode(data));
-    const consumed = scaleTaken === '-' ? partsOf(data) : scaleTaken;
-    if (isForAll(scale, Number(S))) {
-      same(`${form} ${formTaken}`, `${scale} ${consumed}`, `scaleDecode ${line}`);
-      sameEnd(of, scaleTaken);
-    }
+  for (const [index, line] of lines.entries()) {
+    const found = checkLine(module, line, KINDS[index % KINDS.length]);
     if (found instanceof Error) continue;
-    checkBack(module, found, data, taken);
     for (const [left, right] of [[before, found], [found, before]])
       same(module.compare(left, right), order(left, right), 'compare');
     same(found.equals(before), order(before, found) === 0, 'equals');
