@@ -38,10 +38,6 @@ scaleDecode(new ArrayBuffer(9));
 is<Uint8Array>()(scaleEncode(1n, bytes));
 // @ts-expect-error a code is no name
 scaleEncode('sha2-256', bytes);
-is<255>()(index.DIGEST_MAX);
-is<18>()(index.HEAD_MAX);
-is<266>()(index.LENGTH_MAX);
-is<264>()(index.SCALE_LENGTH_MAX);
 is<string>()(index.version);
 
 is<Multihash<number>>()(Multihash.of(0x12, bytes));
