@@ -58,15 +58,6 @@ old_module() {
   rejects "invalid section code: 12" wasm-validate $later "$here/multihash.wasm"
 }
 
-# What is timed beside the package gives the same results.
-plain() {
-  local copy=$work/timed
-  cp -r "$here" "$copy"
-  node "$copy/beside_plain.js"
-  sed -i "s/'0')/'1')/" "$copy/beside_plain.js"
-  rejects "of 34 bytes: " node "$copy/beside_plain.js"
-}
-
 # What is packed, unpacked elsewhere, runs the script of README.md, and is imported from CommonJS.
 packed_script() {
   local at=$work/elsewhere
@@ -168,7 +159,10 @@ needs="$node npm" try "in Node.js" npm_test "$here"
 sed '/^# With --all/,$d' "$here/tests/faults.sed" > "$work/faults.sed"
 needs="$node npm" try "faults" sees "$work/faults.sed"
 needs="--all $node npm" try "all faults" sees "$here/tests/faults.sed"
-needs=$node try "plain JavaScript" plain
+needs=$node try "plain JavaScript gives the same results" node "$here/beside_plain.js"
+needs=$node try "other results of plain JavaScript" rejects_edits "$here" node "$work/planted/beside_plain.js" << 'END'
+of 34 bytes: |sed -i "s/'0')/'1')/" beside_plain.js
+END
 ONLY='' needs="$node npm" try "the packed package's script" packed_script
 needs="$node npm tsc" try "the packed package's types" packed_types
 test_browser chromium chromium

@@ -154,13 +154,6 @@ under_sanitizers() {
     ASAN_OPTIONS=detect_leaks=0:allocator_may_return_null=1 PYTHONMALLOC=malloc
 }
 
-# A copy of the sdist whose module has an edit of sed.
-planted() {
-  rm -rf "$work/planted"
-  cp -r "$work/sdist" "$work/planted"
-  sed -i "$1" "$work/planted/src/core.c"
-}
-
 # Builds the module of a folder in place, over the archive, if its C has changed since, and imports the package.
 builds_in_place() {
   cd "$1"
@@ -177,20 +170,10 @@ tests_in_place() {
   PYTHONPATH=$1/src "$python" -m unittest discover --failfast -s "$here/tests"
 }
 
-planted_read() {
-  planted 's/bytes + found.digest_offset/& + 4096/'
-  under_sanitizers "$work/planted"
-}
-
+# An edited copy of the sdist, with the debug allocator.
 planted_write() {
-  planted '/^static int fill_module/,/{/s/{/{ char *block = PyMem_Malloc(1); block[1] = 1; PyMem_Free(block);/'
   installs "$work/planted"
   unit_tests "$here/tests" PYTHONMALLOC=debug
-}
-
-planted_warning() {
-  sed -i "$1" "$clone/bindings/python/$2"
-  CC="cc $warnings" "$clone/bindings/python/pack.sh" "$work/warned" "$archive"
 }
 
 # The package is typed, and the module has the names of its stub. mypy accepts typed.py and the examples of README.md,
@@ -226,11 +209,16 @@ try "an altered archive" altered_archive
 ONLY='' try "the sdist, installed, the portable source" sdist
 try "a folder that was built before" built_before
 try "sanitizers" under_sanitizers "$work/sdist"
-try "a write after a block" rejects "bad trailing pad byte" planted_write
-try "a warning" rejects "conversion]" planted_warning '1s/^/signed char planted(long more) { return more; }\n/' \
-  src/core.c
-try "a warning of setuptools" rejects "option: 'more'" planted_warning 's/license=/more=0, &/' setup.py
-try "a read after the end of the input" rejects AddressSanitizer planted_read
+try "a write after a block" rejects_edits "$work/sdist" planted_write << 'END'
+trailing pad byte|sed -i 's/^    PyObject .type = P/char *to = PyMem_Malloc(1); to[1] = 1; PyMem_Free(to);\n&/' src/core.c
+END
+try "a read after the end of the input" rejects_edits "$work/sdist" under_sanitizers "$work/planted" << 'END'
+AddressSanitizer|sed -i 's/bytes + found.digest_offset/& + 4096/' src/core.c
+END
+CC="cc $warnings" try "warnings" rejects_edits "$clone" "$work/planted/bindings/python/pack.sh" "$work/warned" "$archive" << 'END'
+conversion]|sed -i '1s/^/signed char planted(long more) { return more; }\n/' bindings/python/src/core.c
+option: 'more'|sed -i 's/license=/more=0, &/' bindings/python/setup.py
+END
 # The tests see each fault of a list.
 sees() {
   sees_faults "$1" "$work/sdist" "$(cd "$work/sdist"; echo src/*.c src/verified_multihash/*.py)" builds_in_place \
