@@ -6,45 +6,34 @@ import gc
 import io
 import itertools
 import os
-import types
+import tempfile
 import unittest
 import weakref
+from unittest.mock import AsyncMock, Mock
 
 import verified_multihash as vm
 from verified_multihash import Multihash, MultihashError
 
+DATA = b"".join(bytes(Multihash(1 << 40, bytes([n] * n))) for n in range(4))
 
-class Turns:
-    """A file whose reads return these in turn, or raise them, and the last one again and again."""
 
-    def __init__(self, *results):
-        self.results = list(results)
-
-    def read(self, _):
-        result = self.results.pop(0) if len(self.results) > 1 else self.results[0]
-        if isinstance(result, type):
-            raise result
-        return result
+def turns(*results):
+    """A file whose reads return these in turn, or raise them."""
+    return Mock(**{"read.side_effect": results})
 
 
 class Awaited(vm.AsyncMultihashReader):
     """An AsyncMultihashReader over a file, with the calls of a MultihashReader."""
 
     def __init__(self, file, *limit, **named):
-        stream = types.SimpleNamespace()
-        stream.read = types.coroutine(lambda size: (yield from ()) or file.read(size))
-        super().__init__(stream, *limit, **named)
+        super().__init__(Mock(read=AsyncMock(side_effect=file.read)), *limit, **named)
 
-    def ended(self, waiting):
-        """The result of what waits for nothing."""
+    def read(self):
         try:
-            waiting.send(None)
+            super().read().send(None)
         except StopIteration as ended:
             return ended.value
         raise AssertionError("it waits")
-
-    def read(self):
-        return self.ended(super().read())
 
     def __iter__(self):
         return iter(self.read, None)
@@ -58,98 +47,94 @@ class Readers(unittest.TestCase):
     def test_files(self):
         closed = io.BytesIO(b"\0\0")
         closed.close()
-        wrong = (closed, ValueError, "closed file"), (Turns(b"abc"), ValueError, "returned 3 bytes")
-        wrong += (Turns(2), TypeError, ""), (io.StringIO(), TypeError, "")
-        wrong += ((Turns(None), BlockingIOError, "^the file has no bytes now$"),)
         for call in (vm.MultihashReader, vm.AsyncMultihashReader, vm.read_from):
             self.assertRaises(AttributeError, call, object())
         for kind in self.readers:
             self.assertRaisesRegex(ValueError, "^not initialized$", kind.__new__(kind).read)
             self.assertRaisesRegex(ValueError, "^not initialized$", kind.__new__(kind)._keep, b"\1\0")
-            for file, error, text in wrong:
-                self.assertRaisesRegex(error, text, kind(file).read)
+            self.assertRaisesRegex(ValueError, "closed file", kind(closed).read)
+            self.assertRaisesRegex(ValueError, "returned 3 bytes", kind(turns(b"abc")).read)
+            self.assertRaises(TypeError, kind(turns(2)).read)
+            self.assertRaises(TypeError, kind(io.StringIO()).read)
             reading, writing = os.pipe()
             os.set_blocking(reading, False)
             with open(reading, "rb", 0) as source, open(writing, "wb", 0) as sink:
                 sink.write(b"\x01\x03abc")  # the pipe stays open: for a byte too many it has none
-                self.assertEqual(kind(source).read().digest, b"abc")
+                reader = kind(source)
+                self.assertEqual(reader.read().digest, b"abc")
+                self.assertRaisesRegex(BlockingIOError, "^the file has no bytes now$", reader.read)
 
     def test_waiting_files(self):
         """A reader keeps what it has read when a file has no bytes."""
-        data = b"".join(bytes(Multihash(1 << 40, bytes([n] * n))) for n in range(4))
-        for kind, fails in ((kind, fails) for kind in self.readers for fails in (None, BlockingIOError)):
-            turns = [turn for byte in data for turn in (fails, bytes([byte]))]
-            reader, found, waits = kind(Turns(*turns)), [], 0
+        for kind, fails in itertools.product(self.readers, (None, BlockingIOError)):
+            late = [turn for byte in DATA for turn in (fails, bytes([byte]))]
+            reader, found, waits = kind(turns(*late)), [], 0
             while len(found) < 4:
                 try:
                     found.append(reader.read())
                 except BlockingIOError:
                     waits += 1
-            self.assertEqual((b"".join(map(bytes, found)), waits), (data, len(data)))
-            self.assertRaisesRegex(io.UnsupportedOperation, "^the file does not block", vm.read_from, Turns(*turns))
+            self.assertEqual((b"".join(map(bytes, found)), waits), (DATA, len(DATA)))
+            with self.assertRaisesRegex(io.UnsupportedOperation, "^the file does not block"):
+                vm.read_from(turns(*late))
 
     def test_growing_files(self):
         """A reader goes on where the file has grown; a multihash that is none stays."""
+        data = bytes(Multihash(18, b"abc"))
         for kind in self.readers:
-            file, data = io.BytesIO(), bytes(Multihash(18, b"abc"))
-            reader = kind(file, limit=3)
-            for cut in range(1, len(data)):
-                file.write(data[:cut])
-                file.seek(-cut, io.SEEK_CUR)
-                with self.assertRaises(MultihashError) as raised:
-                    reader.read()
-                self.assertEqual((raised.exception.is_incomplete, reader.rest), (True, data[:cut]))
-                file.write(data[cut:] + data)
-                file.seek(-len(data) * 2 + cut, io.SEEK_CUR)
-                self.assertEqual(list(reader), [Multihash(18, b"abc")] * 2)
-            file.write(b"\1\4abcd")
-            file.seek(-6, io.SEEK_CUR)
-            for _ in range(2):
-                self.assertRaises(MultihashError, reader.read)
-                self.assertEqual((reader.rest, file.read()), (b"\1\4", b"abcd"))
-                file.seek(-4, io.SEEK_CUR)
+            with tempfile.NamedTemporaryFile(buffering=0) as sink, open(sink.name, "rb") as source:
+                reader = kind(source, limit=3)
+                for cut in range(1, len(data)):
+                    sink.write(data[:cut])
+                    with self.assertRaises(MultihashError) as raised:
+                        reader.read()
+                    self.assertEqual((raised.exception.is_incomplete, reader.rest), (True, data[:cut]))
+                    sink.write(data[cut:] + data)
+                    self.assertEqual(list(reader), [Multihash(18, b"abc")] * 2)
+                sink.write(b"\1\4abcd")
+                for _ in range(2):
+                    self.assertRaises(MultihashError, reader.read)
+                    self.assertEqual(reader.rest, b"\1\4")
+                self.assertEqual(source.read(), b"abcd")
 
     def test_failing_files(self):
         """After an error of a file, which loses bytes if it is buffered, nothing more is read from it."""
         for kind in self.readers:
             for last, error in ((TimeoutError, TimeoutError), (b"ab", ValueError), ("a", TypeError)):
-                reader = kind(Turns(b"\1\3", b"ab", last))
+                reader = kind(turns(b"\1\3", b"ab", last))
                 self.assertRaises(error, reader.read)
                 for _ in range(2):
                     self.assertRaisesRegex(ValueError, "failed before", reader.read)
 
     def test_calls_at_once(self):
-        """A call while another one waits is an error, and the other one goes on, even if that is cancelled then."""
+        """A call while another one waits is an error, and the other one goes on."""
 
         def chunk(size):
             self.assertRaisesRegex(RuntimeError, "has not ended", reader.read)
             return bytes(size)
 
-        reader = vm.MultihashReader(types.SimpleNamespace(read=chunk))
+        reader = vm.MultihashReader(Mock(read=chunk))
         self.assertEqual([next(reader), reader.read()], [Multihash(0, b"")] * 2)
 
         async def run():
             stream = asyncio.StreamReader()
             reader = vm.AsyncMultihashReader(stream)
-            for is_cancelled in (False, True):
-                first = asyncio.ensure_future(reader.read())
-                await asyncio.sleep(0)
+            first = asyncio.ensure_future(reader.read())
+            await asyncio.sleep(0)
+            for _ in range(2):
                 with self.assertRaisesRegex(RuntimeError, "has not ended"):
                     await reader.read()
-                if is_cancelled:
-                    first.cancel()
-                    await asyncio.wait([first])
-                stream.feed_data(bytes(2))
-                self.assertEqual(await (reader.read() if is_cancelled else first), Multihash(0, b""))
+            stream.feed_data(bytes(4))
+            self.assertEqual([await first, await reader.read()], [Multihash(0, b"")] * 2)
 
         asyncio.run(run())
 
     def own_reader(self):
         """A file begins its reader anew, which gets no more than is missing. The three that know each other."""
-        turns = iter([b"\1\xff", b"\1", None, b"\1\xff", b"\1", bytes(254), b""])
+        chunks = iter([b"\1\xff", b"\1", None, b"\1\xff", b"\1", bytes(254), b""])
 
         def chunk(size):
-            turn = next(turns)
+            turn = next(chunks)
             if turn is None:
                 self.assertRaisesRegex(RuntimeError, "^another call of the reader has not ended$", reader.read)
                 reader.__init__(file)
@@ -157,7 +142,7 @@ class Readers(unittest.TestCase):
             return bytes(size) if turn is None else turn
 
         own = type("Own", (vm.MultihashReader,), {})
-        file = types.SimpleNamespace(read=chunk)
+        file = Mock(read=chunk)
         own.kept = reader = own(file)
         self.assertRaisesRegex(ValueError, r"read\(1\) returned 255 bytes", reader.read)
         self.assertEqual(reader.rest, b"\1\xff\1" + bytes(254))
@@ -170,27 +155,26 @@ class Readers(unittest.TestCase):
 
     def test_cancelled_calls(self):
         """A call is cancelled at each byte and each step of the loop, before or after more bytes are there."""
-        data = b"".join(bytes(Multihash(1 << 40, bytes([n] * n))) for n in range(4))
 
         async def run(cut, steps, is_before, by_loop):
             stream, found = asyncio.StreamReader(), []
             reader = vm.AsyncMultihashReader(stream)
-            stream.feed_data(data[:cut])
+            stream.feed_data(DATA[:cut])
             call = asyncio.ensure_future(reader.__aiter__().__anext__() if by_loop else reader.read())
             for _ in range(steps):
                 await asyncio.sleep(0)
-            events = call.cancel, functools.partial(stream.feed_data, data[cut:])
+            events = call.cancel, functools.partial(stream.feed_data, DATA[cut:])
             for event in events if is_before else reversed(events):
                 event()
             await asyncio.wait([call])
             found += [] if call.cancelled() else [call.result()]
             stream.feed_eof()
             found += [item async for item in reader]
-            self.assertEqual(b"".join(map(bytes, found)), data)
+            self.assertEqual(b"".join(map(bytes, found)), DATA)
             return call.cancelled()
 
         async def run_all():
-            choices = range(len(data) + 1), range(4), (True, False), (True, False)
+            choices = range(len(DATA) + 1), range(4), (True, False), (True, False)
             return {(steps, await run(cut, steps, *rest)) for cut, steps, *rest in itertools.product(*choices)}
 
         self.assertLessEqual({(0, True), (1, True), (3, True), (3, False)}, asyncio.run(run_all()))
