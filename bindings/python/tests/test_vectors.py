@@ -1,6 +1,7 @@
 """The test vectors: decoded, read from files, encoded. MULTIHASH_VERDICTS is the path of the list."""
 
 import io
+import itertools
 import os
 import unittest
 from pathlib import Path
@@ -46,46 +47,41 @@ def is_for_all(result, size):
 class Vectors(unittest.TestCase):
     def check_head(self, data, result, taken):
         word, _, rest = result.partition(" ")
-        if word in ("pair", "invalid_size", "unexpected_eof"):
-            head = vm.head(data)
-            self.assertEqual(vm.head(data[: head.length]), head)
+        if word not in ("pair", "invalid_size", "unexpected_eof"):
+            self.assertEqual(shown(vm.head, data)[:2], (word, taken))
+            return
+        head = vm.head(data)
+        self.assertEqual(vm.head(data[: head.length]), head)
         if word == "pair":
             code, digest = rest.split(" ")
             size = len(digest.replace("-", "")) // 2
             self.assertEqual(head, (int(code), size, taken - size))
         elif word == "invalid_size":
             self.assertEqual(head[1:], (int(rest), taken))
-        elif word != "unexpected_eof":
-            self.assertEqual(shown(vm.head, data)[:2], (word, taken))
 
     def check_file(self, data, size, result, consumed):
         for most in (1, 500):
             file = Counts(data, most)
             found = shown(lambda _: (vm.read_from(file, size), 0), data)[0] if data else vm.read_from(file, size)
             self.assertEqual((found, file.file.tell()), (result if data else None, consumed))
-            self.assertGreaterEqual(file.reads * most, consumed)
         self.assertLessEqual(file.reads, vm.HEAD_MAX + 1)  # not one for each byte of the digest
 
-    def check_long(self, data, size, result, taken):
+    def check_long(self, data, kind, result, taken):
         """The whole input with more bytes than any encoding has, where the list has its result."""
+        data += MORE
         if result.startswith("pair"):
-            result = "invalid_size %d" % (len(data + MORE) - taken)
-        elif result in ("insufficient", "unexpected_eof") or not is_for_all(result, size):
-            return
-        for kind in KINDS:
-            self.assertEqual(shown(vm.decode, kind(data + MORE))[:2], (result, len(data + MORE)))
+            result = "invalid_size %d" % (len(data) - taken)
+        if result not in ("insufficient", "unexpected_eof"):
+            self.assertEqual(shown(vm.decode, kind(data))[:2], (result, len(data)))
 
-    def check_back(self, multihash, data, taken):
-        encoding, form = vm.encode(multihash.code, multihash.digest), vm.scale_encode(multihash.code, multihash.digest)
-        self.assertEqual((encoding, bytes(multihash)), (data[:taken], data[:taken]))
-        self.assertEqual(vm.encoded_len(multihash.code, len(multihash.digest)), taken)
-        code, size = multihash.code.to_bytes(8, "little"), bytes([len(multihash.digest)])
-        self.assertEqual(form, code + size + multihash.digest)
-        for kind in KINDS:
-            self.assertEqual(vm.scale_decode(kind(form + MORE)), (multihash, len(form)))
-            self.assertEqual(
-                (vm.read(kind(data))[0], vm.Multihash(multihash.code, kind(multihash.digest))), (multihash, multihash)
-            )
+    def check_back(self, multihash, kind, encoding):
+        code, digest = multihash.code, kind(multihash.digest)
+        self.assertEqual([vm.encode(code, digest), bytes(vm.Multihash(code, digest))], [encoding] * 2)
+        self.assertEqual(vm.encoded_len(code, len(digest)), len(encoding))
+        form = vm.scale_encode(code, digest)
+        self.assertEqual(form, code.to_bytes(8, "little") + bytes([len(digest)]) + bytes(digest))
+        self.assertEqual(vm.scale_decode(kind(form + MORE)), (multihash, len(form)))
+        self.assertEqual(vm.Multihash(code, digest), multihash)
 
     def check_taken(self, listed, taken, found):
         """The list has no number where more input can change the result, as the error says, also one that is made."""
@@ -93,28 +89,30 @@ class Vectors(unittest.TestCase):
         self.assertEqual([error.is_incomplete for error in errors], [listed == "-"] * len(errors))
         self.assertIn(listed, ("-", str(taken)))
 
-    def check_line(self, line):
+    def check_line(self, line, kind):
         size, data, read, read_taken, whole, scale, scale_taken = line.split("\t")
         size, data = int(size), bytes.fromhex(data.replace("-", ""))
-        result, taken, found = shown(vm.read, data, size)
+        result, taken, found = shown(vm.read, kind(data), size)
         self.assertEqual(result, read)
         self.check_taken(read_taken, taken, found)
-        self.check_head(data, read, len(data) if read_taken == "-" else int(read_taken))
-        self.check_file(data, size, read, len(data) if read_taken == "-" else int(read_taken))
-        self.check_long(data, size, read, taken)
+        consumed = len(data) if read_taken == "-" else int(read_taken)
+        self.check_head(kind(data), read, consumed)
+        self.check_file(data, size, read, consumed)
         if is_for_all(read, size):
-            self.assertEqual(shown(vm.decode, data)[:2], (whole, len(data)))
+            self.assertEqual(shown(vm.decode, kind(data))[:2], (whole, len(data)))
+            self.check_long(data, kind, read, taken)
         if is_for_all(scale, size):
-            result, scale_count, form = shown(vm.scale_decode, data)
+            result, scale_count, form = shown(vm.scale_decode, kind(data))
             self.assertEqual(result, scale)
             self.check_taken(scale_taken, scale_count, form)
         if isinstance(found, vm.Multihash):
-            self.check_back(found, data, taken)
+            self.check_back(found, kind, data[:taken])
 
     def test_list(self):
+        """Each input is in one kind of buffer."""
         with open(os.environ.get("MULTIHASH_VERDICTS", BESIDE), encoding="ascii") as file:
             columns, *lines = file.read().splitlines()
         self.assertEqual(columns, COLUMNS)
-        for line in lines:
+        for line, kind in zip(lines, itertools.cycle(KINDS)):
             with self.subTest(line=line):
-                self.check_line(line)
+                self.check_line(line, kind)
