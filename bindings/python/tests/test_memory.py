@@ -7,7 +7,7 @@ import importlib.util
 import io
 import sys
 import unittest
-from unittest.mock import ANY
+from unittest.mock import ANY, patch
 
 import verified_multihash as vm
 from test_package import NAMED_CALLS, Named
@@ -44,8 +44,6 @@ CALLS["order"] = lambda: (VALUE == OTHER, VALUE < OTHER, VALUE == 1, VALUE == Na
 CALLS["a text"] = vm._core.status_text, [1 << 62]
 CALLS["pickle"] = VALUE.__getnewargs__, ()
 CALLS["reader"] = lambda data, limit: vm.read_from(io.BytesIO(data), limit), [bytes(OTHER), 1 << 62]
-
-
 LASTING = [vm._core, vm.MultihashReader, MultihashError, Multihash, Named, VALUE, OTHER, *vm.Status]
 
 
@@ -147,15 +145,14 @@ class Memory(unittest.TestCase):
         def import_core():
             vm._core.__loader__.exec_module(importlib.util.module_from_spec(vm._core.__spec__))
 
-        known = {name: it for name, it in sys.modules.items() if name.startswith(vm.__name__)}
-        before = types()
-        for name in known:
-            del sys.modules[name]
-        names = use(importlib.import_module(vm.__name__))
-        self.assertGreater(types(), before + 4)
-        sys.modules.update(known)
+        before, alone = types(), []
+        with patch.dict(sys.modules):
+            for name in [name for name in sys.modules if name.startswith(vm.__name__)]:
+                del sys.modules[name]
+            names = use(importlib.import_module(vm.__name__))
+            self.assertGreater(types(), before + 4)
         # CPython 3.13 crashes at such imports, of its own modules too
         for number in range(300 if set_nomemory and sys.version_info[:2] != (3, 13) else 0):
             with contextlib.suppress(SystemError):  # of CPython, which sets no error for some
                 result_of(functools.partial(failing, import_core, number))
-        self.assertEqual((types(), sys.getrefcount(names)), (before, sys.getrefcount(known)))
+        self.assertEqual((types(), sys.getrefcount(names)), (before, sys.getrefcount(alone)))
