@@ -122,27 +122,27 @@ const digest = new Uint8Array(32).map((_, index) => index * 7);
 const bytes = Uint8Array.of(18, 32, ...digest);
 const long = Uint8Array.of(18, 255, 1, ...new Uint8Array(255).fill(7));
 
-function callsOf(it) {
-  const [left, right, cut] = [it.decode(bytes), it.decode(bytes), bytes.subarray(0, 20)];
+function callsOf(library) {
+  const [left, right, cut] = [library.decode(bytes), library.decode(bytes), bytes.subarray(0, 20)];
   return {
-    '`decode` of 34 bytes': () => it.decode(bytes),
-    '`decode` of 258 bytes': () => it.decode(long),
-    '`read`': () => it.read(bytes),
-    '`head`': () => it.head(bytes),
-    '`encode` of 32 bytes': () => it.encode(18, digest),
-    '`encodedLength`': () => it.encodedLength(18, 32),
-    '`compare`': () => it.compare(left, right),
-    '`Multihash.of`': () => it.Multihash.of(18, digest),
+    '`decode` of 34 bytes': () => library.decode(bytes),
+    '`decode` of 258 bytes': () => library.decode(long),
+    '`read`': () => library.read(bytes),
+    '`head`': () => library.head(bytes),
+    '`encode` of 32 bytes': () => library.encode(18, digest),
+    '`encodedLength`': () => library.encodedLength(18, 32),
+    '`compare`': () => library.compare(left, right),
+    '`Multihash.of`': () => library.Multihash.of(18, digest),
     '`bytes`': () => left.bytes,
     '`equals`': () => left.equals(right),
     '`toJSON`': () => left.toJSON(),
-    'an error': () => errorOf(it, cut),
+    'an error': () => errorOf(library, cut),
   };
 }
 
-function errorOf(it, input) {
+function errorOf(library, input) {
   try {
-    return it.read(input);
+    return library.read(input);
   } catch (error) {
     return error;
   }
@@ -171,27 +171,27 @@ const both = (what, call) => agree(what, () => call(ours), () => call(plain));
 const [mine, theirs] = [callsOf(ours), callsOf(plain)];
 for (const name of Object.keys(mine)) agree(name, mine[name], theirs[name]);
 for (const [code, ...rest] of [[17, 5, 6], [19, 5, 6], [18, 5], [18, 5, 6, 7], [18, 4, 7], [18, 5, 7]]) {
-  both(`order of ${code}, ${rest}`, (it) => {
-    const [one, other] = [it.Multihash.of(18, Uint8Array.of(5, 6)), it.Multihash.of(code, Uint8Array.from(rest))];
-    return [it.compare(one, other), it.compare(other, one), one.equals(other)];
+  both(`order of ${code}, ${rest}`, (library) => {
+    const [one, other] = [library.Multihash.of(18, Uint8Array.of(5, 6)), library.Multihash.of(code, Uint8Array.from(rest))];
+    return [library.compare(one, other), library.compare(other, one), one.equals(other)];
   });
 }
-both('head of an array', (it) => it.head([18, 0]));
-both('copies', (it) => {
+both('head of an array', (library) => library.head([18, 0]));
+both('copies', (library) => {
   const input = Uint8Array.of(18, 1, 5);
-  const found = [it.decode(input), it.read(input), it.Multihash.of(18, input)];
+  const found = [library.decode(input), library.read(input), library.Multihash.of(18, input)];
   input.fill(1);
   return found;
 });
 for (const text of ['', '0000', '80', '8000', '12', '1280', '128000', '12ff02', `${'ff'.repeat(9)}01`,
   `12${'80'.repeat(9)}`])
-  both(text, (it) => it.read(Buffer.from(text, 'hex')));
-for (let code = 1; code < 2 ** 53; code *= 128) both(`read ${code}`, (it) => it.read(ours.encode(code, digest)));
+  both(text, (library) => library.read(Buffer.from(text, 'hex')));
+for (let code = 1; code < 2 ** 53; code *= 128) both(`read ${code}`, (library) => library.read(ours.encode(code, digest)));
 for (const code of [0, 127, 128, 2 ** 53 - 1, -1, 2 ** 53]) {
   for (const size of [0, 127, 128, 255, 256]) {
-    both(`encode ${code}, ${size}`, (it) => it.encode(code, new Uint8Array(size).fill(7)));
-    both(`encodedLength ${code}, ${size}`, (it) => it.encodedLength(code, size));
-    both(`of ${code}, ${size}`, (it) => it.Multihash.of(code, new Uint8Array(size).fill(7)));
+    both(`encode ${code}, ${size}`, (library) => library.encode(code, new Uint8Array(size).fill(7)));
+    both(`encodedLength ${code}, ${size}`, (library) => library.encodedLength(code, size));
+    both(`of ${code}, ${size}`, (library) => library.Multihash.of(code, new Uint8Array(size).fill(7)));
   }
 }
 const least = Object.fromEntries(Object.keys(mine).map((name) => [name, [Infinity, Infinity]]));

@@ -15,7 +15,9 @@ import verified_multihash as vm
 
 ROUNDS, CALLS = 40, 2000
 DATA = bytes([18, 32]) + bytes(range(32))
-VARINTS = [bytes.fromhex(it) for it in ("", "00", "80", "80" * 9, "8000", "ff7f", "ff" * 8 + "7f", "ff01", "8002")]
+VARINTS = [
+    bytes.fromhex(library) for library in ("", "00", "80", "80" * 9, "8000", "ff7f", "ff" * 8 + "7f", "ff01", "8002")
+]
 
 
 class PlainError(ValueError):
@@ -165,27 +167,27 @@ def caught(call: Callable[..., Any], *arguments: Any) -> Any:
         return error
 
 
-def calls_of(it: Any, kind: Any, reader: Any) -> Dict[str, Callable[[], Any]]:
-    left, right, digest, array = it.decode(DATA), it.decode(DATA), DATA[2:], bytearray(DATA)
+def calls_of(library: Any, kind: Any, reader: Any) -> Dict[str, Callable[[], Any]]:
+    left, right, digest, array = library.decode(DATA), library.decode(DATA), DATA[2:], bytearray(DATA)
     file, long = io.BytesIO(DATA), bytes(256)
     of_file = reader(file)
     return {
-        "`decode`, `bytes` of %d bytes" % len(DATA): lambda: it.decode(DATA),
-        "`decode`, `bytearray`": lambda: it.decode(array),
-        "`read`": lambda: it.read(DATA),
-        "`head`": lambda: it.head(DATA),
-        "`encode` of %d bytes" % len(digest): lambda: it.encode(18, digest),
-        "`encoded_len`": lambda: it.encoded_len(18, 32),
+        "`decode`, `bytes` of %d bytes" % len(DATA): lambda: library.decode(DATA),
+        "`decode`, `bytearray`": lambda: library.decode(array),
+        "`read`": lambda: library.read(DATA),
+        "`head`": lambda: library.head(DATA),
+        "`encode` of %d bytes" % len(digest): lambda: library.encode(18, digest),
+        "`encoded_len`": lambda: library.encoded_len(18, 32),
         "`Multihash(code, digest)`": lambda: kind(18, digest),
         "`==`": lambda: left == right,
         "`<`": lambda: left < right,
-        "`compare`": lambda: it.compare(left, right),
+        "`compare`": lambda: library.compare(left, right),
         "`hash`": lambda: hash(left),
         "`bytes`": lambda: bytes(left),
-        "`read_from`": lambda: (file.seek(0), it.read_from(file)),
+        "`read_from`": lambda: (file.seek(0), library.read_from(file)),
         "`MultihashReader.read`": lambda: (file.seek(0), of_file.read()),
-        "an error of `decode`": partial(caught, it.decode, DATA[:20]),
-        "an error of `encode`": partial(caught, it.encode, 18, long),
+        "an error of `decode`": partial(caught, library.decode, DATA[:20]),
+        "an error of `encode`": partial(caught, library.encode, 18, long),
     }
 
 
@@ -200,21 +202,25 @@ def shown(result: Any) -> Any:
     return (result.status, result.size, result.code, result.taken) if isinstance(result, PlainError) else result
 
 
-def results(it: Any, kind: Any, reader: Any) -> Iterator[Any]:
+def results(library: Any, kind: Any, reader: Any) -> Iterator[Any]:
     """The results of calls: of bytes, whose varints and digests end anywhere, and of pairs."""
     for varint in VARINTS:
         for data in (varint, varint + DATA, DATA[:1] + varint + DATA * 9):
-            yield from (caught(call, data[:end]) for call in (it.decode, it.read, it.head) for end in range(len(data)))
-            yield from (caught(it.read_from, io.BytesIO(data), limit) for limit in (31, 32, 127, 255, 256))
+            yield from (
+                caught(call, data[:end])
+                for call in (library.decode, library.read, library.head)
+                for end in range(len(data))
+            )
+            yield from (caught(library.read_from, io.BytesIO(data), limit) for limit in (31, 32, 127, 255, 256))
             yield caught(reader(io.BytesIO(data)).read)
     for code in (0, 127, 128, 1 << 56, (1 << 63) - 1, 1 << 63):
         for size in (0, 127, 128, 255, 256):
-            yield caught(it.encode, code, bytes(size))
-            yield caught(it.encoded_len, code, size)
+            yield caught(library.encode, code, bytes(size))
+            yield caught(library.encoded_len, code, size)
     values = [kind(code, digest) for code in (1, 2) for digest in (b"", b"ab", b"b")]
     for left in values:
         for right in values:
-            yield left == right, left < right, it.compare(left, right), hash(left) == hash(right)
+            yield left == right, left < right, library.compare(left, right), hash(left) == hash(right)
 
 
 def nanoseconds(call: Callable[[], Any]) -> float:

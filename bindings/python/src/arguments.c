@@ -1,17 +1,17 @@
 /* Arguments of functions. */
 #include "core.h"
 
-PyObject *attribute_of(PyObject *it, const char *text)
+PyObject *attribute_of(PyObject *object, const char *text)
 {
     PyObject *name = PyUnicode_InternFromString(text);
-    PyObject *found = name == NULL ? NULL : PyObject_GetAttr(it, name);
+    PyObject *found = name == NULL ? NULL : PyObject_GetAttr(object, name);
     Py_XDECREF(name);
     return found;
 }
 
-PyObject *result_of(PyObject *it, const char *text)
+PyObject *result_of(PyObject *object, const char *text)
 {
-    PyObject *method = attribute_of(it, text);
+    PyObject *method = attribute_of(object, text);
     PyObject *result = method == NULL ? NULL : PyObject_CallObject(method, NULL);
     Py_XDECREF(method);
     return result;

@@ -29,21 +29,21 @@ PyObject *module_of_type(PyTypeObject *type)
  * that has raised an error. */
 static PyObject *raise_error(PyObject *module, multihash_status status, PyObject *size, PyObject *code, size_t taken)
 {
-    const state *its = module == NULL ? NULL : PyModule_GetState(module);
-    if (its != NULL && its->statuses == NULL) {
+    const state *own = module == NULL ? NULL : PyModule_GetState(module);
+    if (own != NULL && own->statuses == NULL) {
         PyErr_SetString(PyExc_RuntimeError, "verified_multihash was not imported");
-        its = NULL;
+        own = NULL;
     }
-    PyObject *count = size == NULL || code == NULL || its == NULL ? NULL : PyLong_FromSize_t(taken), *error = NULL;
-    PyObject *values[] = {count == NULL ? NULL : PyTuple_GetItem(its->statuses, (Py_ssize_t)status), size, code, count,
+    PyObject *count = size == NULL || code == NULL || own == NULL ? NULL : PyLong_FromSize_t(taken), *error = NULL;
+    PyObject *values[] = {count == NULL ? NULL : PyTuple_GetItem(own->statuses, (Py_ssize_t)status), size, code, count,
                           status == MULTIHASH_INSUFFICIENT || status == MULTIHASH_UNEXPECTED_EOF ? Py_True : Py_False};
     PyObject *arguments = values[0] == NULL ? NULL : PyTuple_Pack(4, values[0], size, code, count);
-    if (arguments != NULL) error = its->new_error((PyTypeObject *)its->error, arguments, NULL);
+    if (arguments != NULL) error = own->new_error((PyTypeObject *)own->error, arguments, NULL);
     int is_whole = error != NULL;
     for (Py_ssize_t at = 0; is_whole && at < 5; at++) {
-        is_whole = PyObject_SetAttr(error, PyTuple_GetItem(its->names, at), values[at]) == 0;
+        is_whole = PyObject_SetAttr(error, PyTuple_GetItem(own->names, at), values[at]) == 0;
     }
-    if (is_whole) PyErr_SetObject(its->error, error);
+    if (is_whole) PyErr_SetObject(own->error, error);
     Py_XDECREF(error);
     Py_XDECREF(arguments);
     Py_XDECREF(count);
@@ -63,13 +63,13 @@ PyObject *encoding_error(PyObject *module, multihash_status status, PyObject *le
 /* For the package, once: how errors are made. */
 static PyObject *set_error(PyObject *module, PyObject *arguments)
 {
-    state *its = PyModule_GetState(module);
+    state *own = PyModule_GetState(module);
     PyObject *class, *statuses, *names;
     if (!PyArg_ParseTuple(arguments, "OOO:set_error", &class, &statuses, &names)) return NULL;
-    its->error = class;
-    its->new_error = (newfunc)PyType_GetSlot((PyTypeObject *)class, Py_tp_new);
-    its->statuses = statuses;
-    its->names = names;
+    own->error = class;
+    own->new_error = (newfunc)PyType_GetSlot((PyTypeObject *)class, Py_tp_new);
+    own->statuses = statuses;
+    own->names = names;
     Py_INCREF(class);
     Py_INCREF(statuses);
     Py_INCREF(names);
@@ -286,22 +286,22 @@ static int fill_module(PyObject *module)
 
 static int visit_state(PyObject *module, visitproc visit, void *arg)
 {
-    state *its = PyModule_GetState(module);
-    if (its == NULL) return 0;
-    Py_VISIT(its->type);
-    Py_VISIT(its->error);
-    Py_VISIT(its->statuses);
+    state *own = PyModule_GetState(module);
+    if (own == NULL) return 0;
+    Py_VISIT(own->type);
+    Py_VISIT(own->error);
+    Py_VISIT(own->statuses);
     return 0;
 }
 
 static int clear_state(PyObject *module)
 {
-    state *its = PyModule_GetState(module);
-    if (its == NULL) return 0;
-    Py_CLEAR(its->type);
-    Py_CLEAR(its->error);
-    Py_CLEAR(its->statuses);
-    Py_CLEAR(its->names);
+    state *own = PyModule_GetState(module);
+    if (own == NULL) return 0;
+    Py_CLEAR(own->type);
+    Py_CLEAR(own->error);
+    Py_CLEAR(own->statuses);
+    Py_CLEAR(own->names);
     return 0;
 }
 

@@ -24,10 +24,10 @@ PyObject *decoded(PyObject *module, const uint8_t *bytes, multihash_decoded foun
 /* ---- arguments.c */
 
 /* An attribute, by a name that is there once: CPython's cache keeps each new one. */
-PyObject *attribute_of(PyObject *it, const char *text);
+PyObject *attribute_of(PyObject *object, const char *text);
 
 /* What that attribute returns, without arguments. */
-PyObject *result_of(PyObject *it, const char *text);
+PyObject *result_of(PyObject *object, const char *text);
 
 /* Bytes of an argument: all of them, or the first ones where it is no bytes object. */
 typedef struct input {

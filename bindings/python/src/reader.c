@@ -15,7 +15,7 @@ typedef struct reader_object {
 static int reader_init(PyObject *self, PyObject *arguments, PyObject *named)
 {
     static char *names[] = {"file", "limit", NULL};
-    reader_object *it = (reader_object *)self;
+    reader_object *reader = (reader_object *)self;
     PyObject *file, *most = NULL, *module, *read;
     size_t limit = MULTIHASH_DIGEST_MAX;
     if (!get_arguments(arguments, named, "O|O:MultihashReader", names, &file, &most)) return -1;
@@ -23,12 +23,12 @@ static int reader_init(PyObject *self, PyObject *arguments, PyObject *named)
     Py_XDECREF(most);
     if ((module = module_of_type(Py_TYPE(self))) == NULL) return -1;
     if ((read = attribute_of(file, "read")) == NULL) return -1;
-    if (it->module == NULL) Py_INCREF(it->module = module);
-    it->limit = limit;
-    it->length = 0;
-    it->has_lost = it->is_busy = 0;
-    PyObject *old = it->read; /* now: `file` may begin this reader anew, too */
-    it->read = read;
+    if (reader->module == NULL) Py_INCREF(reader->module = module);
+    reader->limit = limit;
+    reader->length = 0;
+    reader->has_lost = reader->is_busy = 0;
+    PyObject *old = reader->read; /* now: `file` may begin this reader anew, too */
+    reader->read = read;
     Py_XDECREF(old);
     return 0;
 }
@@ -58,24 +58,24 @@ static void reader_dealloc(PyObject *self)
 }
 
 /* The number of bytes that the multihash still needs at least; 0 also where it is rejected. */
-static size_t missing(const reader_object *it)
+static size_t missing(const reader_object *reader)
 {
-    if (it->length == 0) return 2; /* an encoding has at least two bytes */
-    multihash_front found = multihash_head(it->rest, it->length);
+    if (reader->length == 0) return 2; /* an encoding has at least two bytes */
+    multihash_front found = multihash_head(reader->rest, reader->length);
     if (found.status != MULTIHASH_OK) return found.status == MULTIHASH_INSUFFICIENT;
-    if (found.digest_length > it->limit || found.digest_length > MULTIHASH_DIGEST_MAX) return 0;
-    return found.taken + (size_t)found.digest_length - it->length;
+    if (found.digest_length > reader->limit || found.digest_length > MULTIHASH_DIGEST_MAX) return 0;
+    return found.taken + (size_t)found.digest_length - reader->length;
 }
 
 /* The number of bytes to read, none if the next result is known; negative with an error set. */
-static Py_ssize_t wanted(const reader_object *it)
+static Py_ssize_t wanted(const reader_object *reader)
 {
-    size_t count = missing(it);
-    if (count > 0 && it->read == NULL) {
+    size_t count = missing(reader);
+    if (count > 0 && reader->read == NULL) {
         PyErr_SetString(PyExc_ValueError, "not initialized");
-    } else if (count > 0 && it->is_busy) {
+    } else if (count > 0 && reader->is_busy) {
         PyErr_SetString(PyExc_RuntimeError, "another call of the reader has not ended");
-    } else if (count > 0 && it->has_lost) {
+    } else if (count > 0 && reader->has_lost) {
         PyErr_SetString(PyExc_ValueError, "the file failed before, so bytes may be lost");
     } else {
         return (Py_ssize_t)count;
@@ -84,35 +84,35 @@ static Py_ssize_t wanted(const reader_object *it)
 }
 
 /* Keeps what the file returned: 1, or 0 at its end, where these are no bytes; negative with an error set. */
-static int keep(reader_object *it, PyObject *chunk)
+static int keep(reader_object *reader, PyObject *chunk)
 {
     input from;
-    it->has_lost = chunk != Py_None;
+    reader->has_lost = chunk != Py_None;
     if (chunk == Py_None) PyErr_SetString(PyExc_BlockingIOError, "the file has no bytes now");
-    if (chunk == Py_None || get_input(chunk, sizeof it->rest, &from) < 0) return -1;
-    size_t most = missing(it); /* the file may have called this reader */
-    it->has_lost = from.whole > most;
-    if (it->has_lost) {
+    if (chunk == Py_None || get_input(chunk, sizeof reader->rest, &from) < 0) return -1;
+    size_t most = missing(reader); /* the file may have called this reader */
+    reader->has_lost = from.whole > most;
+    if (reader->has_lost) {
         PyErr_Format(PyExc_ValueError, "read(%zu) returned %zu bytes", most, from.whole);
     } else {
-        memcpy(it->rest + it->length, from.bytes, from.whole);
-        it->length += from.whole;
+        memcpy(reader->rest + reader->length, from.bytes, from.whole);
+        reader->length += from.whole;
     }
     Py_DECREF(from.owner);
-    return it->has_lost ? -1 : from.whole > 0;
+    return reader->has_lost ? -1 : from.whole > 0;
 }
 
 /* Reads at most that many bytes, and keeps them. */
-static int read_chunk(reader_object *it, Py_ssize_t count)
+static int read_chunk(reader_object *reader, Py_ssize_t count)
 {
-    PyObject *number = PyLong_FromSsize_t(count), *read = it->read;
+    PyObject *number = PyLong_FromSsize_t(count), *read = reader->read;
     if (number == NULL) return -1;
     Py_INCREF(read);
-    it->is_busy = it->has_lost = 1; /* until the bytes are kept */
+    reader->is_busy = reader->has_lost = 1; /* until the bytes are kept */
     PyObject *chunk = PyObject_CallFunctionObjArgs(read, number, NULL);
-    it->is_busy = 0;
-    int kept = chunk == NULL ? -1 : keep(it, chunk);
-    if (chunk == NULL && PyErr_ExceptionMatches(PyExc_BlockingIOError)) it->has_lost = 0;
+    reader->is_busy = 0;
+    int kept = chunk == NULL ? -1 : keep(reader, chunk);
+    if (chunk == NULL && PyErr_ExceptionMatches(PyExc_BlockingIOError)) reader->has_lost = 0;
     Py_XDECREF(chunk);
     Py_DECREF(read);
     Py_DECREF(number);
@@ -122,33 +122,34 @@ static int read_chunk(reader_object *it, Py_ssize_t count)
 /* The multihash of the bytes, or None if there are none. */
 static PyObject *reader_decoded(PyObject *self, PyObject *unused)
 {
-    reader_object *it = (reader_object *)self;
+    reader_object *reader = (reader_object *)self;
     (void)unused;
-    if (it->length == 0) Py_RETURN_NONE;
-    PyObject *multihash = decoded(it->module, it->rest, multihash_read_limit(it->rest, it->length, it->limit));
-    if (multihash != NULL) it->length = 0;
+    if (reader->length == 0) Py_RETURN_NONE;
+    multihash_decoded found = multihash_read_limit(reader->rest, reader->length, reader->limit);
+    PyObject *multihash = decoded(reader->module, reader->rest, found);
+    if (multihash != NULL) reader->length = 0;
     return multihash;
 }
 
 static PyObject *reader_next(PyObject *self, PyObject *unused)
 {
-    reader_object *it = (reader_object *)self;
+    reader_object *reader = (reader_object *)self;
     Py_ssize_t count;
     int kept = 1;
-    while ((count = wanted(it)) > 0 && (kept = read_chunk(it, count)) > 0) continue;
+    while ((count = wanted(reader)) > 0 && (kept = read_chunk(reader, count)) > 0) continue;
     return count < 0 || kept < 0 ? NULL : reader_decoded(self, unused);
 }
 
 PyObject *read_once(PyObject *module, PyObject *arguments)
 {
     PyObject *file, *most;
-    reader_object it = {.module = module};
+    reader_object reader = {.module = module};
     if (!PyArg_UnpackTuple(arguments, "read_once", 2, 2, &file, &most)) return NULL;
-    if (get_size(&most, "limit", &it.limit) < 0) return NULL;
+    if (get_size(&most, "limit", &reader.limit) < 0) return NULL;
     Py_DECREF(most);
-    if ((it.read = attribute_of(file, "read")) == NULL) return NULL;
-    PyObject *multihash = reader_next((PyObject *)&it, NULL);
-    Py_DECREF(it.read);
+    if ((reader.read = attribute_of(file, "read")) == NULL) return NULL;
+    PyObject *multihash = reader_next((PyObject *)&reader, NULL);
+    Py_DECREF(reader.read);
     return multihash;
 }
 
@@ -168,8 +169,8 @@ static PyObject *reader_keep(PyObject *self, PyObject *chunk)
 static PyObject *reader_rest(PyObject *self, void *unused)
 {
     (void)unused;
-    const reader_object *it = (const reader_object *)self;
-    return PyBytes_FromStringAndSize((const char *)it->rest, (Py_ssize_t)it->length);
+    const reader_object *reader = (const reader_object *)self;
+    return PyBytes_FromStringAndSize((const char *)reader->rest, (Py_ssize_t)reader->length);
 }
 
 static PyMethodDef reader_methods[] = {

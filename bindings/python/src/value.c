@@ -42,11 +42,11 @@ static PyObject *multihash_new(PyTypeObject *type, PyObject *arguments, PyObject
 
 static void multihash_dealloc(PyObject *self)
 {
-    multihash_object *it = (multihash_object *)self;
+    multihash_object *multihash = (multihash_object *)self;
     PyTypeObject *type = Py_TYPE(self);
-    if (it->weak_references != NULL) PyObject_ClearWeakRefs(self);
-    Py_XDECREF(it->code);
-    Py_XDECREF(it->digest);
+    if (multihash->weak_references != NULL) PyObject_ClearWeakRefs(self);
+    Py_XDECREF(multihash->code);
+    Py_XDECREF(multihash->digest);
     ((freefunc)PyType_GetSlot(type, Py_tp_free))(self);
     Py_DECREF(type);
 }
@@ -83,10 +83,10 @@ static PyObject *multihash_compared(PyObject *left, PyObject *right, int operati
 /* The hash of the digest, which its object keeps, and the code, mixed by the last step of MurmurHash3. */
 static Py_hash_t multihash_hash(PyObject *self)
 {
-    const multihash_object *it = (const multihash_object *)self;
-    Py_hash_t of_digest = PyObject_Hash(it->digest);
+    const multihash_object *multihash = (const multihash_object *)self;
+    Py_hash_t of_digest = PyObject_Hash(multihash->digest);
     if (of_digest == -1) return -1;
-    uint64_t mixed = (uint64_t)of_digest ^ it->number;
+    uint64_t mixed = (uint64_t)of_digest ^ multihash->number;
     mixed = (mixed ^ mixed >> 33) * 0xff51afd7ed558ccdu;
     mixed = (mixed ^ mixed >> 33) * 0xc4ceb9fe1a85ec53u;
     Py_hash_t hash = (Py_hash_t)(mixed ^ mixed >> 33);
@@ -95,10 +95,10 @@ static Py_hash_t multihash_hash(PyObject *self)
 
 static PyObject *multihash_repr(PyObject *self)
 {
-    const multihash_object *it = (const multihash_object *)self;
+    const multihash_object *multihash = (const multihash_object *)self;
     PyObject *name = attribute_of((PyObject *)Py_TYPE(self), "__qualname__");
     if (name == NULL) return NULL;
-    PyObject *shown = PyUnicode_FromFormat("%U(code=%R, digest=%R)", name, it->code, it->digest);
+    PyObject *shown = PyUnicode_FromFormat("%U(code=%R, digest=%R)", name, multihash->code, multihash->digest);
     Py_DECREF(name);
     return shown;
 }

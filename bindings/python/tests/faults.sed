@@ -31,23 +31,23 @@ s/expected a Multihash, not/no Multihash:/
 s/"O:decode"/"O:decoded"/
 s/limit=255)/limit=256)/
 s/"(ss)", "code", "digest"/"(ss)", "digest", "code"/
-s/Py_CLEAR(its->names);//
+s/Py_CLEAR(\w*->names);//
 s/>= 0x030c/>= 0x030d/
 s/^int get_input/__attribute__((visibility("default"))) &/
 s/if ((read = .*NULL)/& PyErr_SetNone(PyExc_TypeError);\nif (read == NULL)/
-s/it->limit = limit/& + (limit == 3)/
+s/\w*->limit = limit/& + (limit == 3)/
 s/^    Py_VISIT.*->read);//
 s/"not initialized"/"initialized"/
 s/wanted((reader_object \*)self) < 0/0/
-s/it->is_busy) {/it->module == NULL) {/
+s/\(\w*\)->is_busy) {/\1->module == NULL) {/
 s/failed before/failed/
 s/"the file has/"it has/
 s/read(%zu)/it (%zu)/
-s/it->rest, (Py_ssize_t)it->length/& % 4/
+s/(Py_ssize_t)\w*->length/& % 4/
 s/return \(new_multihash(type, n.*\);/PyObject *made = \1;\nPy_XINCREF(made);\nreturn made;/
 s/type)) Py_RETURN_NOTIMPLEMENTED/type)) Py_RETURN_FALSE/
 s/0, operation)/0, operation ^ (Py_TYPE(left) != Py_TYPE(right)))/
-s/PyObject_Hash(it->digest)/PyObject_HasAttrString(self, "__dict__")/
+s/PyObject_Hash(\w*->digest)/PyObject_HasAttrString(self, "__dict__")/
 s/code=%R, d/code=%R; d/
 s/"OO", ((multihash_object \*)self)->code/"KO", ((multihash_object *)self)->number ^ 1/
 s/, "hex")/, "title")/
