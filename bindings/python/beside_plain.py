@@ -15,9 +15,7 @@ import verified_multihash as vm
 
 ROUNDS, CALLS = 40, 2000
 DATA = bytes([18, 32]) + bytes(range(32))
-VARINTS = [
-    bytes.fromhex(library) for library in ("", "00", "80", "80" * 9, "8000", "ff7f", "ff" * 8 + "7f", "ff01", "8002")
-]
+VARINTS = [bytes.fromhex(text) for text in ("", "00", "80", "80" * 9, "8000", "ff7f", "ff" * 8 + "7f", "ff01", "8002")]
 
 
 class PlainError(ValueError):
