@@ -51,16 +51,6 @@ installs() {
   "$python" -m pip install --quiet --disable-pip-version-check --no-index --no-build-isolation --force-reinstall "$1"
 }
 
-# What is timed has the same results, and no call takes more CPU time than in plain Python.
-beside_plain() {
-  local other=$work/beside_plain.py
-  "$python" -I "$here/beside_plain.py"
-  sed 's/share > 1/share > 0/; s/40, 2000/1, 99/' "$here/beside_plain.py" > "$other"
-  rejects "| 0." "$python" -I "$other"
-  sed 's/> 255/> 254/' "$here/beside_plain.py" > "$other"
-  rejects "in plain Python" "$python" -I "$other"
-}
-
 # What is installed is imported, from the environment.
 imports() {
   installs "$1"
@@ -202,7 +192,11 @@ ONLY='' try "the wheel, installed" imports "$work"/dist/*.whl
 needs="nm" try "no state" keeps_nothing
 try "the tests" all_tests
 needs="mypy stubtest" try "types" types
-try "the times beside plain Python" beside_plain
+try "the results of plain Python, in less CPU time" "$python" -I "$here/beside_plain.py"
+try "other results and times" rejects_edits "$here" "$python" -I "$work/planted/beside_plain.py" << 'END'
+in plain Python|sed -i 's/> 255/> 254/' beside_plain.py
+this package|sed -i 's/share > 1/share > 0/; s/40, 2000/1, 99/' beside_plain.py
+END
 try "the folder, installed" imports "$here"
 needs="objcopy ar" try "an archive of another version" other_version
 try "an altered archive" altered_archive
