@@ -8,7 +8,7 @@ require cc cmake python3 readelf pkg-config
 . checks/lib/installed.sh
 # shellcheck source=checks/lib/warnings.sh
 . checks/lib/warnings.sh
-prefix="$work/a prefix"
+prefix="$work/a #prefix's"
 minimum=$(grep ^cmake_minimum_required CMakeLists.txt)
 
 # ---- what is installed
@@ -23,14 +23,15 @@ build() {
 
 install_built() { cmake --install "$work/$1" "${@:2}"; }
 
-# In the configured prefix, whose name has a blank. The tests draw inputs, and one loads the shared library.
+# In the configured prefix, whose name is no word of a shell. The tests draw inputs, and one loads the shared library.
 installs() {
   sed -n 's/^drawn: //p' "$work/built/Testing/Temporary/LastTest.log" |
     diff - <(printf '%s\n' 100000 100000)
   readelf -d "$work"/built/*_test | grep -cF "[libmultihash_c.so.$major]" | diff - <(echo 1)
   install_built built
   is_installed "$prefix" lib
-  PKG_CONFIG_PATH=$prefix/lib/pkgconfig pkg-config --variable=prefix multihash_c | diff - <(echo "${prefix// /\\ }")
+  eval "echo $(PKG_CONFIG_PATH=$prefix/lib/pkgconfig pkg-config --variable=prefix multihash_c)" |
+    diff - <(echo "$prefix")
 }
 
 # Below DESTDIR, from where pkg-config has to find it, in other folders, each named from the root; with the program,
@@ -65,12 +66,10 @@ packs() {
     tar xf "$work/$name/packed/multihash_c-$version-$machine.tar.gz" -C "$work/un packed $name" --strip-components=1
   done
   mv "$prefix" "$work/moved"
-  is_installed "$work/un packed built" lib
-  installed_test "$work/un packed built"
+  works "$work/un packed built" lib
   cmp "$archive" "$work/un packed other/lib/other/libmultihash_c.a"
   local include=headers/c document=pages/c man=manual
-  is_installed "$work/un packed other" lib/other other/bin/mh_show manual/man1/mh_show.1
-  installed_test "$work/un packed other"
+  works "$work/un packed other" lib/other other/bin/mh_show manual/man1/mh_show.1
   mv "$work/moved" "$prefix"
 }
 
@@ -131,7 +130,6 @@ planted_prefix() {
 > ./more|touch more
 /lib/libmultihash_c.so|ln -sf none lib/libmultihash_c.so
 /multihash.h|chmod 755 include/multihash.h
-/include|chmod 777 include
 diff -r|echo >> share/doc/multihash_c/changelog
 > -L|sed -i 's,^libdir=.*,&/..,' lib/pkgconfig/multihash_c.pc
 < BIND_NOW|cc -shared -xc /dev/null -o lib/libmultihash_c.so.?.*
@@ -168,8 +166,7 @@ END
 from_source() {
   build source -DMULTIHASH_C_ARCHIVE=OFF -DCMAKE_INSTALL_PREFIX="$work/source.prefix"
   install_built source
-  is_installed "$work/source.prefix" lib
-  installed_test "$work/source.prefix"
+  works "$work/source.prefix" lib
 }
 
 # Under a name for debugging, by a compiler whose default is C90.
@@ -191,8 +188,6 @@ with_flags() {
   exports_exactly "$work/flags/libmultihash_c.so" bindings/c/src/multihash_c.map
   prints 'Build ID: 01234567' readelf -n "$work/flags/libmultihash_c.so"
   rejects 'No tests were found' build flags
-  rejects "> multihash_more" exports_exactly "$work/flags/libmultihash_c.so" \
-    <(sed s/_head/_more/ bindings/c/src/multihash_c.map)
   install_built flags --prefix "$work/no pages"
   [ ! -e "$work/no pages/$man" ]
 }
@@ -239,33 +234,26 @@ by_subdirectory() {
     diff <(files_in lib | sed -E '/\/share\/|\.so/d; s/-release/-noconfig/' | sort) -
 }
 
-# The example, built by CMake as the page says over what find_package finds, statically and not. What is in a folder
-# that it does not search has to be named.
+# The example, built by CMake as the page says over what find_package finds, statically and not.
 # shellcheck disable=SC2016
 by_find_package() {
-  local to=$work/project kind other found=(-DCMAKE_PREFIX_PATH="$work/un packed built")
+  local to=$work/project kind
   mkdir "$to"
-  for other in built other; do
-    for kind in shared static; do
-      { printf '%s\n' "$minimum" 'project(example LANGUAGES C)' \
-        'add_executable(program ${source})'
-        block_of bindings/c/README.md cmake | sed -E "s/(.*::)shared(.*::)static$/\1$kind\2/"; } > "$to/CMakeLists.txt"
-      grep "(multihash_c $major\.[0-9]* " "$to/CMakeLists.txt"
-      grep "multihash_c::$kind)" "$to/CMakeLists.txt"
-      cmake -S "$to" -B "$to/$other" -Dsource="$top/bindings/c/examples/show.c" "${found[@]}"
-      cmake --build "$to/$other"
-      "$to/$other/program" | diff - "$expected"
-    done
-    found=(-Dmultihash_c_DIR="$work/un packed other/lib/other/cmake/multihash_c")
+  for kind in shared static; do
+    { printf '%s\n' "$minimum" 'project(example LANGUAGES C)' 'add_executable(program ${source})'
+      block_of bindings/c/README.md cmake | sed -E "s/(.*::)shared(.*::)static$/\1$kind\2/"; } > "$to/CMakeLists.txt"
+    grep "(multihash_c $major\.[0-9]* " "$to/CMakeLists.txt"
+    grep "multihash_c::$kind)" "$to/CMakeLists.txt"
+    cmake -S "$to" -B "$to/built" -Dsource="$top/bindings/c/examples/show.c" \
+      -DCMAKE_PREFIX_PATH="$work/un packed built"
+    cmake --build "$to/built"
+    "$to/built/program" | diff - "$expected"
   done
-  for other in $((major - 1)).9 "$major.99" $((major + 1)); do
-    sed -i "s/(multihash_c [0-9.]*/(multihash_c $other/" "$to/CMakeLists.txt"
-    rejects "compatible with requested version" cmake -S "$to" -B "$to/built"
-  done
-  # a later minor version
+  # a later minor version is compatible, an earlier major one is not
   find "$work/un packed built" -name '*-version.cmake' -exec sed -i "s/\"$version\"/\"$major.99.0\"/" {} +
-  sed -i "s/(multihash_c [0-9.]*/(multihash_c ${version%.*}/" "$to/CMakeLists.txt"
   prints "Configuring done" cmake -S "$to" -B "$to/built"
+  sed -i "s/(multihash_c [0-9.]*/(multihash_c $((major - 1)).9/" "$to/CMakeLists.txt"
+  rejects "compatible with requested version" cmake -S "$to" -B "$to/built"
 }
 
 # The example of bindings/c/README.md for Go, in a module of its own. cgo takes no prefix with a blank.

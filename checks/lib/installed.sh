@@ -88,3 +88,9 @@ is_installed() {
 
 # The installed test over what is installed in a folder.
 installed_test() { "$1/$document/examples/test.sh" "$1"; }
+
+# An installation has what it should, and its test passes.
+works() {
+  is_installed "$@"
+  installed_test "$1"
+}
