@@ -55,7 +55,6 @@ class Declared(NamedTuple):
     macros: set[str]
     statuses: dict[str, str]
     lengths: dict[str, str]
-    version: list[int]
 
 
 def read_files() -> Files:
@@ -104,13 +103,6 @@ def declared(structs: Structs, functions: list[Item]) -> Iterator[str]:
         yield flat(f"{TYPES.get(result, f'multihash_{result.lower()}')} {name}({parts});")
 
 
-def numbers_of(sources: list[Item]) -> dict[str, str]:
-    """Returns the constants of a file that are numbers."""
-    form = re.compile(r"(?:pub )?const (\w+): u32 = (\d+);\s*")
-    found = (form.fullmatch(item.source) for item in sources)
-    return {constant[1]: constant[2] for constant in found if constant}
-
-
 def status_declarations(statuses: dict[str, str], texts: list[tuple[str, str]]) -> Iterator[str]:
     """Returns the declarations of statuses and their texts, in C."""
     yield "typedef uint32_t multihash_status ;"
@@ -122,8 +114,7 @@ def status_declarations(statuses: dict[str, str], texts: list[tuple[str, str]]) 
 
 
 def of_crate(files: Files) -> Declared:
-    sources = {path: items(text) for path, text in files.items() if path.startswith(f"{CRATE}/src")}
-    every = [item for found in sources.values() for item in found]
+    every = [item for path, text in files.items() if path.startswith(f"{CRATE}/src") for item in items(text)]
     exports = [item for item in every if "no_mangle" in item.attributes]
     [put_text] = [item.source for item in exports if item.name == "multihash_put_status_text"]
     texts = re.findall(r'(?:status::(\w+)|_) => put_text\(b"([^"]*)", out\)', put_text)
@@ -131,12 +122,12 @@ def of_crate(files: Files) -> Declared:
     varint = int(group(r"\nmax_continuation = (\d+)\n", files["crates/multihash/specs/Varint.antt"])) + 1
     most = {"DIGEST_MAX": 255, "HEAD_MAX": 2 * varint, "LENGTH_MAX": varint + 2 + 255, "SCALE_LENGTH_MAX": 9 + 255}
     lengths = {name: str(number) for name, number in most.items()}
-    statuses, numbers = (numbers_of(sources[f"{CRATE}/src/{name}.rt"]) for name in ("status", "version"))
-    major, minor, patch = (numbers[part] for part in ("MAJOR", "MINOR", "PATCH"))
-    macros = {"H": "", "VERSION": f'"{major}.{minor}.{patch}"', "VERSION_NUMBER": f"{major}{minor:>02}{patch:>02}"}
-    lines = {f"#define MULTIHASH_{name} {value}\n" for name, value in {**macros, **lengths}.items()}
+    statuses = dict(re.findall(r"(?m)^(?:pub )?const (\w+): u32 = (\d+);$", files[f"{CRATE}/src/status.rt"]))
+    stated = version.stated(version.current(files))
+    macros = {"H": "", "VERSION": f'"{stated["version"]}"', "VERSION_NUMBER": stated["number"], **lengths}
+    lines = {f"#define MULTIHASH_{name} {value}\n" for name, value in macros.items()}
     declarations = {*status_declarations(statuses, texts), *declared(structs_of(every), exports)}
-    return Declared(declarations, lines, statuses, lengths, [int(major), int(minor)])
+    return Declared(declarations, lines, statuses, lengths)
 
 
 def preprocessed(text: str) -> tuple[set[str], str]:
@@ -187,8 +178,8 @@ def binding_errors(files: Files, crate: Declared) -> Iterator[str]:
     if typed != statuses[1:]:
         yield f"index.d.ts has other statuses than core.js: {typed}"
     for later in re.findall(r"(?m)^MULTIHASH_C_(\S+) ", files[MAP]):
-        if [*map(int, later.split("."))] > crate.version:
-            yield f"{MAP} has a function of version {later}, which is later than the crate's"
+        if version.parts(f"{later}.0") > version.parts(version.current(files)):
+            yield f"{MAP} has a function of version {later}, which is later than the header's"
 
 
 def error_of(files: Files) -> str:
@@ -205,18 +196,18 @@ def versions() -> Iterator[tap.Result]:
     later = version.written(pending, "99.0.0", date(2099, 1, 1))
     yield "a later version", "\n".join(version.errors(later))
     for path in later:
-        yield tap.planted(f"another version: {path}", [*version.errors({**later, path: texts[path]})])
+        yield tap.planted(f"another version: {path}", version.errors({**later, path: texts[path]}))
 
 
 def results() -> Iterator[tap.Result]:
     yield from versions()
     yield "functions that translate.py places", translate.missing_names(translate.sources())
-    yield tap.planted("functions that translate.py places", translate.missing_names(""))
+    yield tap.planted("functions that translate.py places", [translate.missing_names("")])
     files = read_files()
     yield "the header and the bindings", error_of(files)
     for name, *edit in edits.rows(LIB / "header.edits"):
         changed = edits.apply(files, [edits.Edit(*edit)])
-        yield tap.stated(name, error_of({**files, **changed}), name)
+        yield tap.planted(name, [error_of({**files, **changed})], name)
 
 
 def main() -> int:

@@ -53,7 +53,7 @@ END
 rust_erased() {
   local copy=$work/erase module=bindings/rust/multihash/src/proved source=crates/multihash/src line
   mkdir "$copy"
-  tar -c tools/erase checks/lib/rt_source.py $source $module | tar -x -C "$copy"
+  tar -c tools/erase tools/rt_source.py $source $module | tar -x -C "$copy"
   "$copy/tools/erase" --check
   only_removed "$copy"
   line=$(sed -n '/item.write(w)/=' $source/list.rt)

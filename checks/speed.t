@@ -1,3 +1,3 @@
 #!/usr/bin/env bash
-# The instructions of each call of crates/speed and from C; that docs/SPEED.md has these numbers.
-exec "$(dirname "$0")/lib/speed.py"
+# That docs/SPEED.md has the instructions of each call of this library, in Rattle and from C.
+exec "$(dirname "$0")/../crates/speed/count.py"

@@ -76,10 +76,9 @@ report() { expect "$1" "python3 -c 'import sys, tap; sys.exit(tap.report([$2]))'
 report "not ok 1 - a\n#   why\nok 2 - b\n1..2\nstatus 1" '("a", "why"), ("b", "")'
 report "ok 1 - a b\n1..1\nstatus 0" '("a#\nb", "")'
 report "1..0\nstatus 1" ""
-report "not ok 1 - planted: a\n#   it is not found\nok 2 - planted: b\n1..2\nstatus 1" \
-  'tap.planted("a", ""), tap.planted("b", "why")'
-report "not ok 1 - a\n#   found is: b\nok 2 - b\n1..2\nstatus 1" \
-  'tap.stated("a", "b\nc", "c"), tap.stated("b", "c\nd", "c")'
+report "not ok 1 - planted: a\n#   without []: \nnot ok 2 - planted: b\n#   without ['c']: why\n1..2\nstatus 1" \
+  'tap.planted("a", [""]), tap.planted("b", ["why"], "w", "c")'
+report "ok 1 - planted: a\n1..1\nstatus 0" 'tap.planted("a", ["why"], "w", "y")'
 report "ok 1 - a # SKIP no why\nok 2 - b\n# -c: left out 1 of 2: no why\n1..2\nstatus 0" \
   'tap.left_out("a", tap.missing(["sh", "why", "cpu:fpu"])), ("b", "")'
 report "not ok 1 - a # SKIP no sh\n#   what it needs is there\n# -c: left out 1 of 1: no sh\n1..1\nstatus 1" \

@@ -80,13 +80,13 @@ def stated_errors() -> Iterator[tap.Result]:
     """Judges logs."""
     bugs = [Bug("", ["b=(8,"], "", "", ""), Bug("", ["a", "c"], "", "", "")]
     log = "test a ... FAILED\ntest b ... FAILED\n  is\n  (8, 9)\ntest c ... FAILED\n test d ... FAILED\n"
+    yield "a log", error_of(bugs, log)
     for old, new, wrong in (
-        ("", "", ""),
         ("test a", "test d", "['a', 'd']"),
         ("(8", "(9", "['b', 'b prints   is\\n  (9, 9)\\n']"),
-        ("c ... FAILED", "c ... FAILED\n    no-answer", "[]"),
+        ("c ... FAILED", "c ... FAILED\n    no-answer", "no-answer"),
     ):
-        yield tap.stated(f"{old} > {new}", error_of(bugs, log.replace(old, new)), wrong)
+        yield tap.planted(f"{old} > {new}", [error_of(bugs, log.replace(old, new))], wrong)
 
 
 def results() -> Iterator[tap.Result]:

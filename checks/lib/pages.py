@@ -14,17 +14,18 @@ from collections.abc import Callable, Iterator
 from functools import cache
 from pathlib import Path
 
-import contracts
 import edits
 import start
 import tap
-import verdicts
-from rt_source import Unread
 from start import FENCE, TOP
+
+sys.path += [str(TOP / "tools"), str(TOP / "crates" / "vectors")]
+import contracts
+import verdicts
 
 README, FORMAT, DIFFERENCES = "README.md", "docs/FORMAT.md", "docs/DIFFERENCES.md"
 CONTRACTS, C, HEADER = "docs/CONTRACTS.md", "bindings/c/README.md", "bindings/c/include/multihash.h"
-MAN, RUST, RULES = "crates/mh_show/mh_show.1", "bindings/rust/multihash", verdicts.rules_of()
+MAN, RUST, RULES = "crates/mh_show/mh_show.1", "bindings/rust/multihash", verdicts.RULES
 # what a source declares is named on a page
 DECLARED = (
     (HEADER, r"^(?:static inline )?(?:const char \*|\w+ )(multihash_\w+)\(", C),
@@ -88,13 +89,9 @@ def pages_of(texts: Texts) -> Texts:
 
 def contract_errors(texts: Texts) -> Iterator[str]:
     """Compares CONTRACTS.md with the sources."""
-    try:
-        page = contracts.written_page({path: texts[path] for path in contracts.sources()})
-    except Unread as error:
-        yield str(error)
-        return
+    page = contracts.written_page({path: texts[path] for path in contracts.sources()})
     if texts[CONTRACTS] != page:
-        yield "checks/lib/contracts.py writes, if it is meant:"
+        yield "tools/contracts.py writes, if it is meant:"
         yield from difflib.unified_diff(texts[CONTRACTS].splitlines(), page.splitlines(), lineterm="", n=0)
 
 
@@ -127,7 +124,7 @@ def link_errors(texts: Texts) -> Iterator[str]:
 
 def path_errors(texts: Texts) -> Iterator[str]:
     """Returns the paths below some folders that a file names, and that are gone; NAME stands for any name."""
-    form = re.compile(r"(?<![\w./-])(?:\.ci|checks|docs|tools)/[\w./-]*\w")
+    form = re.compile(r"(?<![\w./-])(?:\.ci|checks|crates(?!/app|/\w+/out)|docs|tools)/[\w./-]*\w")
     for path in paths():
         for name in {*form.findall(texts.get(path) or read(path))} if not path.endswith(".edits") else ():
             if "NAME" not in name and not (TOP / name).exists():
@@ -235,9 +232,8 @@ def byte_errors(texts: Texts) -> Iterator[str]:
 def command_errors(texts: Texts) -> Iterator[str]:
     """Runs the commands of README.md, each of which prints what mh_show prints."""
     shown = read("crates/mh_show/stdout")
-    commands = [
-        line for language, body in FENCE.findall(texts[README]) if language == "sh" for line in body.splitlines()
-    ]
+    blocks = [body for language, body in FENCE.findall(texts[README]) if language == "sh"]
+    commands = "".join(blocks).splitlines()
     if not commands:
         yield "it has no commands"
     with tempfile.TemporaryDirectory() as work:
@@ -257,12 +253,11 @@ def page_results(program: start.Program, project: start.Project, page: str) -> I
     yield name, "\n".join(start.page_errors(project, page))
     for old, new in (("hashes.verify(", "True or ("), ("True\n```", "true\n```"), ("$CID", "CID")):
         if program.language == "Python":
-            yield tap.planted(f"{name}: {new}", [*start.page_errors(project, page.replace(old, new))])
+            yield tap.planted(f"{name}: {new}", start.page_errors(project, page.replace(old, new)))
 
 
 def program_results(texts: Texts) -> Iterator[tap.Result]:
-    """Installs each package and runs its program; plants a program that fails, a row less and another output."""
-    shown = {}
+    """Installs each package and runs its program; plants one that fails, another output and a row less."""
     with tempfile.TemporaryDirectory() as work:
         start.copy_repository(copy := Path(work) / "copy")
         for program in start.programs(texts[README]):
@@ -270,31 +265,20 @@ def program_results(texts: Texts) -> Iterator[tap.Result]:
             if gone := tap.missing(start.TOOLS[program.language]):
                 yield tap.left_out(name, gone)
                 continue
-            project, error, shown[program.language] = start.run(program, copy, Path(work) / program.language)
+            project, error = start.run(program, copy, Path(work) / program.language)
             yield name, error
             if program.language in start.MORE:
                 yield from page_results(program, project, texts[program.page])
-        fails = start.programs(texts[README])[-1]._replace(install="true", command="false")
-        yield tap.planted("a program that fails", start.run(fails, copy, Path(work) / "fails")[1])
-    yield "what the programs print", "\n".join(start.judge(texts[README], shown))
-    yield tap.planted(f"{README}: a row less", [*start.judge(texts[README].replace("| [C, C++]", "| C"), shown)])
-    yield tap.planted("another output", [*start.judge(texts[README], {"C": "code 1, digest hello"})])
+        for command in ("false", "echo code 1, digest hello"):
+            other = program._replace(install="true", command=command)
+            yield tap.planted(command, [start.run(other, copy, Path(work) / command)[1]])
+    yield "the rows of the programs", "\n".join(start.row_errors(texts[README]))
+    yield tap.planted("a row less", start.row_errors(texts[README].replace("| [C, C++]", "| C")))
 
 
+# the comparisons above, by their names
 CHECKS: dict[str, Callable[[Texts], Iterator[str]]] = {
-    check.__name__: check
-    for check in (
-        contract_errors,
-        link_errors,
-        path_errors,
-        name_errors,
-        declared_errors,
-        stated_errors,
-        shown_errors,
-        lemma_errors,
-        byte_errors,
-        command_errors,
-    )
+    name: check for name, check in globals().items() if name.endswith("_errors")
 }
 
 
@@ -305,7 +289,7 @@ def results() -> Iterator[tap.Result]:
     yield from program_results(texts)
     for name, *edit in edits.rows(Path(__file__).with_name("pages.edits")):
         changed = edits.apply(texts, [edits.Edit(*edit)])
-        yield tap.planted(f"{name}: {' > '.join(edit)}", [*CHECKS[name]({**texts, **changed})])
+        yield tap.planted(f"{name}: {' > '.join(edit)}", CHECKS[name]({**texts, **changed}))
 
 
 if __name__ == "__main__":

@@ -113,14 +113,17 @@ class Project(NamedTuple):
         return error if ran.returncode else "", ran.stdout
 
 
-def run(program: Program, repository: Path, folder: Path) -> tuple[Project, str, str]:
+def run(program: Program, repository: Path, folder: Path) -> tuple[Project, str]:
     """Installs the package of a clone, $MH, in a new folder, and runs the program there.
 
-    Returns the folder, what is wrong, and what was printed.
+    Returns the folder, and what is wrong.
     """
     folder.mkdir()
     project = Project(folder, {**os.environ, "MH": str(repository), **prepare(program, folder)})
-    return project, *project.run(program.file, program.text, f"{program.install} && {program.command}")
+    error, shown = project.run(program.file, program.text, f"{program.install} && {program.command}")
+    if not error and SHOWN not in shown.splitlines():
+        error = f"it printed {shown[-300:]!r}"
+    return project, error
 
 
 def page_errors(project: Project, page: str) -> Iterator[str]:
@@ -143,13 +146,10 @@ def page_errors(project: Project, page: str) -> Iterator[str]:
         yield "no program verifies content by a CID"
 
 
-def judge(readme: str, shown: dict[str, str]) -> Iterator[str]:
-    """Compares what the programs printed with what the page says, and the table with its programs."""
+def row_errors(readme: str) -> Iterator[str]:
+    """Compares the table with its programs, and what these print with what the page says."""
     found = {program.language for program in programs(readme)}
     if found != set(TOOLS):
         yield f"only a row, or only a program, is there of {sorted(found ^ set(TOOLS))}"
     if f"prints `{SHOWN}`" not in readme:
         yield f"it does not say that each program prints {SHOWN}"
-    for language, text in shown.items():
-        if SHOWN not in text.splitlines():
-            yield f"{language}: it printed {text[-300:]!r}"

@@ -34,15 +34,11 @@ def report(results: Iterable[Result]) -> int:
     return 1 if failed or not number else 0
 
 
-def stated(what: str, found: str, wanted: str) -> Result:
-    """Returns the result of what is found: its first line is a text."""
-    first = found.partition("\n")[0]
-    return what, "" if first == wanted else f"found is: {first}"
-
-
-def planted(what: str, found: str | list[str]) -> Result:
-    """Returns the result of a planted difference: something has to be found."""
-    return f"planted: {what}", "" if found else "it is not found"
+def planted(what: str, found: Iterable[str], *texts: str) -> Result:
+    """Returns the result of a planted difference: something has to be found, with each of these texts."""
+    printed = "\n".join(found)
+    lacking = [text for text in texts if text not in printed]
+    return f"planted: {what}", "" if printed and not lacking else f"without {lacking}: {printed}"
 
 
 def missing(tools: Iterable[str]) -> list[str]:

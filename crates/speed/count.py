@@ -1,17 +1,15 @@
 #!/usr/bin/env python3
 """Compares the instructions of each call of crates/speed, and of calls from C, with docs/SPEED.md.
 
-    checks/lib/speed.py
-        compares the page's counts of this library, and from C, with new ones, each of which may
-        differ by 1, or by 2 %
-    checks/lib/speed.py --write [TUNED DEFAULT]
-        writes the tables of the page. With two builds of crates/speed/rust/main.rs counts them too;
-        else their columns stay
+    crates/speed/count.py
+        compares the page's counts of this library with new ones, each of which may differ by 1, or
+        by 2 %. Those of others, as of C by hand, are not compared
+    crates/speed/count.py --write [TUNED DEFAULT]
+        writes the tables of the page. With two builds of rust/main.rs counts them too; else their
+        columns stay
 
-Valgrind counts instructions. The program is that of 'rt ci', if BUILT says so; otherwise 'rt run'
-builds it.
+Valgrind counts instructions.
 """
-import os
 import re
 import subprocess
 import sys
@@ -21,10 +19,12 @@ from concurrent.futures import ThreadPoolExecutor
 from itertools import zip_longest
 from pathlib import Path
 
+HOME = Path(__file__).resolve().parent
+ROOT = HOME.parents[1]
+sys.path.append(str(ROOT / "checks" / "lib"))
 import tap
 
-ROOT = Path(__file__).resolve().parents[2]
-HOME, C, PAGE = ROOT / "crates/speed", ROOT / "bindings/c", ROOT / "docs/SPEED.md"
+C, PAGE = ROOT / "bindings/c", ROOT / "docs/SPEED.md"
 C_BUILDS = [
     C / name for name in ("prebuilt/x86_64/libmultihash_c.a", "speed/plain.c", "speed/fast.c", "src/multihash.c")
 ]
@@ -56,11 +56,11 @@ def count(program: str, names: Iterable[str]) -> dict[str, int]:
         return dict(zip(names, pool.map(of_call, names)))
 
 
-def count_c() -> Counts:
-    """Returns the instructions of each call from C: of each of the builds."""
+def count_c(builds: list[Path]) -> Counts:
+    """Returns the instructions of each call from C: of each of these builds."""
     with tempfile.TemporaryDirectory() as work:
         program, counts = f"{work}/count", []
-        for build in C_BUILDS:
+        for build in builds:
             run(["cc", "-std=c11", "-O2", f"-I{C}/include", C / "speed/count.c", build, "-o", program])
             counts.append(count(program, run([program]).split()))
         return {name: [found[name] for found in counts] for name in counts[0]}
@@ -111,37 +111,24 @@ def text_errors(page: str, names: list[str]) -> Iterator[str]:
         yield f"the shares above 1.05 are of {sorted(dearer)}"
 
 
-def text_results(page: str, names: list[str]) -> Iterator[tap.Result]:
-    """Compares the page with itself and with the rows of the program; plants other rows and shares."""
-    yield "docs/SPEED.md", "\n".join(text_errors(page, names))
-    rows = "the page has other rows than crates/speed/args"
-    yield tap.stated("a row of the page alone", "; ".join(text_errors(page, names[:-1])), rows)
-    text = table(RUST, rows_of(page, RUST))
-    changed = page.replace(text, re.sub(r"\d\.\d\d", "9.99", text, count=1))
-    tables = "its tables are not what --write makes of their counts"
-    yield tap.stated("another share", "; ".join(text_errors(changed, names)), tables)
-    found = "; ".join(text_errors(re.sub(r"(?<=Cause \|\n).*\n.*\n", "", page), names))
-    yield tap.stated("a cause less", found.partition(" [")[0], "the shares above 1.05 are of")
-
-
 def results(program: str, names: list[str]) -> Iterator[tap.Result]:
     """Compares the counts with those of the page."""
     page = PAGE.read_text("utf-8")
-    yield from text_results(page, names)
-    one = {"a": [10, 10]}
-    lines = differences({"a": [10], "b": [1]}, one).replace("\n", "; ")
-    yield tap.stated("a count less, a row more", lines, "a: [10] instructions, stored [10, 10]; b: it is there alone")
-    yield tap.stated("a row less", differences({}, one), "a: it is there alone")
+    yield "docs/SPEED.md", "\n".join(text_errors(page, names))
+    other = re.sub(r"\d\.\d\d \|", "9.99 |", page, count=1).replace("| `hash` | ", "| `none` | ")
+    found = text_errors(other, names[:-1])
+    yield tap.planted("a row, a share, a cause", found, "other rows", "not what --write", "above 1.05")
+    changed = differences({"a": [10], "b": [1]}, {"a": [10, 10], "c": [1]})
+    yield tap.planted("counts", [changed], "a: [10] instructions, stored [10, 10]", "b: it is", "c: it is")
     # with another compiler or C library, and without AVX2, for its copies, the counts differ
     [(compiler, library)] = re.findall(r"GCC ([\d.]+)\s+and glibc ([\d.]+\d)", page)
     if gone := tap.missing(["valgrind", "cpu:avx2", f"cc={compiler}", f"ldd={library}"]):
-        yield tap.left_out("the calls from C", gone)
-        yield tap.left_out("the calls of crates/speed", gone)
+        yield tap.left_out("the calls", gone)
         return
-    yield "the calls from C", differences(count_c(), rows_of(page, FROM_C))
     stored = {name: counts[:1] for head in (RUST, OTHERS) for name, counts in rows_of(page, head).items()}
-    found = {name: [number] for name, number in count(program, names).items()}
-    yield "the calls of crates/speed", differences(found, stored)
+    stored |= {name: [counts[0], counts[-1]] for name, counts in rows_of(page, FROM_C).items()}
+    counted = {name: [number] for name, number in count(program, names).items()}
+    yield "the calls", differences(counted | count_c([C_BUILDS[0], C_BUILDS[-1]]), stored)
 
 
 def write(programs: list[str], names: list[str]) -> None:
@@ -154,14 +141,12 @@ def write(programs: list[str], names: list[str]) -> None:
     counts = {name: [found[name] for found in columns] for name in names}
     if len(programs) == 1:
         counts = {name: [*found, *before[name][1:]] for name, found in counts.items()}
-    PAGE.write_text(with_tables(page, {RUST: counts, OTHERS: of_others, FROM_C: count_c()}), "utf-8")
+    PAGE.write_text(with_tables(page, {RUST: counts, OTHERS: of_others, FROM_C: count_c(C_BUILDS)}), "utf-8")
 
 
 def main() -> int:
-    program = str(HOME / "out" / "speed")
+    program = tap.program("speed")
     names = (HOME / "args").read_text("utf-8").splitlines()[1:]
-    if os.environ.get("BUILT") != "rt ci":
-        subprocess.run(["rt", "run", "--", "8", *names], cwd=HOME, stdout=subprocess.DEVNULL, check=True)
     if sys.argv[1:2] != ["--write"]:
         return tap.report(results(program, names))
     write([program, *sys.argv[2:]], names)

@@ -3,9 +3,9 @@
 
 It computes them from the rules of docs/FORMAT.md by itself and calls nothing of the library.
 
-    checks/lib/verdicts.py            checks each line
-    checks/lib/verdicts.py --write    writes the results of the stored inputs, of a new one only the
-                                      capacity and the input are needed
+    crates/vectors/verdicts.py            checks each line
+    crates/vectors/verdicts.py --write    writes the results of the stored inputs, of a new one only the
+                                          capacity and the input are needed
 
 Of the first inputs 3000 came from outside. None is there twice with one capacity."""
 import difflib
@@ -15,10 +15,11 @@ import sys
 from collections.abc import Callable
 from pathlib import Path
 
+TOP = Path(__file__).resolve().parents[2]
+sys.path.append(str(TOP / "checks" / "lib"))
 import tap
 
-TOP = Path(__file__).resolve().parents[2]
-BOUND = (TOP / "crates/multihash/specs/Varint.antt").read_text("utf-8")
+DEFINITIONS = (TOP / "crates/multihash/specs/Varint.antt").read_text("utf-8")
 STORED = TOP / "crates/vectors/data/verdicts.tsv"
 COLUMNS = ("S", "input", "read", "read_taken", "from_bytes", "scale_decode", "scale_taken")
 
@@ -93,31 +94,30 @@ def result(call: Callable[[int, bytes], tuple[int, bytes, int]], size: int, data
         return error, consumed
 
 
-def rules_of(definitions: str = BOUND) -> Rules:
-    [bits] = re.findall(r"(?m)^varint_limit = 2 \^ (\d+)$", definitions)
-    return Rules(int(bits))
+# the rules for the bound on numbers that the definitions state
+[BITS] = re.findall(r"(?m)^varint_limit = 2 \^ (\d+)$", DEFINITIONS)
+RULES = Rules(int(BITS))
 
 
-def made_of(stored: str, definitions: str = BOUND) -> str:
-    """Makes the list of the stored inputs, by the bound on numbers that the definitions state."""
+def made_of(stored: str) -> str:
+    """Makes the list of the stored inputs."""
     inputs = [tuple(line.split("\t")[:2]) for line in stored.splitlines()[1:]]
     first = "".join("\t".join(line) + "\n" for line in inputs[:FIRST])
     if hashlib.sha256(first.encode()).hexdigest() != SHA256:
         raise ValueError(f"the first {FIRST} inputs are others")
     if len({*inputs}) < len(inputs):
         raise ValueError("an input is there twice with one capacity")
-    rules = rules_of(definitions)
-    lines = (rules.line(int(size), bytes.fromhex(data.removeprefix("-"))) for size, data in inputs)
+    lines = (RULES.line(int(size), bytes.fromhex(data.removeprefix("-"))) for size, data in inputs)
     return "\n".join(["\t".join(COLUMNS), *lines, ""])
 
 
-def error_of(stored: str, definitions: str = BOUND) -> str:
+def error_of(stored: str) -> str:
     """Returns how the stored lines differ from those that are made."""
     try:
-        lines, made = stored.split("\n"), made_of(stored, definitions).split("\n")
+        lines, made = stored.split("\n"), made_of(stored).split("\n")
         differences = [*difflib.unified_diff(lines, made, lineterm="", n=0)][2:]
         if differences:
-            differences.append(f"checks/lib/verdicts.py --write writes the results of {STORED.name}")
+            differences.append(f"crates/vectors/verdicts.py --write writes the results of {STORED.name}")
         return "\n".join(differences)
     except ValueError as error:
         return str(error)
@@ -127,18 +127,15 @@ def main() -> int:
     stored = STORED.read_text("utf-8")
     if sys.argv[1:] == ["--write"]:
         return STORED.write_text(made_of(stored), "utf-8") == 0
-    last, new, end = stored.splitlines(True)[-1], f"{rules_of().line(0, bytes(77))}\n", stored.count("\n")
+    new = f"{RULES.line(0, bytes(77))}\n"
     results = [("the results of the stored inputs", error_of(stored)), ("an appended input", error_of(stored + new))]
     others = f"the first {FIRST} inputs are others"
     for what, text, error in (
-        ("the first result", stored.replace("invalid_size 3", "invalid_size 4", 1), "@@ -2 +2 @@"),
-        ("the last result", stored + new.replace("invalid", "valid"), f"@@ -{end + 1} +{end + 1} @@"),
+        ("a wrong result", stored.replace("invalid_size 3", "invalid_size 4", 1), "@@ -2 +2 @@"),
         ("another capacity", stored.replace("\n1\t88f5bac6a53b03", "\n2\t88f5bac6a53b03", 1), others),
-        ("an input twice", stored + last, "an input is there twice with one capacity"),
-        ("no last newline", stored[:-1], f"@@ -{end},0 +{end + 1} @@"),
+        ("an input twice", stored + new + new, "an input is there twice with one capacity"),
     ):
-        results.append(tap.stated(what, error_of(text), error))
-    results.append(tap.stated("another bound", error_of(stored, BOUND.replace("2 ^ 63", "2 ^ 62")), "@@ -7 +7 @@"))
+        results.append(tap.planted(what, [error_of(text)], error))
     return tap.report(results)
 
 
