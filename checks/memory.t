@@ -40,22 +40,13 @@ TESTS = {
 # inputs of mh_show, the last of which cannot be read, how many allocations it makes, and what it prints then
 SHOWN = {"example": (8, "code 22"), "0041": (5, "mh_show: Invalid"), "0": (4, "mh_show: not hex")}
 SHOWN |= {"a folder": (4, "mh_show: input not read")}
-# programs, how many allocations each is to make, and the four words of what is found. One that is right ends with
-# status 1 if an allocation failed
-GOOD = "void *made = malloc(1); free(made); return !made;"
-AGAIN = "void *none = 0, *a = realloc(none, 1), *b = a ? realloc(a, 2) : 0; free(b ? b : a); return !b;"
-FOUND = "where number {} fails, allocations: {}, not freed: {}, it prints: {}"
+# programs that differ from what is wanted of them, how many allocations they are to make, and what is found
+TWICE = "void *none = 0, *a = realloc(none, 1), *b = a ? realloc(a, 2) : 0; free(b ? b : a); return !b;"
 PLANTED = (
-    (GOOD, 0, "1 1 0 1"),
-    (GOOD, 1, ""),
-    (GOOD, 2, "2 1 0 0"),
-    ("void *made = malloc(1); _exit(!made);", 1, "1 0 1 1"),
-    ("return !malloc(1);", 1, "2 1 1 0"),
-    ("free(malloc(1)); return 0;", 1, "1 1 0 0"),
-    ('void *made = malloc(1); if (made) write(1, "0", 1); free(made); return !made;', 1, "2 1 0 00"),
-    (AGAIN, 1, "2 2 0 1"),
-    (AGAIN, 2, ""),
-    (AGAIN, 3, "3 2 0 0"),
+    (TWICE, 1, "where number 2 fails, allocations: 2, not freed: 0, it prints: 1"),
+    (TWICE, 3, "where number 3 fails, allocations: 2, not freed: 0, it prints: 0"),
+    ("return !malloc(1);", 1, "where number 2 fails, allocations: 1, not freed: 1, it prints: 0"),
+    ("free(malloc(1)); return 0;", 1, "where number 1 fails, allocations: 1, not freed: 0, it prints: 0"),
 )
 
 
@@ -74,12 +65,11 @@ class Counted:
         """Returns what was printed with the status after it, and the numbers of allocations and of leaks."""
         counts = self.work / "counts"
         counts.write_text("0 1", "utf-8")
-        # from the work folder, as blanks in LD_PRELOAD separate paths
-        preload = {"LD_PRELOAD": "./memory.so", "COUNTS": str(counts), "FAIL": str(fail)}
+        environment = {**os.environ, "COUNTS": str(counts), "FAIL": str(fail)}
+        # the path has no folder, as blanks in LD_PRELOAD separate paths
+        words = ["bash", "-c", 'ulimit -t 60; LD_PRELOAD=./memory.so exec "$0" "$@" 2>&1', *command]
         files = os.open(stdin, os.O_RDONLY)
-        ran = subprocess.run(
-            command, cwd=self.work, stdin=files, stdout=-1, stderr=-2, env=os.environ | preload, text=True, timeout=60
-        )
+        ran = subprocess.run(words, cwd=self.work, stdin=files, stdout=-1, env=environment, text=True)
         os.close(files)
         asked, live = map(int, counts.read_text("utf-8").split())
         return f"{ran.stdout}{ran.returncode}", asked, live
@@ -105,16 +95,15 @@ def others(tests: Iterable[str]) -> str:
 def results(work: Path) -> Iterator[tap.Result]:
     counted = Counted(work)
     for text, number, found in PLANTED:
-        source = f"#include <stdlib.h>\n#include <unistd.h>\nint main(void) {{ {text} }}\n"
+        source = f"#include <stdlib.h>\nint main(void) {{ {text} }}\n"
         error = counted.error_of([str(counted.build(source, "planted"))], number, "1", "0")
-        wanted = FOUND.format(*found.split()) if found else ""
-        yield f"planted, {number}: {text}", "" if error == wanted else f"found: {error}"
+        yield tap.planted(f"{number}: {text}", [error], found)
     program = tap.program("tests_values", "test")
     listed = subprocess.run([program, "--list"], stdout=subprocess.PIPE, text=True).stdout
     tests = {path.rpartition("::")[2]: path for path in re.findall(r"(?m)^(\S+): test$", listed)}
     yield "the tests are those listed", others(tests)
-    yield tap.planted("a test that is not listed", others([*tests, "allocating_more"]))
-    yield tap.planted("a test that is gone", others({*tests} - {"allocating_push"}))
+    changed = {*tests, "allocating_more"} - {"allocating_push"}
+    yield tap.planted("other tests", [others(changed)], "allocating_more", "allocating_push")
     for name, number in TESTS.items():
         failed, passed = rf"(.*\n)?{re.escape(FAILED)}\n(.*\n)?101", r"(.*\n)?test result: ok\n(.*\n)?0"
         yield name, counted.error_of([program, tests.get(name, "")], number, failed, passed)

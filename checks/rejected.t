@@ -56,42 +56,39 @@ STREAMS = (
 
 def written(program: str, streams: str, text: str, folder: str) -> str:
     """Returns what a program writes to its two streams, which are one, and its status after it."""
-    words = ["bash", "-c", f'"$0" 2>&1 {streams}; echo $?', program]
-    return subprocess.run(words, input=text, cwd=folder, stdout=subprocess.PIPE, text=True, timeout=120).stdout
+    words = ["bash", "-c", f'ulimit -t 120; "$0" 2>&1 {streams}; echo $?', program]
+    return subprocess.run(words, input=text, cwd=folder, stdout=subprocess.PIPE, text=True).stdout
 
 
 def error_of(found: str, wanted: str) -> str:
     return "" if found == wanted else f"it writes {found!r}, and not {wanted!r}"
 
 
-def replayed(lines: list[str], wrong: dict[int, int]) -> str:
-    """Returns what is written for lines, if those of these numbers have a wrong column."""
+def replayed(wrong: list[str], column: int) -> str:
+    """Returns what is written, with the status, for lines of which these have a wrong column."""
     text = ""
     for call, columns in CALLS.items():
-        others = [lines[at].split("|") for at, column in wrong.items() if column in columns]
-        text += "".join(f"{call}: disagrees at size {size}, input {data}\n" for size, data, *_ in others)
-        text += "" if others else f"{call}: all lines agree\n"
-    return text
+        for size, data, *_ in [line.split("|") for line in wrong if column in columns]:
+            text += f"{call}: disagrees at size {size}, input {data}\n"
+        text += "" if column in columns else f"{call}: all lines agree\n"
+    return f"{text}1\n"
 
 
-def with_column(line: str, column: int, text: str) -> str:
-    columns = line.split("|")
-    return "|".join([*columns[:column], text, *columns[column + 1 :]])
+def wrong_lines(column: int) -> Iterator[str]:
+    """Returns lines with each other result in a column."""
+    for line in LINES:
+        before, after = line.split("|")[:column], line.split("|")[column:]
+        for other in TAKEN if column in (3, 6) else RESULTS:
+            if other != after[0]:
+                yield "|".join([*before, other, *after[1:]])
 
 
 def lists() -> Iterator[tuple[str, list[str], str]]:
     """Returns lists of lines, with their names and what is written for them, with the status."""
-    lines, wrong = [*LINES], {}
-    for line in LINES:
-        for column in range(2, 7):
-            for other in TAKEN if column in (3, 6) else RESULTS:
-                if other != line.split("|")[column]:
-                    wrong[len(lines)] = column
-                    lines.append(with_column(line, column, other))
-    yield "each result, wrong", [HEAD, *lines, *LINES], f"{replayed([*lines, *LINES], wrong)}1\n"
-    for column, at in {column: at for at, column in wrong.items()}.items():
-        some = [LINES[0], lines[at], LINES[0]]
-        yield f"one wrong result: {lines[at]}", [HEAD, *some], f"{replayed(some, {1: column})}1\n"
+    for column in range(2, 7):
+        wrong = [*wrong_lines(column)]
+        yield f"wrong results, column {column}", [HEAD, *LINES, *wrong, *LINES], replayed(wrong, column)
+        yield f"one of them, column {column}", [HEAD, *LINES, wrong[-1], *LINES], replayed(wrong[-1:], column)
     yield "no lines", [HEAD], "Error: a list of no lines\n1\n"
 
 
