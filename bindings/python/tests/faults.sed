@@ -15,6 +15,7 @@ s/if (view == NULL)/& PyErr_SetNone(PyExc_OSError);\n&/
 s/if (index == NULL)/& PyErr_SetNone(PyExc_ValueError);\n&/
 s/"a %s is not/"no %s is/
 s/count > most)/count > 3)/
+s/count < least || //
 s/"not the/"no/
 s/MULTIHASH_INSUFFICIENT || s/MULTIHASH_OVERFLOW || s/
 s/was not imported/was imported/

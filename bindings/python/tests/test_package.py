@@ -314,9 +314,10 @@ class Module(unittest.TestCase):
             names = list(parameters_of(call))
             by_name, by_position = call(**dict(zip(names, arguments))), call(*arguments)
             self.assertEqual((str(by_name), len(names)), (str(by_position), len(arguments)))
-            with self.assertRaises(TypeError):  # by itself, as assertRaises would pass keywords on
-                call(*arguments, 1)
             required = [name for name, it in parameters_of(call).items() if not it or it.default is it.empty]
+            for wrong in ([*arguments, 1], arguments[: len(required) - 1]):
+                with self.assertRaises(TypeError):  # by itself, as assertRaises would pass keywords on
+                    call(*wrong)
             for lacking in required if call is not MultihashError else ():
                 others = {name: it for name, it in zip(names, arguments) if name != lacking}
                 self.assertRaisesRegex(TypeError, r"^%s\(\)" % call.__name__, call, **others)
