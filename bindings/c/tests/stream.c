@@ -1,6 +1,5 @@
-/* Calls the reader of a stream that is installed as an example, over pipes that are cut at each byte: by a
- * pause, and by an end after which another pipe continues. C11 on POSIX. Exits with status 1 at the first
- * error. */
+/* Calls the reader of a stream that is installed as an example, over pipes that are cut at each byte: by a pause
+ * and by an end, after which the pipe continues. C11 on POSIX. Exits with status 1 at the first error. */
 int example_main(void);
 #define main example_main
 #include <stream.c>
@@ -66,28 +65,24 @@ static stream_result read_on(stream *from, size_t *at)
     return result;
 }
 
-/* The stream pauses at a byte, and continues through the same pipe, or ends there, and another continues. */
-static void check_cut(size_t cut, int is_end)
+/* The stream pauses at a byte, ends there, as the empty one does, and continues. */
+static void check_cut(size_t cut, int empty)
 {
-    int ends_of[2], more[2];
-    size_t at = 0;
+    int ends_of[2];
+    size_t at = 0, complete = items_in(cut);
+    stream from = {.limit = LIMIT};
     open_pipe(ends_of, whole, cut);
-    open_pipe(more, whole + cut, is_end ? whole_length - cut : 0);
-    stream from = {.descriptor = ends_of[0], .limit = LIMIT};
-    stream_result want = !is_end ? STREAM_FAILED : ends[items_in(cut)] == cut ? STREAM_END : STREAM_CUT;
-    if (is_end) CHECK(close(ends_of[1]) == 0);
     for (int again = 0; again < 2; again++) {
-        CHECK(read_on(&from, &at) == want && at == items_in(cut));
-        CHECK(is_end || errno == EAGAIN || errno == EWOULDBLOCK);
+        from.descriptor = ends_of[0];
+        CHECK(read_on(&from, &at) == STREAM_FAILED && at == complete);
+        CHECK(errno == EAGAIN || errno == EWOULDBLOCK);
+        from.descriptor = empty;
+        CHECK(read_on(&from, &at) == (ends[complete] == cut ? STREAM_END : STREAM_CUT) && at == complete);
     }
-    if (is_end) {
-        from.descriptor = more[0];
-    } else {
-        CHECK(write(ends_of[1], whole + cut, whole_length - cut) == (ssize_t)(whole_length - cut));
-        CHECK(close(ends_of[1]) == 0);
-    }
-    CHECK(close(more[1]) == 0 && read_on(&from, &at) == STREAM_END && at == ITEMS);
-    CHECK(close(ends_of[0]) == 0 && close(more[0]) == 0);
+    from.descriptor = ends_of[0];
+    CHECK(write(ends_of[1], whole + cut, whole_length - cut) == (ssize_t)(whole_length - cut));
+    CHECK(close(ends_of[1]) == 0 && read_on(&from, &at) == STREAM_END && at == ITEMS);
+    CHECK(close(ends_of[0]) == 0);
 }
 
 /* Where a signal writes the stream. */
@@ -130,11 +125,9 @@ static void check_rejected(const char *bytes, size_t length, multihash_status st
 
 int main(void)
 {
+    int empty = open("/dev/null", O_RDONLY);
     put_together();
-    for (size_t cut = 0; cut <= whole_length; cut++) {
-        check_cut(cut, 0);
-        check_cut(cut, 1);
-    }
+    for (size_t cut = 0; cut <= whole_length; cut++) check_cut(cut, empty);
     check_interrupted();
     for (int again = 0; again < 9; again++) {
         check_rejected("\x12\x41\x07\x07", 4, MULTIHASH_INVALID_SIZE, 65, 2);
