@@ -7,26 +7,21 @@
 #include "check.h"
 
 /* Each prefix of the longest encoding whose code and digest's length have that many bytes. */
-static void check_prefixes(size_t code_bytes, size_t size_bytes)
-{
-    uint8_t bytes[MULTIHASH_LENGTH_MAX] = {0};
-    size_t size = size_bytes == 1 ? 127 : 255, whole = code_bytes + size_bytes + size;
-    memset(bytes, 0xff, code_bytes + size_bytes);
-    bytes[code_bytes - 1] = 0x7f;
-    bytes[code_bytes + size_bytes - 1] = size_bytes == 1 ? 0x7f : 0x01;
-    CHECK(multihash_from_bytes(bytes, whole).digest_length == size);
-    for (size_t length = 0; length <= whole; length++) {
-        uint8_t *input = copy_of(bytes, length);
-        check_decodings(input, length, length % 2 == 0 ? SIZE_MAX : size);
-        release(input);
-    }
-}
-
 static void check_cuts(void)
 {
-    for (size_t code_bytes = 1; code_bytes <= 9; code_bytes++) {
-        check_prefixes(code_bytes, 1);
-        check_prefixes(code_bytes, 2);
+    static const uint8_t digest[MULTIHASH_DIGEST_MAX] = {0};
+    uint8_t bytes[MULTIHASH_LENGTH_MAX];
+    for (unsigned bits = 7; bits <= 63; bits += 7) {
+        for (size_t size = 127; size <= 255; size += 128) {
+            uint64_t code = ((uint64_t)1 << bits) - 1;
+            size_t whole = multihash_encode(code, digest, size, bytes, sizeof bytes).length;
+            CHECK(multihash_from_bytes(bytes, whole).digest_length == size);
+            for (size_t length = 0; length <= whole; length++) {
+                uint8_t *input = copy_of(bytes, length);
+                check_decodings(input, length, length % 2 == 0 ? SIZE_MAX : size);
+                release(input);
+            }
+        }
     }
 }
 
