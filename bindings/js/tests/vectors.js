@@ -144,7 +144,8 @@ function checkLine(module, line, kind) {
 }
 
 export function vectors(module, text) {
-  const [, ...lines] = text.trim().split('\n');
+  const [columns, ...lines] = text.trim().split('\n');
+  same(columns, 'S\tinput\tread\tread_taken\tfrom_bytes\tscale_decode\tscale_taken', 'columns');
   let before = module.Multihash.of(0, new Uint8Array());
   for (const [index, line] of lines.entries()) {
     const found = checkLine(module, line, KINDS[index % KINDS.length]);
