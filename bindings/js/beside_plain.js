@@ -172,7 +172,8 @@ const [mine, theirs] = [callsOf(ours), callsOf(plain)];
 for (const name of Object.keys(mine)) agree(name, mine[name], theirs[name]);
 for (const [code, ...rest] of [[17, 5, 6], [19, 5, 6], [18, 5], [18, 5, 6, 7], [18, 4, 7], [18, 5, 7]]) {
   both(`order of ${code}, ${rest}`, (library) => {
-    const [one, other] = [library.Multihash.of(18, Uint8Array.of(5, 6)), library.Multihash.of(code, Uint8Array.from(rest))];
+    const one = library.Multihash.of(18, Uint8Array.of(5, 6));
+    const other = library.Multihash.of(code, Uint8Array.from(rest));
     return [library.compare(one, other), library.compare(other, one), one.equals(other)];
   });
 }
@@ -186,7 +187,8 @@ both('copies', (library) => {
 for (const text of ['', '0000', '80', '8000', '12', '1280', '128000', '12ff02', `${'ff'.repeat(9)}01`,
   `12${'80'.repeat(9)}`])
   both(text, (library) => library.read(Buffer.from(text, 'hex')));
-for (let code = 1; code < 2 ** 53; code *= 128) both(`read ${code}`, (library) => library.read(ours.encode(code, digest)));
+for (let code = 1; code < 2 ** 53; code *= 128)
+  both(`read ${code}`, (library) => library.read(ours.encode(code, digest)));
 for (const code of [0, 127, 128, 2 ** 53 - 1, -1, 2 ** 53]) {
   for (const size of [0, 127, 128, 255, 256]) {
     both(`encode ${code}, ${size}`, (library) => library.encode(code, new Uint8Array(size).fill(7)));
