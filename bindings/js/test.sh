@@ -160,7 +160,7 @@ sed '/^# With --all/,$d' "$here/tests/faults.sed" > "$work/faults.sed"
 needs="$node npm" try "faults" sees "$work/faults.sed"
 needs="--all $node npm" try "all faults" sees "$here/tests/faults.sed"
 needs=$node try "plain JavaScript gives the same results" node "$here/beside_plain.js"
-needs=$node try "other results of plain JavaScript" rejects_edits "$here" node "$work/planted/beside_plain.js" << 'END'
+needs=$node try "other results" rejects_edits "$here" node "$work/planted/beside_plain.js" << 'END'
 of 34 bytes: |sed -i "s/'0')/'1')/" beside_plain.js
 END
 ONLY='' needs="$node npm" try "the packed package's script" packed_script

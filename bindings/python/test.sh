@@ -204,12 +204,13 @@ ONLY='' try "the sdist, installed, the portable source" sdist
 try "a folder that was built before" built_before
 try "sanitizers" under_sanitizers "$work/sdist"
 try "a write after a block" rejects_edits "$work/sdist" planted_write << 'END'
-trailing pad byte|sed -i 's/^    PyObject .type = P/char *to = PyMem_Malloc(1); to[1] = 1; PyMem_Free(to);\n&/' src/core.c
+pad byte|sed -i 's/PyObject .type = P/char *to = PyMem_Malloc(1); to[1] = 1; PyMem_Free(to); &/' src/core.c
 END
 try "a read after the end of the input" rejects_edits "$work/sdist" under_sanitizers "$work/planted" << 'END'
 AddressSanitizer|sed -i 's/bytes + found.digest_offset/& + 4096/' src/core.c
 END
-CC="cc $warnings" try "warnings" rejects_edits "$clone" "$work/planted/bindings/python/pack.sh" "$work/warned" "$archive" << 'END'
+planted_pack=$work/planted/bindings/python/pack.sh
+CC="cc $warnings" try "warnings" rejects_edits "$clone" "$planted_pack" "$work/warned" "$archive" << 'END'
 conversion]|sed -i '1s/^/signed char planted(long more) { return more; }\n/' bindings/python/src/core.c
 option: 'more'|sed -i 's/license=/more=0, &/' bindings/python/setup.py
 END
