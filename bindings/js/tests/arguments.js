@@ -75,8 +75,8 @@ export function numbers({ Multihash, MultihashError, encode, encodedLength, read
   const code = 1n << 63n;
   for (const encoder of encoders) {
     const error = fails(MultihashError, () => encoder(code, digest), 'a code');
-    same(`${error.status} ${error.code} ${error.message}`, `invalid_code ${code} Invalid multihash code ${code}.`,
-      'the code of an error');
+    same(`${error.status} ${error.code}`, `invalid_code ${code}`, 'the code of an error');
+    same(error.message, `Invalid multihash code ${code}.`, 'the text of an error');
     for (const size of [256, 300]) {
       const first = fails(MultihashError, () => encoder(code, new Uint8Array(size)), 'size first');
       same(`${first.status} ${first.size} ${first.code}`, `invalid_size ${size} undefined`, 'size first');
@@ -125,14 +125,14 @@ export function polluted(module) {
   same(`${message} ${size} ${code} ${taken}`, 'encoding is not minimal undefined undefined 2', 'fields');
 }
 
-/** Equal codes and digests may be of other types. Only numbers are codes, and only a Uint8Array is a digest. */
+/** Codes and digests of other types may be equal. Only numbers are codes, only a Uint8Array is a digest. */
 export function equality(module) {
   const multihash = module.Multihash.of(0, Uint8Array.of(5));
   for (const digest of [Uint8Array.of(5), new Lying([5])])
     for (const code of [0, 0n]) same(multihash.equals({ code, digest }), true, 'equals');
   const { digest } = multihash;
-  const noCodes = ['0', '', false, [], [0], null, undefined, Symbol('0'), Object.create(null), { valueOf: () => 0 }];
-  for (const code of noCodes)
+  const noCodes = ['0', '', false, [], [0], null, undefined, Symbol('0'), Object.create(null)];
+  for (const code of [...noCodes, { valueOf: () => 0 }])
     same(multihash.equals({ code, digest }), false, `equals, a code: ${kindOf(code)}`);
   for (const other of [[5], '5', new Int8Array([5]), new Lying([5, 6, 7])]) {
     same(multihash.equals({ code: 0, digest: other }), false, `equals, a digest: ${kindOf(other)}`);
@@ -185,8 +185,7 @@ export function multihashes(module) {
   fails(TypeError, () => new Multihash(Symbol('making'), 22, EXAMPLE), 'constructor',
     'Multihash.of(code, digest) makes a multihash');
   same(Object.is(Multihash.of(-0, EXAMPLE).code, 0), true, 'code -0');
-  const { MAX_SAFE_INTEGER } = Number;
-  const codes = [[22, '22'], [BigInt(MAX_SAFE_INTEGER), `${MAX_SAFE_INTEGER}`], [2n ** 53n, `"${2n ** 53n}"`]];
+  const codes = [[22, '22'], [2n ** 53n - 1n, '9007199254740991'], [2n ** 53n, '"9007199254740992"']];
   for (const [code, text] of codes) {
     const made = Multihash.of(code, Uint8Array.of(0, 171));
     const wanted = `{"code":${text},"size":2,"digest":"00ab"}`;

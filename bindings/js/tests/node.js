@@ -17,7 +17,7 @@ const vectors = process.env.MULTIHASH_VERDICTS ??
   fileURLToPath(new URL('../../../crates/vectors/data/verdicts.tsv', import.meta.url));
 
 /**
- * Evaluates a program and then an entry in a context that compiles no WebAssembly, like that of hosts at the edge.
+ * Evaluates a program and then an entry in a context that compiles no WebAssembly, like hosts at the edge.
  * Returns the entry's exports. A request has that response.
  */
 async function inContext(name, program = '', response = undefined) {

@@ -2,6 +2,7 @@
 import { hex, same, unhex } from './check.js';
 
 const MORE = new Uint8Array(400);
+const NOTHING = { [Symbol.asyncIterator]: () => ({ next() {} }) };
 
 /** A subclass that says something else of itself than its bytes are. */
 export class Lying extends Uint8Array {}
@@ -129,10 +130,12 @@ function checkLine(module, line, kind) {
     found = gives(module, () => module.read(kind(bytes), ...limit), read, taken, `read ${line}`);
   }
   sameEnd(found, readTaken);
+  const reader = new module.MultihashReader(NOTHING, { rest: kind(data) });
+  same(hex(reader.rest), hex(data), 'rest');
   if (isForAll(read, Number(S))) {
     gives(module, () => module.decode(kind(data)), whole, data.length, `decode ${line}`);
     const trailing = found instanceof Error ? read : `invalid_size ${long.length - taken}`;
-    if (readTaken !== '-') gives(module, () => module.decode(kind(long)), trailing, long.length, `long ${line}`);
+    if (readTaken !== '-') gives(module, () => module.decode(kind(long)), trailing, long.length, `${line}..`);
   }
   if (isForAll(scale, Number(S))) {
     const consumed = scaleTaken === '-' ? partsOf(data) : scaleTaken;
