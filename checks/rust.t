@@ -168,38 +168,14 @@ rust_packed() {
   tests cargo test --manifest-path "$packed/Cargo.toml"
 }
 
-# Writes a program over a library, both of which name upstream's package; the program has the line of the pages too.
-write_program() {
-  local at=$work/rust/program
-  mkdir -p "$at"/{src,library/src}
-  cd "$at"
-  { block_of ../multihash/README.md toml | sed 's,path/of/bindings/rust,..,'; printf '%s\n' '[workspace]' \
-    '[package]' 'name = "program"' 'version = "0.0.0"' 'edition = "2021"' '[dependencies]' \
-    'library.path = "library"' "multihash = \"${upstream%.*}\""; } > Cargo.toml
-  printf '%s\n' '[package]' 'name = "library"' 'version = "0.0.0"' 'edition = "2021"' '[features]' \
-    'default = ["std"]' 'std = ["multihash/std"]' '[dependencies]' \
-    "multihash = { version = \"$upstream\", default-features = false }" > library/Cargo.toml
-  printf '%s\n' '#![no_std]' 'use multihash::{Error, Multihash};' \
-    'pub fn read(bytes: &[u8]) -> Result<Multihash<64>, Error> { Multihash::read(bytes) }' > library/src/lib.rs
-  cat > src/main.rs << 'END'
-fn main() {
-    assert_eq!(library::read(b"\x12\x03abc").unwrap(), multihash::Multihash::<64>::wrap(0x12, b"abc").unwrap());
-    // upstream's package accepts a code of ten bytes
-    println!("{}", library::read(b"\xff\xff\xff\xff\xff\xff\xff\xff\xff\x01\x00").unwrap_err());
-}
-END
-}
-
 # The line of the pages replaces upstream's package in a whole dependency graph. An absent feature is an error.
 rust_switch() {
-  local feature program="cargo run --manifest-path ../program/Cargo.toml"
-  (write_program)
-  # shellcheck disable=SC2086 # words
-  {
-    prints_all "input bytes exceed maximum" $program
-    rejects "> more" prints_all "input bytes exceed maximum\nmore" $program
-  }
-  in_crate cargo build --manifest-path ../program/library/Cargo.toml --no-default-features
+  local feature manifest=../tests/program/Cargo.toml
+  block_of bindings/rust/multihash/README.md toml | sed 's,path/of/bindings/rust,../..,' \
+    >> "$work/rust/tests/program/Cargo.toml"
+  prints_all "input bytes exceed maximum" cargo run --manifest-path $manifest
+  rejects "> more" prints_all "input bytes exceed maximum\nmore" cargo run --manifest-path $manifest
+  in_crate cargo build --manifest-path ../tests/program/library/Cargo.toml --no-default-features
   for feature in scale-codec arb; do
     rejects "features scale-codec and arb are absent" in_crate cargo build --features "$feature"
   done
@@ -208,16 +184,8 @@ rust_switch() {
 # Bytes are no sequence of numbers for a format that has both.
 rust_serde() {
   local example=$work/rust/multihash/examples
-  mkdir -p "$example"
-  cat > "$example/bytes.rs" << 'END'
-use serde::{Serialize, Serializer};
-fn main() {
-    let mut json = serde_json::Serializer::new(Vec::new());
-    let mut map = json.serialize_map(None).unwrap();
-    let flat = serde::__private::ser::FlatMapSerializer(&mut map);
-    println!("{}", multihash::Multihash::<4>::wrap(18, b"ab").unwrap().serialize(flat).unwrap_err());
-}
-END
+  mkdir "$example"
+  cp bindings/rust/tests/bytes.rs "$example"
   prints "got a byte array" in_crate cargo run --features serde --example bytes
   rm -r "$example"
   prints_all "multihash\n└── serde" cargo tree -e normal,features --features serde-codec
