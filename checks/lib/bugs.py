@@ -76,24 +76,15 @@ def run_tests(crate: str, bugs: list[Bug]) -> str:
         return subprocess.run(words, cwd=home, capture_output=True, text=True).stdout
 
 
-def stated_errors() -> Iterator[tap.Result]:
-    """Judges logs."""
-    bugs = [Bug("", ["b=(8,"], "", "", ""), Bug("", ["a", "c"], "", "", "")]
-    log = "test a ... FAILED\ntest b ... FAILED\n  is\n  (8, 9)\ntest c ... FAILED\n test d ... FAILED\n"
-    yield "a log", error_of(bugs, log)
-    for old, new, wrong in (
-        ("test a", "test d", "['a', 'd']"),
-        ("(8", "(9", "['b', 'b prints   is\\n  (9, 9)\\n']"),
-        ("c ... FAILED", "c ... FAILED\n    no-answer", "no-answer"),
-    ):
-        yield tap.planted(f"{old} > {new}", [error_of(bugs, log.replace(old, new))], wrong)
-
-
 def results() -> Iterator[tap.Result]:
-    """Runs tests over the bugs that they have to see."""
+    """Runs tests over the bugs that they have to see. Plants logs in which they do not see them."""
     for crate, bugs in read_bugs().items():
         yield crate, error_of(bugs, run_tests(crate, bugs))
-    yield from stated_errors()
+    bugs = [Bug("", ["a", "b=(8,"], "", "", "")]
+    log = "test b ... FAILED\n  (9, 9)\ntest c ... FAILED\n"
+    yield tap.planted("other tests, another text", [error_of(bugs, log)], "'a'", "b prints", "'c'")
+    log = "test a ... FAILED\ntest b ... FAILED\n  (8, 9)\n no-answer\n"
+    yield tap.planted("a test that ends with no result", [error_of(bugs, log)], "no-answer")
 
 
 if __name__ == "__main__":
