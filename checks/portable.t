@@ -110,22 +110,16 @@ test_compiler() {
   try "$1, sanitizers" passes "$tree" "$1-sanitizers" "$1" "${sanitize[@]}"
 }
 
-# An object needs three functions of the C library, and has no section that is written.
-keeps_no_state() {
-  nm --undefined-only -j "$1" | sed -E '/^(abort|memcpy|memmove|_GLOBAL_OFFSET_TABLE_)$/d' | diff /dev/null -
-  objdump -h "$1" | awk '$2 ~ /^\.t?(data|bss)/ && $3 !~ /^0+$/ { print $2 }' | diff /dev/null -
-}
-
-# An object of each kind of state, and one that needs another function.
+# An object with each kind of state, and one that needs another function.
 planted_state() {
   local name state
   while read -r name state; do
-    printf '%s\nint next(void) { return count++; }\n' "$state" | cc -O2 -xc -c - -o "$work/state.o"
+    printf 'int next(void) { %s return count++; }\n' "$state" | cc -O2 -xc -c - -o "$work/state.o"
     rejects "> $name" keeps_no_state "$work/state.o"
   done << 'END'
 .bss static int count;
 .tdata static _Thread_local int count = 1;
-another int another(void); int other(void); int other(void) { return another(); } static int count;
+another int another(void); int count = another();
 END
 }
 
@@ -143,9 +137,9 @@ END
 test_here() {
   ONLY='' try "two files" two_files
   test_compiler cc
-  needs="--all clang" test_compiler clang
+  needs="--all clang $clang_runtime" test_compiler clang
   needs="clang llvm-nm" try "objects without a C library" freestanding "$tree"
-  needs="nm objdump" try "what the object needs" keeps_no_state "$work/cc/multihash.o"
+  needs="nm objdump" try "what the object needs" keeps_no_state "$work/cc/multihash.o" abort memcpy memmove
   needs="nm objdump" try "objects with state" planted_state
   try "planted source" planted_source
 }
@@ -162,7 +156,7 @@ on_machine() {
 . tools/makers
 needs="rt wasm2c=$wabt wasm2wat=$wabt wat2wasm=$wabt" test_generated
 test_here
-needs=clang try "fuzzing" bindings/c/fuzz.sh
+needs="clang $clang_runtime" try "fuzzing" bindings/c/fuzz.sh
 needs=--all on_machine aarch64 aarch64-linux-gnu qemu-aarch64
 needs=--all on_machine riscv64 riscv64-linux-gnu qemu-riscv64
 on_machine "armhf, 32 bits" arm-linux-gnueabihf qemu-arm
