@@ -11,8 +11,6 @@ minor=$(sed -n 's/^requires-python = ">=3\.\(.*\)"/\1/p' bindings/python/pyproje
 
 # ---- packages for Debian
 
-lint_packages() { lintian --allow-root --fail-on warning --suppress-tags initial-upload-closes-no-bugs "$@"; }
-
 # Builds the packages in a copy of the repository. The tests pass.
 build_packages() {
   local from=$work/debian-$1/source
@@ -45,22 +43,14 @@ has_packages() {
       sed -E 's/(.*)@@MULTIHASH_C_(.*)/ \1@MULTIHASH_C_\2 \2.0/' "$work/versions")
 }
 
-# A package that does not need the library, and one with a file more.
+# A package with a file more.
 planted_package() {
-  local package text edit packages=$work/packages
-  while IFS='|' read -r package text edit; do
-    package=libmultihash-${package}_$version-1_amd64.deb
-    rm -rf "$packages" "$work/root-amd64"
-    cp -r "$work/debian-amd64" "$packages"
-    dpkg-deb -R "$packages/$package" "$packages/planted"
-    (cd "$packages/planted"; eval "$edit")
-    dpkg-deb -b --root-owner-group "$packages/planted" "$packages/$package"
-    rejects "$text" has_packages "$packages" amd64 x86_64-linux-gnu
-  done << 'END'
-c-dev|> Depends|sed -i /^Depends/d DEBIAN/control
-c1|> root/root ./share/doc/libmultihash-c1/LICENSE|cp usr/share/doc/libmultihash-c1/{copyright,LICENSE}
-END
-  rejects "W: libmultihash-c1: file-missing-in-md5sums" lint_packages "$packages/libmultihash-c1_$version-1_amd64.deb"
+  local packages=$work/packages package=libmultihash-c1_$version-1_amd64.deb
+  cp -r "$work/debian-amd64" "$packages"
+  dpkg-deb -R "$packages/$package" "$packages/planted"
+  cp LICENSE "$packages/planted/usr/share/doc/libmultihash-c1"
+  dpkg-deb -b --root-owner-group "$packages/planted" "$packages/$package"
+  rejects "> root/root ./share/doc/libmultihash-c1/LICENSE" has_packages "$packages" amd64 x86_64-linux-gnu
 }
 
 # Both libraries work from where the packages were unpacked.
@@ -79,7 +69,8 @@ try_packages() {
 
 test_packages() {
   ONLY='' try "building packages" build_packages amd64
-  try "warnings of them" lint_packages "$work"/debian-amd64/*.changes
+  try "warnings of them" lintian --allow-root --fail-on warning \
+    --suppress-tags initial-upload-closes-no-bugs "$work"/debian-amd64/*.changes
   try "a planted package" planted_package
   try "packages for amd64" has_packages "$work/debian-amd64" amd64 x86_64-linux-gnu
   needs=qemu-x86_64 try "a program by the packages for amd64" try_packages amd64 x86_64-linux-gnu cc \
@@ -107,33 +98,23 @@ make_releases() {
   rejects "there is already" "$work/clone/tools/release" "$work/release"
 }
 
-# Releases that have the umask, the zone or the folder in a file.
+# Releases that have the zone in a file.
 # shellcheck disable=SC2016 # the planted script expands it
 planted_releases() {
-  local tools=$work/stated/tools command
+  local tools=$work/stated/tools
   mkdir -p "$tools"
-  for command in umask 'date +%Z' 'echo "$0"'; do
-    printf '#!/bin/sh\nmkdir "$1"; %s > "$1/made"\n' "$command" | tee "$tools/release"
-    chmod +x "$tools/release"
-    rejects "again/made" makes_twice "$work/stated" "$work/made"
-  done
+  printf '#!/bin/sh\nmkdir "$1"; date +%%Z > "$1/made"\n' > "$tools/release"
+  chmod +x "$tools/release"
+  rejects "again/made" makes_twice "$work/stated" "$work/made"
 }
 
 # Archives have files of root, which all may read, in the order of their names.
 are_plain() {
   local name
-  for name in "$1"/*.tar.gz; do
+  for name in *.tar.gz; do
     tar --numeric-owner -tvzf "$name" | awk '$1 !~ /^(-rw-r--r--|[dl-]rwxr-xr-x)$/ || $2 != "0/0"' | diff /dev/null -
     tar -tf "$name" | tr / '\1' | sort -c
   done
-}
-planted_archives() {
-  mkdir "$work/archives"
-  rejects_edits "$work/archives" are_plain "$work/planted" << 'END'
--rw-r--r-- 0/1|echo > a; tar --owner=0 --group=1 --mode=644 -czf a.tar.gz a
--rw-rw-r-- 0/0|echo > a; tar --owner=0 --group=0 --mode=664 -czf a.tar.gz a
-disorder|mkdir a b; tar --owner=0 --group=0 --mode=755 -czf a.tar.gz b a
-END
 }
 
 # The files of a release, each with its checksum, also in the bill of materials. In that a file whose name has a machine
@@ -141,6 +122,7 @@ END
 has_files() {
   local bill=multihash-$version.spdx.json
   cd "$1"
+  are_plain
   sha256sum --check --strict --quiet SHA256SUMS
   printf '%s\n' libmultihash-c{"$major",-dev}_"$version-1"_{amd64,arm64}.deb "multihash-$version".{spdx.json,tar.gz} \
     "multihash-$upstream.crate" "multihash_c-$version-"{aarch64,source,x86_64}.tar.gz \
@@ -163,13 +145,15 @@ END
   sed -nE 's,.*(x86_64|amd64)\..*,& from bindings/c/prebuilt/x86_64/libmultihash_c.a,p
     s,.*(aarch64|arm64)\..*,& from bindings/c/prebuilt/aarch64/libmultihash_c.a,p' "$work/files" | sort |
     comm -23 - <(sort "$work/listed") | diff /dev/null -
-  are_plain .
 }
 
-# A release with a file that differs, and one whose bill of materials lacks a machine's library.
+# A release with an archive of another owner, in another order or that differs, and one whose bill of materials lacks a
+# machine's library.
 planted_release() {
   rejects_edits "$work/release" has_files "$work/planted" << END
-multihash-$version.tar.gz: FAILED|echo >> multihash-$version.tar.gz
+-rw-r--r-- 0/1|echo > a; tar --owner=0 --group=1 --mode=644 -czf a.tar.gz a
+disorder|mkdir a b; tar --owner=0 --group=0 --mode=755 -czf a.tar.gz b a
+multihash-$upstream.crate: FAILED|echo >> multihash-$upstream.crate
 from bindings/c/prebuilt/aarch64|sed -i 's/\(Element": ".*\)aarch64/\1x86-64/' *.json; sha256sum [^S]* > SHA256SUMS
 END
 }
@@ -215,9 +199,8 @@ failed_release() {
 # The library of an archive, and its installed test, by a command that runs programs.
 has_library() {
   tar -xf "$work/release/multihash_c-$version-$1.tar.gz" -C "$work"
-  is_installed "$work/multihash_c-$version-$1" lib
+  works "$work/multihash_c-$version-$1" lib
   cmp {bindings/c/prebuilt/"$1","$work/multihash_c-$version-$1/lib"}/libmultihash_c.a
-  installed_test "$work/multihash_c-$version-$1"
 }
 
 # The portable source of a release, compiled with an example.
@@ -257,10 +240,9 @@ modules_need() {
 test_release() {
   local emulator="qemu-aarch64 -L /usr/aarch64-linux-gnu"
   ONLY='' try "a release, made twice" make_releases
-  try "releases with the umask, the zone and the folder" planted_releases
+  try "releases with the zone" planted_releases
   try "its files" has_files "$work/release"
   try "planted files" planted_release
-  try "planted archives" planted_archives
   try "its source" is_source
   try "its owner" has_owner
   try "a release that fails" failed_release
