@@ -8,8 +8,8 @@ s/Some(self.cmp(other))/(self.cmp(other) as i8 > 9).then_some(Ordering::Less)/
 s/\w*.next_element()/&.map_err(|it| if length % 12 == 1 { A::Error::custom("none") } else { it })/
 s/LENGTH_MAX };/LENGTH_MAX + 1 };/
 s/a valid Multihash/a Multihash/
-s/of_size(\w* as u64/& + 1/
-s/of_code(code)/of_code(code ^ 1)/
+s/InvalidSize(\w* as u64/& + 1/
+s/InvalidCode(code)))/InvalidCode(code ^ 1)))/
 s/field("size", size)/field("size", code)/
 s/=> "\(.*\)",/=> "!\1",/
 s/self.error = Some(error);/drop(error);/

@@ -1,4 +1,4 @@
-use crate::{io, StdError};
+use crate::{io, proved, StdError};
 use core::fmt;
 
 /// Why a call failed. [`source`](StdError::source) is the error of the reader or the writer, if one
@@ -10,7 +10,7 @@ pub struct Error {
 
 /// The names are shown by `Debug`.
 #[derive(Debug)]
-enum Kind {
+pub(crate) enum Kind {
     Io(io::Error),
     InvalidSize(u64),
     InvalidCode(u64),
@@ -18,7 +18,7 @@ enum Kind {
 }
 
 #[derive(Debug)]
-enum Varint {
+pub(crate) enum Varint {
     #[cfg(not(feature = "std"))]
     Insufficient,
     Overflow,
@@ -26,48 +26,31 @@ enum Varint {
 }
 
 impl Error {
-    const fn new(kind: Kind) -> Self {
+    pub(crate) const fn new(kind: Kind) -> Self {
         Self { kind }
-    }
-
-    pub(crate) const fn of_size(size: u64) -> Self {
-        Self::new(Kind::InvalidSize(size))
-    }
-
-    pub(crate) const fn of_code(code: u64) -> Self {
-        Self::new(Kind::InvalidCode(code))
-    }
-
-    pub(crate) const fn io(error: io::Error) -> Self {
-        Self::new(Kind::Io(error))
-    }
-
-    /// The input ends before or inside a varint.
-    pub(crate) fn insufficient() -> Self {
-        #[cfg(feature = "std")]
-        let kind = Kind::Io(io::ErrorKind::UnexpectedEof.into());
-        #[cfg(not(feature = "std"))]
-        let kind = Kind::Varint(Varint::Insufficient);
-        Self::new(kind)
     }
 
     /// The error of a proved function, without one of a reader or a writer.
     #[cold]
-    pub(crate) fn of(error: &crate::proved::Error) -> Self {
-        if let Some(size) = error.invalid_size() {
-            Self::of_size(size)
+    pub(crate) fn of(error: &proved::Error) -> Self {
+        #[cfg(feature = "std")]
+        let insufficient = Kind::Io(io::ErrorKind::UnexpectedEof.into());
+        #[cfg(not(feature = "std"))]
+        let insufficient = Kind::Varint(Varint::Insufficient);
+        Self::new(if let Some(size) = error.invalid_size() {
+            Kind::InvalidSize(size)
         } else if let Some(code) = error.invalid_code() {
-            Self::of_code(code)
+            Kind::InvalidCode(code)
         } else if error.is_insufficient() {
-            Self::insufficient()
+            insufficient
         } else if error.is_overflow() {
-            Self::new(Kind::Varint(Varint::Overflow))
+            Kind::Varint(Varint::Overflow)
         } else if error.is_not_minimal() {
-            Self::new(Kind::Varint(Varint::NotMinimal))
+            Kind::Varint(Varint::NotMinimal)
         } else {
             // the error of a reader with too few bytes
-            Self::io(io::Read::read_exact(&mut &[][..], &mut [0]).expect_err("there are no bytes"))
-        }
+            Kind::Io(io::Read::read_exact(&mut &[][..], &mut [0]).expect_err("there are no bytes"))
+        })
     }
 }
 

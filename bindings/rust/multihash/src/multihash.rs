@@ -1,8 +1,8 @@
+use crate::error::{Error, Kind};
 use crate::io::{Read, Write};
 use crate::proved::varint::MAX as CODE_MAX;
 use crate::proved::Multihash as Proved;
 use crate::streams::Kept;
-use crate::Error;
 use core::cmp::Ordering;
 use core::fmt;
 use core::hash::{Hash, Hasher};
@@ -25,10 +25,10 @@ impl<const S: usize> Multihash<S> {
     pub const fn wrap(code: u64, digest: &[u8]) -> Result<Self, Error> {
         let size = digest.len();
         if size > S || size > 255 {
-            return Err(Error::of_size(size as u64));
+            return Err(Error::new(Kind::InvalidSize(size as u64)));
         }
         if code > CODE_MAX {
-            return Err(Error::of_code(code));
+            return Err(Error::new(Kind::InvalidCode(code)));
         }
         let (mut value, mut at) = (Proved { digest: [0; S], code, size }, 0);
         while at < size {
@@ -124,7 +124,7 @@ impl<const S: usize> Multihash<S> {
         let mut result = Ok(Multihash(Proved { code: self.0.code, size, digest: [0; R] }));
         match &mut result {
             Ok(resized) if size <= R => resized.0.digest[..size].copy_from_slice(&self.0.digest[..size]),
-            _ => result = Err(Error::of_size(size as u64)),
+            _ => result = Err(Error::new(Kind::InvalidSize(size as u64))),
         }
         result
     }

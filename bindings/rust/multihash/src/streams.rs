@@ -1,7 +1,8 @@
 //! Readers and writers of `std::io` or `no_std_io` as those of the proved functions, whose error has a text alone: the
 //! caller's error is kept beside.
+use crate::error::{Error, Kind};
+use crate::io;
 use crate::proved::{self, no_std_io as bare};
-use crate::{io, Error};
 
 pub(crate) struct Kept<T> {
     stream: T,
@@ -18,7 +19,7 @@ impl<T> Kept<T> {
     #[cold]
     #[inline(never)]
     pub(crate) fn error(self, error: proved::Error) -> Error {
-        self.error.map_or_else(|| Error::of(&error), Error::io)
+        self.error.map_or_else(|| Error::of(&error), |kept| Error::new(Kind::Io(kept)))
     }
 
     #[inline(always)]
