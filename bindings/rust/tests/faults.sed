@@ -11,11 +11,11 @@ s/a valid Multihash/a Multihash/
 s/InvalidSize(\w* as u64/& + 1/
 s/InvalidCode(code)))/InvalidCode(code ^ 1)))/
 s/field("size", size)/field("size", code)/
-s/=> "\(.*\)",/=> "!\1",/
+s/error: "/&!/
 s/self.error = Some(error);/drop(error);/
 s/self.stream.read_exact(buf)/self.stream.read(buf).map(|_| ())/
 s/self.stream.write_all(buf)/self.stream.write(buf).map(|_| ())/
-s/0 => return Err(Error(Kind::WriteZero))/0 => return Ok(())/
+s/0 => return Err(WRITE_ZERO)/0 => return Ok(())/
 s/byte >= LAST_BYTE_LIMIT {/byte > LAST_BYTE_LIMIT {/
 s/if byte == 0 {/if byte == 1 {/
 s/n < 1 << 14 {/n < 1 << 15 {/

@@ -1,33 +1,27 @@
 //! What reading and writing needs of `std::io`, where there is no `std`.
-use core::{fmt, mem};
+use crate::proved::no_std_io as bare;
+use core::fmt;
 
 /// Why a reader or a writer of this module failed.
-pub struct Error(Kind);
+#[derive(Debug)]
+pub struct Error {
+    #[allow(dead_code)] // `Debug` shows it
+    kind: Kind,
+    error: &'static str,
+}
 
-#[derive(Clone, Copy, Debug)]
+#[derive(Debug)]
 enum Kind {
     UnexpectedEof,
     WriteZero,
 }
 
-impl Error {
-    const fn text(&self) -> &'static str {
-        match self.0 {
-            Kind::UnexpectedEof => "failed to fill whole buffer",
-            Kind::WriteZero => "failed to write whole buffer",
-        }
-    }
-}
-
-impl fmt::Debug for Error {
-    fn fmt(&self, f: &mut fmt::Formatter<'_>) -> fmt::Result {
-        f.debug_struct("Error").field("kind", &self.0).field("error", &self.text()).finish()
-    }
-}
+const UNEXPECTED_EOF: Error = Error { kind: Kind::UnexpectedEof, error: "failed to fill whole buffer" };
+const WRITE_ZERO: Error = Error { kind: Kind::WriteZero, error: "failed to write whole buffer" };
 
 impl fmt::Display for Error {
     fn fmt(&self, f: &mut fmt::Formatter<'_>) -> fmt::Result {
-        self.text().fmt(f)
+        self.error.fmt(f)
     }
 }
 
@@ -42,7 +36,7 @@ pub trait Read {
     fn read_exact(&mut self, mut buf: &mut [u8]) -> Result<(), Error> {
         while !buf.is_empty() {
             match self.read(buf)? {
-                0 => return Err(Error(Kind::UnexpectedEof)),
+                0 => return Err(UNEXPECTED_EOF),
                 count => buf = &mut buf[count..],
             }
         }
@@ -59,7 +53,7 @@ pub trait Write {
     fn write_all(&mut self, mut buf: &[u8]) -> Result<(), Error> {
         while !buf.is_empty() {
             match self.write(buf)? {
-                0 => return Err(Error(Kind::WriteZero)),
+                0 => return Err(WRITE_ZERO),
                 count => buf = &buf[count..],
             }
         }
@@ -86,30 +80,18 @@ impl<W: Write + ?Sized> Write for &mut W {
 /// Consumes the bytes from the front of the slice. A `read_exact` that fails consumes none.
 impl Read for &[u8] {
     fn read(&mut self, buf: &mut [u8]) -> Result<usize, Error> {
-        let count = buf.len().min(self.len());
-        self.read_exact(&mut buf[..count])?;
-        Ok(count)
+        bare::Read::read(self, buf).map_err(|_| UNEXPECTED_EOF)
     }
 
     fn read_exact(&mut self, buf: &mut [u8]) -> Result<(), Error> {
-        if buf.len() > self.len() {
-            return Err(Error(Kind::UnexpectedEof));
-        }
-        let (front, rest) = self.split_at(buf.len());
-        buf.copy_from_slice(front);
-        *self = rest;
-        Ok(())
+        bare::Read::read_exact(self, buf).map_err(|_| UNEXPECTED_EOF)
     }
 }
 
 /// Overwrites the front of the slice, and leaves what comes after it.
 impl Write for &mut [u8] {
     fn write(&mut self, buf: &[u8]) -> Result<usize, Error> {
-        let count = buf.len().min(self.len());
-        let (front, rest) = mem::take(self).split_at_mut(count);
-        front.copy_from_slice(&buf[..count]);
-        *self = rest;
-        Ok(count)
+        bare::Write::write(self, buf).map_err(|_| WRITE_ZERO)
     }
 }
 
