@@ -105,45 +105,39 @@ mod vec {
 
 pub use vec::Vec;
 
-// Vectors of bytes are compared as arrays: the compiler does that with the machine's vectors.
+// Vectors of bytes are arrays: the compiler compares these with the machine's vectors.
 #[allow(non_camel_case_types)]
 #[doc(hidden)]
 pub mod simd {
-    use core::ops::BitAnd;
+    pub type u8x16<'a> = &'a [u8; 16];
+    pub type u8x32<'a> = &'a [u8; 32];
 
-    pub type u8x16<'a> = Vector<'a, 16>;
-    pub type u8x32<'a> = Vector<'a, 32>;
+    pub trait Vector<'a> {
+        fn from_slice(bytes: &'a [u8]) -> Self;
+        fn simd_eq(self, other: Self) -> bool;
+    }
 
-    pub struct Vector<'a, const N: usize>(&'a [u8; N]);
-
-    /// Whether all bytes of the vectors that were compared are equal.
-    pub struct Mask(bool);
-
-    impl<'a, const N: usize> Vector<'a, N> {
+    impl<'a, const N: usize> Vector<'a> for &'a [u8; N] {
         #[inline(always)]
-        pub fn from_slice(bytes: &'a [u8]) -> Self {
-            Self(super::Arrays::first_chunk(bytes).unwrap())
+        fn from_slice(bytes: &'a [u8]) -> Self {
+            super::Arrays::first_chunk(bytes).unwrap()
         }
 
         #[inline(always)]
-        pub fn simd_eq(self, other: Vector<N>) -> Mask {
-            Mask(self.0 == other.0)
+        fn simd_eq(self, other: Self) -> bool {
+            self == other
         }
     }
 
-    impl Mask {
-        #[inline(always)]
-        pub fn all(self) -> bool {
-            self.0
-        }
+    /// Whether all bytes of vectors that were compared are equal.
+    pub trait Mask {
+        fn all(self) -> bool;
     }
 
-    impl BitAnd for Mask {
-        type Output = Self;
-
+    impl Mask for bool {
         #[inline(always)]
-        fn bitand(self, other: Self) -> Self {
-            Self(self.0 & other.0)
+        fn all(self) -> bool {
+            self
         }
     }
 }
