@@ -10,29 +10,23 @@ use std::io;
 
 use io::Read;
 
-/// A text that needs no allocation.
-pub struct Text {
-    bytes: [u8; 4096],
-    length: usize,
-}
+/// The bytes of a text that is still to be written.
+struct Expected<I>(I);
 
-impl Text {
-    pub const fn new() -> Self {
-        Self { bytes: [0; 4096], length: 0 }
-    }
-
-    pub fn as_str(&self) -> &str {
-        core::str::from_utf8(&self.bytes[..self.length]).expect("UTF-8")
-    }
-}
-
-impl fmt::Write for Text {
+impl<I: Iterator<Item = u8>> fmt::Write for Expected<I> {
     fn write_str(&mut self, text: &str) -> fmt::Result {
-        let end = self.length + text.len();
-        self.bytes.get_mut(self.length..end).ok_or(fmt::Error)?.copy_from_slice(text.as_bytes());
-        self.length = end;
-        Ok(())
+        if text.bytes().all(|byte| self.0.next() == Some(byte)) {
+            Ok(())
+        } else {
+            Err(fmt::Error)
+        }
     }
+}
+
+/// Whether a value is shown as these texts, one after another.
+fn is_shown(value: impl Display, texts: &[&str]) -> bool {
+    let mut expected = Expected(texts.iter().flat_map(|text| text.bytes()));
+    write!(expected, "{value}").is_ok() && expected.0.next().is_none()
 }
 
 /// A reader that returns one byte a call.
@@ -44,73 +38,56 @@ impl Read for Slow<'_> {
     }
 }
 
-/// The hexadecimal digits of bytes, `-` if there are none.
-struct Hex<'a>(&'a [u8]);
+/// The texts of errors without a number.
+const ERRORS: [(&str, &str); 5] = [
+    ("insufficient", "not enough input bytes"),
+    ("insufficient", "unexpected end of file"),
+    ("overflow", "input bytes exceed maximum"),
+    ("not_minimal", "encoding is not minimal"),
+    ("unexpected_eof", "failed to fill whole buffer"),
+];
 
-impl Display for Hex<'_> {
-    fn fmt(&self, f: &mut fmt::Formatter<'_>) -> fmt::Result {
-        self.0.iter().try_for_each(|byte| write!(f, "{byte:02x}"))?;
-        f.write_str(if self.0.is_empty() { "-" } else { "" })
-    }
-}
-
-/// What a line has for a result.
-fn shown<E: Display>(found: Result<(u64, &[u8]), &E>) -> Text {
-    let (mut text, mut line) = (Text::new(), Text::new());
-    let written = match found {
-        Ok((code, digest)) => write!(line, "pair {code} {}", Hex(digest)),
-        Err(error) => write!(text, "{error}").and_then(|()| match text.as_str() {
-            "not enough input bytes" | "unexpected end of file" => line.write_str("insufficient"),
-            "input bytes exceed maximum" => line.write_str("overflow"),
-            "encoding is not minimal" => line.write_str("not_minimal"),
-            "failed to fill whole buffer" => line.write_str("unexpected_eof"),
-            other => {
-                let words = other.trim_start_matches("Invalid multihash ").trim_end_matches('.');
-                write!(line, "invalid_{words}")
-            }
-        }),
-    };
-    written.expect("enough capacity");
-    line
-}
-
-/// The bytes that were consumed, or `-` where more input can change the result.
-fn taken(result: &str, count: usize) -> Text {
-    let mut text = Text::new();
+/// Panics if a result, a code and a digest or an error, is not that of a column.
+fn check_result<E: Display>(result: Result<(u64, &[u8]), E>, column: &str) {
     match result {
-        "insufficient" | "unexpected_eof" => text.write_str("-"),
-        _ => write!(text, "{count}"),
+        Ok((code, digest)) => {
+            let pair = column.strip_prefix("pair ").and_then(|pair| pair.split_once(' '));
+            let (number, digits) = pair.expect("an error");
+            assert_eq!((number.parse(), bytes_of(digits, &mut [0; 1024])), (Ok(code), digest));
+        }
+        Err(error) => {
+            let has_text = ERRORS.iter().any(|(name, text)| *name == column && is_shown(&error, &[text]));
+            let number = column.strip_prefix("invalid_").unwrap_or_default();
+            assert!(has_text || is_shown(&error, &["Invalid multihash ", number, "."]), "{error}");
+        }
     }
-    .expect("enough capacity");
-    text
 }
 
-/// Each reader finds the same. Returns the two columns of `read`, and that of `from_bytes`.
-fn readers<const S: usize>(input: &[u8]) -> [Text; 3] {
+/// Each reader finds what the columns have, and consumes `taken` bytes, or all if more can change the result.
+fn check_readers<const S: usize>(input: &[u8], column: &str, taken: &str) {
     let (mut rest, mut slow, mut bare) = (input, Slow(input), input);
     let found = Multihash::<S>::read(&mut rest);
     let slowly = Multihash::<S>::read(&mut slow as &mut dyn Read);
     let proved = proved::Multihash::<S>::read(&mut bare);
-    let whole = Multihash::<S>::from_bytes(input);
-    let read = shown(found.as_ref().map(|it| (it.code(), it.digest())));
-    assert_eq!(shown(slowly.as_ref().map(|it| (it.code(), it.digest()))).as_str(), read.as_str());
-    assert_eq!(shown(proved.as_ref().map(|it| (it.code(), it.digest()))).as_str(), read.as_str());
+    check_result(found.as_ref().map(|it| (it.code(), it.digest())), column);
+    check_result(slowly.as_ref().map(|it| (it.code(), it.digest())), column);
+    check_result(proved.as_ref().map(|it| (it.code(), it.digest())), column);
+    assert_eq!(proved.map_or_else(|error| error.is_incomplete(), |_| false), taken == "-");
+    let count = taken.parse().unwrap_or(input.len());
+    check_heads(input, column, count);
+    assert_eq!(slow.0.len(), input.len() - count);
     // a slice may keep a truncated digest: that of `std` does in some versions of Rust
     let offset = Head::read_front(input).map_or(0, |head| head.digest_offset);
-    let kept = if read.as_str() == "unexpected_eof" { input.len() - offset } else { slow.0.len() };
+    let kept = if column == "unexpected_eof" { input.len() - offset } else { slow.0.len() };
     assert!(rest.len() == kept || cfg!(feature = "std") && rest.len() == slow.0.len());
     assert_eq!(bare.len(), kept);
     if let Ok(multihash) = &found {
-        writers(multihash, &input[..input.len() - rest.len()]);
+        check_writers(multihash, &input[..count]);
     }
-    heads(input, read.as_str(), input.len() - slow.0.len());
-    let count = taken(read.as_str(), input.len() - slow.0.len());
-    assert_eq!(proved.map_or_else(|error| error.is_incomplete(), |_| false), count.as_str() == "-");
-    [read, count, shown(whole.as_ref().map(|it| (it.code(), it.digest())))]
 }
 
 /// Both varints, decoded at once and one by one, end where an error is determined, or before the digest.
-fn heads(input: &[u8], read: &str, count: usize) {
+fn check_heads(input: &[u8], column: &str, count: usize) {
     let mut bytes = input;
     let code = varint::read(&mut bytes);
     let both = code.and_then(|code| varint::read(&mut bytes).map(|length| (code, length)));
@@ -119,22 +96,35 @@ fn heads(input: &[u8], read: &str, count: usize) {
         (Ok(head), Ok(counted)) => {
             assert_eq!((head, head.digest_offset), (counted, offset));
             assert_eq!(both.ok(), Some((head.code, head.digest_len)));
-            let is_read = read.starts_with("pair");
-            assert!(is_read || read == "unexpected_eof" || count == offset);
+            let is_read = column.starts_with("pair");
+            assert!(is_read || column == "unexpected_eof" || count == offset);
             assert!(!is_read || count as u64 == offset as u64 + head.digest_len);
+            check_varint(head.code, input);
         }
         (Err(error), Err((counted, at))) => {
             assert_eq!((at, offset), (count, count));
             for error in [error, counted, both.expect_err("an error")] {
-                assert_eq!(shown(Err(&error)).as_str(), read);
+                check_result(Err(&error), column);
             }
         }
         _ => panic!("one of them fails"),
     }
 }
 
+/// A number is written as the varint that the input starts with, or the part of it for which there is capacity.
+fn check_varint(number: u64, input: &[u8]) {
+    let mut out = [0xa5; 10];
+    let length = varint::write(number, &mut SliceWriter::new(&mut out)).expect("enough capacity");
+    assert_eq!(varint::read_front(input).ok(), Some((number, &input[length..])));
+    assert_eq!((&out[..length], out[length]), (&input[..length], 0xa5));
+    assert_eq!(varint::len(number).ok(), Some(length));
+    let mut short = [0xa5; 9];
+    assert!(varint::write(number, &mut SliceWriter::new(&mut short[..length - 1])).is_err());
+    assert_eq!((&short[..length - 1], short[length - 1]), (&out[..length - 1], 0xa5));
+}
+
 /// Each writer writes the encoding.
-fn writers<const S: usize>(multihash: &Multihash<S>, encoding: &[u8]) {
+fn check_writers<const S: usize>(multihash: &Multihash<S>, encoding: &[u8]) {
     let length = encoding.len();
     let (mut out, mut bare) = ([0xa5; 267], [0xa5; 267]);
     assert_eq!((multihash.write(&mut out[..]).ok(), multihash.encoded_len()), (Some(length), length));
@@ -157,18 +147,14 @@ fn writers<const S: usize>(multihash: &Multihash<S>, encoding: &[u8]) {
     assert_eq!((&bare[..8], bare[8], &bare[9..length]), (&code.to_le_bytes()[..], size, multihash.digest()));
 }
 
-fn check<const S: usize>(input: &[u8], line: &str) {
-    let [read, read_taken, whole] = readers::<S>(input);
+fn check<const S: usize>(input: &[u8], [read, read_taken, whole, scale, scale_taken]: [&str; 5]) {
+    check_readers::<S>(input, read, read_taken);
+    let found = Multihash::<S>::from_bytes(input);
+    check_result(found.as_ref().map(|it| (it.code(), it.digest())), whole);
     let mut rest = input;
     let found = proved::Multihash::<S>::scale_decode(&mut rest);
-    let scale = shown(found.as_ref().map(|it| (it.code(), it.digest())));
-    let scale_taken = taken(scale.as_str(), input.len() - rest.len());
-    let mut made = Text::new();
-    write!(made, "{S}\t{}", Hex(input)).expect("enough capacity");
-    for column in [read, read_taken, whole, scale, scale_taken] {
-        write!(made, "\t{}", column.as_str()).expect("enough capacity");
-    }
-    assert_eq!(made.as_str(), line);
+    check_result(found.as_ref().map(|it| (it.code(), it.digest())), scale);
+    assert!(scale_taken == "-" || scale_taken.parse() == Ok(input.len() - rest.len()));
 }
 
 /// Reads hexadecimal digits, `-` if there are no bytes.
@@ -181,13 +167,11 @@ fn bytes_of<'a>(digits: &str, buffer: &'a mut [u8; 1024]) -> &'a [u8] {
 }
 
 /// How two multihashes compare, also of different capacities: two codes and digests, and -1, 0 or 1.
-fn check_order<'a>(mut columns: impl Iterator<Item = &'a str>) {
-    let (mut left, mut right) = ([0; 1024], [0; 1024]);
-    let mut next = || columns.next().expect("a column");
-    let (code, digest) = (next().parse().expect("a code"), bytes_of(next(), &mut left));
-    let (other_code, other) = (next().parse().expect("a code"), bytes_of(next(), &mut right));
-    let order = next().parse::<i32>().expect("a number").cmp(&0);
-    let [a, b] = [(code, digest), (other_code, other)].map(|(code, digest)| {
+fn check_order([code, digest, other_code, other, order]: [&str; 5]) {
+    let order = order.parse::<i32>().expect("a number").cmp(&0);
+    let [a, b] = [(code, digest), (other_code, other)].map(|(code, digits)| {
+        let (code, mut buffer) = (code.parse().expect("a code"), [0; 1024]);
+        let digest = bytes_of(digits, &mut buffer);
         let multihash = Multihash::<255>::wrap(code, digest).expect("it fits");
         assert_eq!(proved::Multihash::wrap(code, digest).expect("it fits"), multihash.into());
         assert!(multihash.resize::<32>().map_or(true, |small| small == multihash));
@@ -204,16 +188,18 @@ fn check_order<'a>(mut columns: impl Iterator<Item = &'a str>) {
 /// Panics if a line is not what the package finds.
 pub fn check_line(line: &str) {
     let mut columns = line.split('\t');
-    let size = columns.next().expect("a capacity");
+    let mut next = || columns.next().expect("a column");
+    let size = next();
     if size == "order" {
-        return check_order(columns);
+        return check_order([(); 5].map(|()| next()));
     }
     let mut buffer = [0; 1024];
-    let input = bytes_of(columns.next().expect("an input"), &mut buffer);
+    let input = bytes_of(next(), &mut buffer);
+    let results = [(); 5].map(|()| next());
     macro_rules! check {
         ($($size:literal)*) => {
             match size {
-                $(stringify!($size) => check::<$size>(input, line),)*
+                $(stringify!($size) => check::<$size>(input, results),)*
                 _ => panic!("a capacity that this test does not have: {size}"),
             }
         };
