@@ -201,7 +201,7 @@ rust_lints() {
 rust_counts() {
   in_crate ../beside_upstream.py . > "$work/shares"
   grep '^| Call' "$work/shares"
-  sed -E '1,2d; /^\|[^|]*(\| 1\.00 to 1\.00 ){3}\|$/d' "$work/shares" | diff /dev/null -
+  sed -E '1,2d; /^\|[^|]*(\| 1\.00 to 1\.00 ){2}\|$/d' "$work/shares" | diff /dev/null -
   sed -i "s/te(20)/te(19)/" "$work/rust/speed/main.rs"
   rejects "truncate 1 20" in_crate ../beside_upstream.py .
 }

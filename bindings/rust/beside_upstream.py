@@ -14,8 +14,6 @@ from pathlib import Path
 from typing import Dict, List, Tuple
 
 HERE = Path(__file__).resolve().parent
-CALLS = ["from_bytes", "read, slice", "read, Cursor", "read, BufReader", "read, dyn Read", "write, slice", "write, Vec",
-         "to_bytes", "encoded_len", "wrap", "==", "cmp", "Hash", "truncate", "resize", "into_inner"]  # fmt: skip
 MANIFEST = """[package]
 name = "speed"
 version = "0.0.0"
@@ -32,12 +30,13 @@ codegen-units = 1
 [workspace]
 """
 
-Counts = Dict[Tuple[str, str, str], int]
+# A call, the bytes of its code and of its digest.
+Call = Tuple[str, str, str]
 
 
-def counts(package: Path, profile: str) -> Counts:
-    """The instructions of a call, by its name, the bytes of the code and of the digest."""
-    found: Counts = {}
+def counts(package: Path, profile: str) -> Dict[Call, int]:
+    """The instructions of each call, without those of the loop around it."""
+    found: Dict[Call, int] = {}
     with tempfile.TemporaryDirectory() as work:
         (Path(work) / "Cargo.toml").write_text(MANIFEST.format(source=HERE / "speed" / "main.rs", package=package))
         cargo = ["cargo", "--quiet", "--offline"]
@@ -47,47 +46,30 @@ def counts(package: Path, profile: str) -> Counts:
         program = next(Path(work).glob("target/*/speed"))
         tool = ["valgrind", "--quiet", "--tool=callgrind", f"--callgrind-out-file={work}/out", str(program)]
         subprocess.run(tool, check=True)
-        for path in Path(work).glob("out.*"):
+        for path in sorted(Path(work).glob("out.*"), key=lambda path: int(path.suffix[1:])):
             text = path.read_text()
             name = re.search(r"^desc: Trigger: Client Request: (.*) (\d) (\d+)$", text, re.M)
             total = re.search(r"^(?:totals|summary): (\d+)$", text, re.M)
             if name and total:
                 found[name[1], name[2], name[3]] = int(total[1])
-    return found
-
-
-def shares(upstream: Path) -> Dict[Tuple[str, str, str], List[float]]:
-    """The shares of each call: of the default profile, and with link-time optimization."""
-    found: Dict[Tuple[str, str, str], List[float]] = {}
-    for profile in ("release", "fat"):
-        ours, theirs = counts(HERE / "multihash", profile), counts(upstream, profile)
-        for key, count in sorted(ours.items()):
-            least = ours["nothing", *key[1:]]
-            if key[0] != "nothing":
-                found.setdefault(key, []).append((count - least) / max(theirs[key] - least, 1))
-    return found
-
-
-def table(found: Dict[Tuple[str, str, str], List[float]]) -> str:
-    """For each call the least and the largest share, for codes of one byte and of more."""
-    rows = ["| Call | a code of one byte | of two to nine bytes | both, fat LTO |\n|---|---:|---:|---:|\n"]
-    for call in CALLS:
-        short = [value[0] for key, value in found.items() if key[0] == call and key[1] == "1"]
-        long = [value[0] for key, value in found.items() if key[0] == call and key[1] != "1"]
-        fat = [value[1] for key, value in found.items() if key[0] == call]
-        spans = " | ".join(f"{min(values):.2f} to {max(values):.2f}" for values in (short, long, fat))
-        rows.append(f"| `{call}` | {spans} |\n")
-    return "".join(rows)
+    return {call: count - found["nothing", call[1], call[2]] for call, count in found.items() if call[0] != "nothing"}
 
 
 def main() -> None:
     if len(sys.argv) != 2 or sys.argv[1] == "-h":
         sys.exit(__doc__)
-    found = shares(Path(sys.argv[1]).resolve())
-    for key, values in sorted(found.items(), key=lambda item: -max(item[1])):
-        if max(values) > 1:
-            print(*key, *(f"{value:.2f}" for value in values))
-    print(table(found), end="")
+    found: Dict[Call, List[float]] = {}
+    for profile in ("release", "fat"):
+        theirs = counts(Path(sys.argv[1]).resolve(), profile)
+        for call, count in counts(HERE / "multihash", profile).items():
+            found.setdefault(call, []).append(count / max(theirs[call], 1))
+    for call, shares in sorted(found.items(), key=lambda item: -max(item[1])):
+        if max(shares) > 1:
+            print(*call, *(f"{share:.2f}" for share in shares))
+    print("| Call | default profile | fat LTO |\n|---|---:|---:|")
+    for name in dict.fromkeys(call[0] for call in found):
+        spans = zip(*(shares for call, shares in found.items() if call[0] == name))
+        print(f"| `{name}` |", " | ".join(f"{min(span):.2f} to {max(span):.2f}" for span in spans), "|")
 
 
 if __name__ == "__main__":
