@@ -94,7 +94,8 @@ make_list() {
   local library
   [ ! -e "$work/list" ] || return 0
   library=$(compgen -G "bindings/c/prebuilt/$(uname -m)/*.a" || echo bindings/c/src/multihash.c)
-  cc -O2 -I bindings/c/include bindings/rust/tests/draws.c "$library" -o "$work/draws"
+  cc -O2 -I bindings/c/include -I bindings/c/tests bindings/rust/tests/draws.c bindings/c/tests/{draws,buffer}.c \
+    "$library" -o "$work/draws"
   "$work/draws" > "$work/drawn"
   sed 1d "$work/drawn" | cat crates/vectors/data/verdicts.tsv - > "$work/list"
 }

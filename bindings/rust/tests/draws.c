@@ -1,22 +1,6 @@
-/* Writes test vectors, as the library for C finds them: of pseudo-random inputs, mostly encodings with a byte changed,
- * of each first two bytes, and how pairs of multihashes compare. */
-#include <multihash.h>
-#include <stdio.h>
-#include <string.h>
-
-static uint64_t draw(void)
-{
-    static uint64_t state = 1;
-    state ^= state << 13;
-    state ^= state >> 7;
-    state ^= state << 17;
-    return state * 0x2545f4914f6cdd1d;
-}
-
-static size_t below(size_t limit)
-{
-    return (size_t)(draw() >> 33) % limit;
-}
+/* Writes test vectors, as the library for C finds them: of the inputs that its tests draw, of each first two
+ * bytes, and how pairs of multihashes compare. */
+#include "check.h"
 
 static void put_hex(const uint8_t *bytes, size_t length)
 {
@@ -24,19 +8,21 @@ static void put_hex(const uint8_t *bytes, size_t length)
     for (size_t at = 0; at < length; at++) printf("%02x", bytes[at]);
 }
 
-static void put_result(multihash_decoded found, const uint8_t *input, int with_taken)
+static void put_result(multihash_decoded found, const uint8_t *input)
 {
     static const char *const names[] = {"pair",         "insufficient", "overflow",      "not_minimal",
                                         "invalid_size", "invalid_code", "unexpected_eof"};
     printf("\t%s", names[found.status]);
     if (found.status == MULTIHASH_INVALID_SIZE) printf(" %llu", (unsigned long long)found.size);
-    if (found.status == MULTIHASH_INVALID_CODE || found.status == MULTIHASH_OK)
-        printf(" %llu", (unsigned long long)found.code);
+    if (found.status == MULTIHASH_INVALID_CODE) printf(" %llu", (unsigned long long)found.code);
     if (found.status == MULTIHASH_OK) {
-        putchar(' ');
+        printf(" %llu ", (unsigned long long)found.code);
         put_hex(input + found.digest_offset, found.digest_length);
     }
-    if (!with_taken) return;
+}
+
+static void put_taken(multihash_decoded found)
+{
     if (found.status == MULTIHASH_INSUFFICIENT || found.status == MULTIHASH_UNEXPECTED_EOF)
         printf("\t-");
     else
@@ -57,74 +43,49 @@ static void put_line(size_t capacity, const uint8_t *input, size_t length)
     }
     printf("%zu\t", capacity);
     put_hex(input, length);
-    put_result(read, input, 1);
-    put_result(whole, input, 0);
-    put_result(scale, input, 1);
+    put_result(read, input);
+    put_taken(read);
+    put_result(whole, input);
+    put_result(scale, input);
+    put_taken(scale);
     putchar('\n');
 }
 
-/* Draws a digest, often of a usual length. */
-static size_t draw_digest(uint8_t *digest)
+static void put_order(uint64_t code, const uint8_t *left, size_t length, uint64_t other_code,
+                      const uint8_t *right, size_t other_length)
 {
-    static const uint8_t lengths[] = {0, 1, 15, 16, 17, 20, 31, 32, 33, 48, 63, 64, 65, 127, 128, 255};
-    size_t at = below(sizeof lengths + 1), same = below(2);
-    size_t length = at < sizeof lengths ? lengths[at] : below(256);
-    for (at = 0; at < length; at++) digest[at] = same ? (uint8_t)at : (uint8_t)draw();
-    return length;
-}
-
-static size_t draw_input(uint8_t *input)
-{
-    uint8_t digest[255];
-    uint64_t code = draw() >> 1 >> below(63);
-    size_t size = draw_digest(digest), length = multihash_encode(code, digest, size, input, 266).length;
-    switch (below(8)) {
-    case 0:
-        length = below(30);
-        for (size_t at = 0; at < length; at++) input[at] = (uint8_t)draw() | (below(2) ? 0x80 : 0);
-        return length;
-    case 1: return below(length + 1);
-    case 2: input[length] = 7; return length + 1;
-    case 3: input[below(length < 12 ? length : 12)] ^= 1 << below(8); return length;
-    case 4: return multihash_scale_encode(code, digest, size, input, 266).length;
-    case 5:
-        memset(input, 0xff, 18);
-        input[7] = 0x7f + (uint8_t)below(2);
-        return 9 + below(9);
-    default: return length;
-    }
-}
-
-/* Pairs that are equal, or differ in one byte, in the length or in the code. */
-static void put_order(void)
-{
-    uint8_t left[255], right[255];
-    uint64_t code = draw() >> 1 >> below(63), other = below(4) ? code : draw() >> 1 >> below(63);
-    size_t length = draw_digest(left), longer = length;
-    memcpy(right, left, sizeof right);
-    if (length > 0 && below(2)) right[below(length)] ^= 1 << below(8);
-    if (length > 0 && below(4) == 0) longer--;
     printf("order\t%llu\t", (unsigned long long)code);
     put_hex(left, length);
-    printf("\t%llu\t", (unsigned long long)other);
-    put_hex(right, longer);
-    printf("\t%d\n", (int)multihash_compare(code, left, length, other, right, longer));
+    printf("\t%llu\t", (unsigned long long)other_code);
+    put_hex(right, other_length);
+    printf("\t%d\n", (int)multihash_compare(code, left, length, other_code, right, other_length));
+}
+
+/* The tests of the library for C call this for each input. */
+void check_input(uint64_t code, const uint8_t *bytes, size_t length, size_t limit)
+{
+    static const size_t capacities[] = {0, 1, 2, 4, 16, 32, 64, 128, 200, 255, 256, 300};
+    size_t size = length < MULTIHASH_DIGEST_MAX ? length : MULTIHASH_DIGEST_MAX;
+    uint8_t other[MULTIHASH_DIGEST_MAX] = {0};
+    code &= INT64_MAX;
+    put_line(capacities[limit % 12], bytes, length);
+    if (size > 0) memcpy(other, bytes, size);
+    put_order(code, bytes, size, code ^ (uint64_t)(limit % 2) << limit % 63, other, size);
+    if (size == 0) return;
+    other[code % size] ^= (uint8_t)(1u << limit % 8);
+    put_order(code, bytes, size, code, other, size);
+    put_order(code, bytes, size, code, bytes, size - 1);
 }
 
 int main(void)
 {
-    static const size_t capacities[] = {0, 1, 2, 4, 16, 32, 64, 128, 200, 255, 256, 300};
-    uint8_t input[300];
     puts("S\tinput\tread\tread_taken\tfrom_bytes\tscale_decode\tscale_taken");
-    for (int turn = 0; turn < 20000; turn++) {
-        size_t length = draw_input(input);
-        put_line(capacities[below(12)], input, length);
-        put_order();
-    }
+    draw_inputs(1, 10000);
     for (int code = 0; code < 256; code++) {
         for (int size = 0; size < 256; size++) {
-            uint8_t few[] = {(uint8_t)code, (uint8_t)size, (uint8_t)below(3), 7};
-            put_line(255, few, 2 + below(3));
+            uint8_t few[] = {(uint8_t)code, (uint8_t)size, (uint8_t)(code % 3), 7};
+            put_line(255, few, 2 + (size_t)(code + size) % 3);
         }
     }
+    return 0;
 }
