@@ -74,7 +74,10 @@ void check_input(uint64_t code, const uint8_t *bytes, size_t length, size_t limi
     if (size == 0) return;
     other[code % size] ^= (uint8_t)(1u << limit % 8);
     put_order(code, bytes, size, code, other, size);
-    put_order(code, bytes, size, code, bytes, size - 1);
+    if (limit % 2 == 0)
+        put_order(code, bytes, size, code, bytes, size - 1);
+    else
+        put_order(code, bytes, size - 1, code, bytes, size);
 }
 
 int main(void)
