@@ -23,12 +23,10 @@ FAILED = 'error: "an allocation failed"'
 TESTS = {
     "allocating_forms_at_each_size": 26,
     "allocating_forms_of_usual_digests": 18,
-    "allocating_read_list": 1,
     "allocating_read_of_lists": 16,
-    "allocating_write": 2,
-    "allocating_scale_encode": 2,
-    "allocating_write_of_a_long_list": 3,
-    "allocating_room_alone": 1,
+    # 2 for the binary form, 2 for SCALE, 3 for a list
+    "allocating_writes": 7,
+    "allocating_capacity_alone": 1,
     "allocating_write_of_a_vector": 1,
     "allocating_push": 2,
     # each block by 3, of 4096, 8192 and 16384 bytes
@@ -98,7 +96,7 @@ def results(work: Path) -> Iterator[tap.Result]:
         source = f"#include <stdlib.h>\nint main(void) {{ {text} }}\n"
         error = counted.error_of([str(counted.build(source, "planted"))], number, "1", "0")
         yield tap.planted(f"{number}: {text}", [error], found)
-    program = tap.program("tests_values", "test")
+    program = tap.program("tests", "test")
     listed = subprocess.run([program, "--list"], stdout=subprocess.PIPE, text=True).stdout
     tests = {path.rpartition("::")[2]: path for path in re.findall(r"(?m)^(\S+): test$", listed)}
     yield "the tests are those listed", others(tests)

@@ -5,7 +5,7 @@ They are in bugs.edits, each with what has to see it:
 
     CRATE MODULE::TEST[=TEXT]..            these tests of the crate fail, and print a text
 
-The bugs of one crate are planted in one copy.
+The bugs that the tests of one crate see are planted in one copy, but for those of fakes, on which all tests stand.
 """
 import re
 import shutil
@@ -34,12 +34,13 @@ class Bug(NamedTuple):
     new: str
 
 
-def read_bugs() -> dict[str, list[Bug]]:
-    """Returns the bugs by the crates whose tests see them."""
-    found: dict[str, list[Bug]] = defaultdict(list)
+def read_bugs() -> dict[tuple[str, bool], list[Bug]]:
+    """Returns the bugs by the crates whose tests see them, and by whether they are in fakes."""
+    found: dict[tuple[str, bool], list[Bug]] = defaultdict(list)
     for name, seen, *edit in edits.rows(BUGS):
         where, *seen_by = seen.split()
-        found[where].append(Bug(name, seen_by, *edit))
+        bug = Bug(name, seen_by, *edit)
+        found[where, bug.path.startswith("crates/fakes/")].append(bug)
     return found
 
 
@@ -78,8 +79,8 @@ def run_tests(crate: str, bugs: list[Bug]) -> str:
 
 def results() -> Iterator[tap.Result]:
     """Runs tests over the bugs that they have to see. Plants logs in which they do not see them."""
-    for crate, bugs in read_bugs().items():
-        yield crate, error_of(bugs, run_tests(crate, bugs))
+    for (crate, are_fake), bugs in read_bugs().items():
+        yield f"{crate}, bugs of fakes" if are_fake else crate, error_of(bugs, run_tests(crate, bugs))
     bugs = [Bug("", ["a", "b=(8,"], "", "", "")]
     log = "test b ... FAILED\n  (9, 9)\ntest c ... FAILED\n"
     yield tap.planted("other tests, another text", [error_of(bugs, log)], "'a'", "b prints", "'c'")

@@ -1,8 +1,8 @@
-//! What tests go over: codes with their varints, digests of different bytes, and the forms, whose bytes are
-//! made here and not by the library.
+//! What tests go over: codes with their varints, digests of different bytes, and samples: values in each
+//! form, with their bytes, which are made here and not by the library.
 ghost use Rattle.std.specs.Prelude.{◌<◌, ◌^◌};
 
-use crate::expect::{ErrorKind, LARGEST_CODE};
+use crate::expect::LARGEST_CODE;
 use multihash::list::{read_list, write_list};
 use multihash::no_std_io::{Read, Write};
 use multihash::{Error, Multihash};
@@ -31,14 +31,6 @@ pub const USUAL: [Code; 3] = [
     (30, &[30]),
     (LARGEST_CODE, &[255, 255, 255, 255, 255, 255, 255, 255, 127]),
 ];
-
-/// The encodings of (0, `A`) and (18, `B`), and a trailing byte.
-pub const STREAM: [u8; 7] = [0, 1, 65, 18, 1, 66, 7];
-
-/// These two values.
-pub fn two() -> Result<[Multihash<4>; 2], Error> {
-    Ok([Multihash::wrap(0, b"A")?, Multihash::wrap(18, b"B")?])
-}
 
 /// The bytes 1 to 255: no two are alike, and none is 0.
 pub fn different() -> [u8; 255] {
@@ -80,9 +72,6 @@ pub fn case(bytes: &[u8; 255], capacity: usize, n: usize) -> Option<(Code, &[u8]
     Some((code, bytes.get(..len)?))
 }
 
-/// The numbers of calls for reading: of `read` for one byte, of `read` for others, and of `read_exact`.
-pub type Calls = (usize, usize, usize);
-
 /// A form, which one call reads and another writes.
 #[derive(Clone, Copy, Debug)]
 pub enum Form {
@@ -90,11 +79,6 @@ pub enum Form {
     Scale,
     /// The pair that many times.
     List(usize),
-}
-
-// The length of a varint of a code, and of one of a size.
-fn head_len(code: Code, len: usize) -> usize {
-    code.1.len().saturating_add(if len < 128 { 1 } else { 2 })
 }
 
 impl Form {
@@ -109,34 +93,12 @@ impl Form {
         Form::List(5),
     ];
 
-    /// The number of times that it contains the pair.
-    pub fn count(self) -> usize {
+    // The number of times that it contains the pair.
+    fn count(self) -> usize {
         match self {
             Form::List(count) => count,
             _ => 1,
         }
-    }
-
-    /// The pair, as many times as this form contains it.
-    pub fn items<const S: usize>(
-        self,
-        alloc: Global,
-        code: Code,
-        digest: &[u8],
-    ) -> Result<Vec<Multihash<S>>, Error>
-        requires { S < 2 ^ 16 }
-    {
-        let m = Multihash::wrap(code.0, digest)?;
-        Ok(vec![in alloc; m; self.count()]?)
-    }
-
-    /// The bytes of the pair in this form.
-    pub fn bytes(self, alloc: Global, code: Code, digest: &[u8]) -> Result<Vec<u8>, AllocError> {
-        let mut bytes = Vec::new(alloc);
-        for _ in 0..self.count() {
-            self.append(&mut bytes, code, digest)?;
-        }
-        Ok(bytes)
     }
 
     fn append(self, bytes: &mut Vec<u8>, code: Code, digest: &[u8]) -> Result<(), AllocError> {
@@ -152,98 +114,154 @@ impl Form {
         }
         bytes.extend_from_slice(digest)
     }
+}
 
-    /// The calls for reading a pair of this form with a digest of that many bytes.
-    pub fn requests(self, code: Code, len: usize) -> Calls {
-        let single = head_len(code, len);
-        match self {
-            Form::Binary => (single, 0, 1),
-            Form::Scale => (0, 0, 3),
-            Form::List(count) => (single.saturating_mul(count), 0, count),
+/// The numbers of calls for reading: of `read` for one byte, of `read` for others, and of `read_exact`.
+pub type Calls = (usize, usize, usize);
+
+/// A pair of a code and a digest in a form.
+#[derive(Drop)]
+pub struct Sample<const S: usize> {
+    pub form: Form,
+    /// The pair, as many times as the form contains it.
+    pub items: Vec<Multihash<S>>,
+    /// The bytes in this form.
+    pub bytes: Vec<u8>,
+    /// The digest's length.
+    pub size: usize,
+    // Whether an error at each byte is tried.
+    each_byte: bool,
+    // The length of the varints of the code and of the size.
+    head: usize,
+    alloc: Global,
+    ghost small: { S < 2 ^ 16 },
+}
+
+/// The samples of each case from that number on, in each of the forms.
+pub fn samples<const S: usize>(
+    alloc: Global,
+    forms: &[Form],
+    from: usize,
+) -> Result<Vec<Sample<S>>, Error>
+    requires { S < 2 ^ 16 }
+{
+    let digests = different();
+    let mut samples = Vec::new(alloc);
+    for n in from..CASES {
+        if let Some((code, digest)) = case(&digests, S, n) {
+            for form in forms {
+                let mut sample = Sample::new(alloc, *form, code, digest)?;
+                sample.each_byte = matches!(n, 0 | 2 | 20 | 32 | 64 | 255);
+                samples.push(sample)?;
+            }
         }
     }
+    Ok(samples)
+}
 
-    /// The calls for an input that ends after that many bytes of a pair's form, and the error.
-    pub fn requests_of_front(self, code: Code, len: usize, at: usize) -> (Calls, ErrorKind) {
-        let single = head_len(code, len);
-        match self {
-            Form::Scale if at < 8 => ((0, 0, 1), ErrorKind::UnexpectedEof),
-            Form::Scale if at < 9 => ((0, 0, 2), ErrorKind::UnexpectedEof),
-            Form::Scale => ((0, 0, 3), ErrorKind::UnexpectedEof),
-            _ if at < single => ((at.saturating_add(1), 0, 0), ErrorKind::Insufficient),
-            _ => ((single, 0, 1), ErrorKind::UnexpectedEof),
-        }
-    }
+/// A list of 40 empty digests.
+pub fn long_list(alloc: Global) -> Result<Sample<0>, Error> {
+    Sample::new(alloc, Form::List(40), (0, &[0]), &[])
+}
 
-    /// Writes the first of the items, or their list, and returns the number of bytes. The writer is borrowed
-    /// once more, or not.
-    pub fn writes<const S: usize, W: Write>(
-        self,
-        items: &[Multihash<S>],
-        w: &mut W,
-        borrowed: bool,
-    ) -> Result<usize, Error>
+impl<const S: usize> Sample<S> {
+    pub fn new(alloc: Global, form: Form, code: Code, digest: &[u8]) -> Result<Self, Error>
         requires { S < 2 ^ 16 }
     {
+        let m = Multihash::wrap(code.0, digest)?;
+        let size = digest.len();
+        let mut bytes = Vec::new(alloc);
+        for _ in 0..form.count() {
+            form.append(&mut bytes, code, digest)?;
+        }
+        Ok(Sample {
+            form,
+            items: vec![in alloc; m; form.count()]?,
+            bytes,
+            size,
+            each_byte: true,
+            head: code.1.len().saturating_add(if size < 128 { 1 } else { 2 }),
+            alloc,
+        })
+    }
+
+    /// The number of empty digests.
+    pub fn empty_digests(&self) -> usize {
+        if self.size == 0 { self.items.len() } else { 0 }
+    }
+
+    /// The calls for reading it.
+    pub fn calls(&self) -> Calls {
+        let count = self.items.len();
+        match self.form {
+            Form::Scale => (0, 0, 3),
+            _ => (self.head.saturating_mul(count), 0, count),
+        }
+    }
+
+    /// The calls for reading an input that ends after that many bytes of its first pair.
+    pub fn calls_of_prefix(&self, at: usize) -> Calls {
+        match self.form {
+            Form::Scale if at < 8 => (0, 0, 1),
+            Form::Scale if at < 9 => (0, 0, 2),
+            Form::Scale => (0, 0, 3),
+            _ if at < self.head => (at.saturating_add(1), 0, 0),
+            _ => (self.head, 0, 1),
+        }
+    }
+
+    /// Whether an error at this byte is tried: at each byte of some samples, otherwise at some and the last.
+    pub fn is_tried(&self, at: usize) -> bool {
+        self.each_byte || at % 127 == 0 || at.saturating_add(1) == self.bytes.len()
+    }
+
+    /// Writes it, and returns the number of bytes. The writer is borrowed once more, or not.
+    pub fn writes<W: Write>(&self, w: &mut W, borrowed: bool) -> Result<usize, Error> {
         if borrowed {
             let mut reference = w;
-            self.writes_to(items, &mut reference)
+            self.writes_to(&mut reference)
         } else {
-            self.writes_to(items, w)
+            self.writes_to(w)
         }
     }
 
-    fn writes_to<const S: usize, W: Write>(
-        self,
-        items: &[Multihash<S>],
-        w: &mut W,
-    ) -> Result<usize, Error>
-        requires { S < 2 ^ 16 }
-    {
-        let Some(first) = items.first() else {
+    fn writes_to<W: Write>(&self, w: &mut W) -> Result<usize, Error> {
+        let Some(first) = self.items.first() else {
             return Ok(0);
         };
-        match self {
+        match self.form {
             Form::Binary => first.write(w),
             Form::Scale => first.scale_encode(w),
             Form::List(_) => {
-                write_list(items, w)?;
-                Ok(first.encoded_len().saturating_mul(items.len()))
+                write_list(&self.items, w)?;
+                Ok(self.bytes.len())
             }
         }
     }
 
-    /// Whether what is read is the first of the items, or their list. The reader is borrowed once more, or
-    /// not.
-    pub fn reads<const S: usize, R: Read>(
-        self,
-        alloc: Global,
-        items: &[Multihash<S>],
-        r: &mut R,
-        borrowed: bool,
-    ) -> Result<bool, Error>
-        requires { S < 2 ^ 16 }
-    {
+    /// Whether what is read is this sample. The reader is borrowed once more, or not.
+    pub fn reads<R: Read>(&self, r: &mut R, borrowed: bool) -> Result<bool, Error> {
         if borrowed {
             let mut reference = r;
-            self.reads_from(alloc, items, &mut reference)
+            self.reads_from(&mut reference)
         } else {
-            self.reads_from(alloc, items, r)
+            self.reads_from(r)
         }
     }
 
-    fn reads_from<const S: usize, R: Read>(
-        self,
-        alloc: Global,
-        items: &[Multihash<S>],
-        r: &mut R,
-    ) -> Result<bool, Error>
-        requires { S < 2 ^ 16 }
-    {
-        match self {
-            Form::Binary => Ok(items.first() == Some(&Multihash::read(r)?)),
-            Form::Scale => Ok(items.first() == Some(&Multihash::scale_decode(r)?)),
-            Form::List(_) => Ok(read_list::<S, _>(alloc, r, items.len())?.as_slice() == items),
+    fn reads_from<R: Read>(&self, r: &mut R) -> Result<bool, Error> {
+        match self.form {
+            Form::Binary => Ok(self.items.first() == Some(&Multihash::read(r)?)),
+            Form::Scale => Ok(self.items.first() == Some(&Multihash::scale_decode(r)?)),
+            Form::List(count) => {
+                let list = read_list::<S, _>(self.alloc, r, count)?;
+                Ok(list.as_slice() == self.items.as_slice())
+            }
         }
+    }
+
+    /// Whether what `read_next` returns is this sample's first value.
+    pub fn is_next<R: Read>(&self, r: &mut R) -> Result<bool, Error> {
+        Ok(self.items.first() == Multihash::read_next(r)?.as_ref())
     }
 }

@@ -1,5 +1,5 @@
-//! What no contract of `examples`, `frame` and `storage` states: the calls of a reader or a writer, that its error is
-//! passed on, what is reserved, and that memory suffices.
+//! Callers, in `examples`, `frame`, `headline` and `storage`: the calls of a reader or a writer, that an
+//! error is passed on, what is reserved, and that memory suffices.
 use examples::any_reader::read_up_to;
 use examples::code_table;
 use examples::content_id::{Codec, ContentId, ContentIdError};
@@ -9,13 +9,13 @@ use fakes::expect::ErrorKind;
 use fakes::streams::{Counts, CountsWrites, Cuts, Drip, FailAt, FailWrite};
 use fakes::{check, check_eq, expect_bytes, expect_ok, expect_rejected};
 use headline::{list_through, read_verdict};
-use multihash::no_std_io::{self, Read, Write};
+use multihash::no_std_io::{Read, Write};
 use multihash::{Error, Multihash};
 use std::alloc::Global;
 use std::process::Abort;
 use storage::content::hash_of;
 use storage::hashing::{HashingReader, HashingWriter};
-use storage::log::{EntryError, read_entry, write_entry};
+use storage::log::{EntryError, read_entry, valid_prefix, write_entry};
 
 // The identifier of `aaaa` as raw bytes, with its SHA-256 from another implementation.
 const IDENTIFIER: [u8; 36] = [
@@ -38,7 +38,7 @@ enum Reads {
     Entry,
 }
 
-fn of_entry<T: Drop>(outcome: Result<T, EntryError>) -> Result<(), Error> {
+pub fn of_entry<T: Drop>(outcome: Result<T, EntryError>) -> Result<(), Error> {
     match outcome {
         Ok(_entry) => Ok(()),
         Err(EntryError::Failed(e)) => Err(e),
@@ -168,30 +168,35 @@ impl Writes {
 }
 
 // The calls of `write` and of `write_all`: a multihash is three, and a varint is one.
+const WRITES: [(Writes, (usize, usize)); 6] = [
+    (Writes::Hashed, (1, 0)),
+    (Writes::Framed, (0, 2)),
+    (Writes::Entry, (0, 5)),
+    (Writes::Node, (0, 4)),
+    (Writes::Version0, (0, 3)),
+    (Writes::Version1, (0, 5)),
+];
+
+fn failing_writer(rt: &impl Abort, alloc: Global, at: usize, why: ErrorKind) -> FailWrite<false> {
+    FailWrite::new(expect_ok!(rt; Drip::new(alloc, 100, 100)), at, why)
+}
+
 #[test]
 fn calls_of_writers_are_counted(rt: HostRuntime) {
     let alloc = rt.alloc();
     let rt = &rt;
     let long = expect_ok!(rt; vec![in alloc; 7u8; 70000]);
-    for (call, asked) in [
-        (Writes::Hashed, (1usize, 0usize)),
-        (Writes::Framed, (0, 2)),
-        (Writes::Entry, (0, 5)),
-        (Writes::Node, (0, 4)),
-        (Writes::Version0, (0, 3)),
-        (Writes::Version1, (0, 5)),
-    ] {
+    for (call, calls) in WRITES {
         for content in [&BLOCK, long.as_slice()] {
             let mut writer = CountsWrites::new(alloc);
             expect_ok!(rt; call.make(content, &mut writer));
-            check_eq!(rt; (writer.parts, writer.whole), asked, call);
+            check_eq!(rt; (writer.parts, writer.whole), calls, call);
         }
-        for at in 0..asked.0.saturating_add(asked.1) {
+        for at in 0..calls.0.saturating_add(calls.1) {
             for why in [ErrorKind::DISK_GONE, ErrorKind::OutOfMemory] {
-                let drip = expect_ok!(rt; Drip::new(alloc, 100, 100));
-                let mut writer = FailWrite::<false>::new(drip, at, why);
+                let mut writer = failing_writer(rt, alloc, at, why);
                 expect_rejected!(rt; &call.make(&BLOCK, &mut writer), why, (call, at));
-                check_eq!(rt; writer.asked, at + 1, call);
+                check_eq!(rt; writer.asked, at.saturating_add(1), call);
             }
         }
     }
@@ -201,16 +206,13 @@ fn calls_of_writers_are_counted(rt: HostRuntime) {
 fn nothing_is_read_after_a_failed_write(rt: HostRuntime) {
     let (alloc, why) = (rt.alloc(), ErrorKind::DISK_GONE);
     let one = [hash_of::<32>(&BLOCK)];
-    for row in 0..6 {
-        let (at, is_linked) = (row / 2, row % 2 == 0);
-        let drip = expect_ok!(&rt; Drip::new(alloc, 100, 100));
-        let mut writer = FailWrite::<false>::new(drip, at, why);
+    for at in 0..3 {
         let mut reader = Counts::new(&IDENTIFIER);
-        let failed = done(if is_linked {
-            through::<32, 32, _, _>(alloc, &one, &[], &mut writer, &mut reader)
-        } else {
-            list_through::<32, 32, _, _>(alloc, &one, &mut writer, &mut reader)
-        });
+        let mut writer = failing_writer(&rt, alloc, at, why);
+        let failed = through::<32, 32, _, _>(alloc, &one, &[], &mut writer, &mut reader);
+        expect_rejected!(&rt; &failed, why, at);
+        let mut writer = failing_writer(&rt, alloc, at, why);
+        let failed = list_through::<32, 32, _, _>(alloc, &one, &mut writer, &mut reader);
         expect_rejected!(&rt; &failed, why, at);
         check_eq!(&rt; reader.asked(), (0, 0, 0), at);
     }
@@ -322,4 +324,23 @@ const CLAIM: [u8; 9] = [128, 128, 128, 128, 128, 128, 128, 128, 64];
 fn a_claimed_length_is_not_allocated(rt: HostRuntime) {
     let read = frame::read(rt.alloc(), &mut CLAIM.as_slice(), usize::MAX);
     expect_rejected!(&rt; &of_entry(read), ErrorKind::UnexpectedEof, ());
+}
+
+// The entries of `one` and of no bytes, with their SHA-256 from another implementation.
+const LOG: [u8; 73] = [
+    0x12, 0x20, 0x76, 0x92, 0xc3, 0xad, 0x35, 0x40, 0xbb, 0x80, 0x3c, 0x02, 0x0b, 0x3a, 0xee, 0x66,
+    0xcd, 0x88, 0x87, 0x12, 0x32, 0x34, 0xea, 0x0c, 0x6e, 0x71, 0x43, 0xc0, 0xad, 0xd7, 0x3f, 0xf4,
+    0x31, 0xed, 0x03, 0x6f, 0x6e, 0x65, 0x12, 0x20, 0xe3, 0xb0, 0xc4, 0x42, 0x98, 0xfc, 0x1c, 0x14,
+    0x9a, 0xfb, 0xf4, 0xc8, 0x99, 0x6f, 0xb9, 0x24, 0x27, 0xae, 0x41, 0xe4, 0x64, 0x9b, 0x93, 0x4c,
+    0xa4, 0x95, 0x99, 0x1b, 0x78, 0x52, 0xb8, 0x55, 0x00,
+];
+
+#[test]
+fn a_known_log_is_valid(rt: HostRuntime) {
+    expect_bytes!(&rt; valid_prefix(&LOG), &LOG);
+}
+
+#[test]
+fn hashing_writers_allocate_as_inner_ones(rt: HostRuntime) {
+    check!(&rt; HashingWriter::<Vec<u8>>::ALLOCATES && !HashingWriter::<Drip>::ALLOCATES);
 }

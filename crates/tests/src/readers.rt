@@ -1,0 +1,171 @@
+//! Readers: how often each is called, borrowed or not, at each length and each end of an input; and that an
+//! error is passed on unchanged, with no call after it.
+ghost use Rattle.std.specs.Prelude.{◌<◌, ◌^◌};
+
+use fakes::expect::{ErrorKind, is_failed};
+use fakes::forms::{Calls, Form, LENGTHS, Sample, long_list, many, samples};
+use fakes::streams::{Counts, Cuts, FailAt, Silent};
+use fakes::{check, check_eq, expect_ok, expect_rejected};
+use multihash::Multihash;
+use multihash::no_std_io::{self, Read};
+use std::alloc::Global;
+use std::process::Abort;
+
+// A reader with its own `read_exact`, one without, which is never called with an empty buffer, and one whose
+// input is not known.
+fn expect_read<const S: usize>(rt: &impl Abort, sample: &Sample<S>) {
+    let form = sample.form;
+    let (single, _, whole) = sample.calls();
+    let calls = single.saturating_add(whole);
+    for borrowed in [false, true] {
+        let mut reader = Counts::new(&sample.bytes);
+        check!(rt; expect_ok!(rt; sample.reads(&mut reader, borrowed)), form);
+        check_eq!(rt; reader.asked(), sample.calls(), form);
+        let mut reader = FailAt::new(Cuts::new(&sample.bytes, 300), 600, ErrorKind::LINK_DOWN);
+        check!(rt; expect_ok!(rt; sample.reads(&mut reader, borrowed)), form);
+        check_eq!(rt; reader.asked, calls.saturating_sub(sample.empty_digests()), form);
+    }
+    check!(rt; expect_ok!(rt; sample.reads(&mut Silent(&sample.bytes), false)), form);
+}
+
+fn expect_each_read<const S: usize>(rt: &impl Abort, alloc: Global, from: usize)
+    requires { S < 2 ^ 16 }
+{
+    for sample in &expect_ok!(rt; samples::<S>(alloc, &Form::MORE, from)) {
+        expect_read(rt, sample);
+    }
+}
+
+#[test]
+fn each_length_makes_as_many_calls(rt: HostRuntime) {
+    expect_each_read::<32>(&rt, rt.alloc(), LENGTHS);
+    expect_each_read::<64>(&rt, rt.alloc(), LENGTHS);
+    expect_each_read::<255>(&rt, rt.alloc(), 0);
+    expect_each_read::<300>(&rt, rt.alloc(), LENGTHS);
+}
+
+// An input that ends after each of its first bytes, and after some of the others.
+fn expect_ends(rt: &impl Abort, sample: &Sample<255>) {
+    for at in 0..sample.bytes.len() {
+        if at < 20 || at % 127 == 0 {
+            let mut reader = Counts::new(sample.bytes.get(..at).unwrap_or(&[]));
+            check!(rt; sample.reads(&mut reader, false).is_err(), at);
+            check_eq!(rt; reader.asked(), sample.calls_of_prefix(at), at);
+        }
+    }
+}
+
+#[test]
+fn an_ended_reader_is_not_asked_again(rt: HostRuntime) {
+    let forms = [Form::Binary, Form::Scale];
+    for sample in &expect_ok!(&rt; samples::<255>(rt.alloc(), &forms, 0)) {
+        expect_ends(&rt, sample);
+    }
+}
+
+fn expect_last(rt: &impl Abort, form: Form, input: &'static [u8], calls: Calls) {
+    let mut reader = Counts::new(input);
+    let outcome = match form {
+        Form::Scale => Multihash::<1>::scale_decode(&mut reader),
+        _ => Multihash::<1>::read(&mut reader),
+    };
+    check!(rt; outcome.is_err(), input);
+    check_eq!(rt; reader.asked(), calls, input);
+}
+
+#[test]
+fn a_rejected_size_or_code_is_the_last_that_is_read(rt: HostRuntime) {
+    let rt = &rt;
+    expect_last(rt, Form::Binary, &[0, 5, 1, 2, 3], (2, 0, 0));
+    expect_last(rt, Form::Binary, &[0, 128, 0, 1], (3, 0, 0));
+    expect_last(rt, Form::Binary, &[255; 12], (9, 0, 0));
+    expect_last(
+        rt,
+        Form::Scale,
+        &[44, 1, 0, 0, 0, 0, 0, 0, 2, 65, 66],
+        (0, 0, 2),
+    );
+    expect_last(
+        rt,
+        Form::Scale,
+        &[255, 255, 255, 255, 255, 255, 255, 255, 0],
+        (0, 0, 1),
+    );
+}
+
+fn expect_error<const S: usize>(rt: &impl Abort, sample: &Sample<S>, at: usize, why: ErrorKind) {
+    let note = (sample.form, at);
+    for borrowed in [false, true] {
+        let mut reader = FailAt::new(Cuts::new(&sample.bytes, 1), at, why);
+        expect_rejected!(rt; &sample.reads(&mut reader, borrowed), why, note);
+        check_eq!(rt; reader.asked, at.saturating_add(1), note);
+    }
+    if matches!(sample.form, Form::Binary) {
+        let mut reader = FailAt::new(Cuts::new(&sample.bytes, 1), at, why);
+        expect_rejected!(rt; &sample.is_next(&mut reader), why, note);
+    }
+}
+
+fn expect_errors<const S: usize>(rt: &impl Abort, sample: &Sample<S>) {
+    for at in 0..sample.bytes.len() {
+        if sample.is_tried(at) {
+            expect_error(rt, sample, at, ErrorKind::LINK_DOWN);
+            expect_error(rt, sample, at, ErrorKind::OutOfMemory);
+        }
+    }
+}
+
+fn expect_each_error<const S: usize>(rt: &impl Abort, alloc: Global, from: usize)
+    requires { S < 2 ^ 16 }
+{
+    for sample in &expect_ok!(rt; samples::<S>(alloc, &Form::ALL, from)) {
+        expect_errors(rt, sample);
+    }
+}
+
+#[test]
+fn each_length_fails(rt: HostRuntime) {
+    expect_each_error::<32>(&rt, rt.alloc(), LENGTHS);
+    expect_each_error::<64>(&rt, rt.alloc(), LENGTHS);
+    expect_each_error::<255>(&rt, rt.alloc(), 0);
+    expect_each_error::<300>(&rt, rt.alloc(), LENGTHS);
+    expect_errors(&rt, &expect_ok!(&rt; long_list(rt.alloc())));
+}
+
+// The trait's own `read_exact`, of more bytes than a digest has.
+#[test]
+fn each_byte_of_a_long_buffer_fails(rt: HostRuntime) {
+    let bytes = expect_ok!(&rt; many(rt.alloc()));
+    for at in 0..600 {
+        for why in [ErrorKind::LINK_DOWN, ErrorKind::OutOfMemory] {
+            let mut reader = FailAt::new(Cuts::new(&bytes, 1), at, why);
+            let outcome = reader.read_exact(&mut [0; 600]);
+            check!(&rt; is_failed(&outcome, why), (why, at));
+        }
+    }
+}
+
+fn borrowed_read<R: Read>(r: &mut R, buf: &mut [u8]) -> Result<usize, no_std_io::Error> {
+    let mut reference = r;
+    Read::read(&mut reference, buf)
+}
+
+fn borrowed_read_exact<R: Read>(r: &mut R, buf: &mut [u8]) -> Result<(), no_std_io::Error> {
+    let mut reference = r;
+    Read::read_exact(&mut reference, buf)
+}
+
+// One call, for all of the bytes.
+#[test]
+fn each_length_is_borrowed(rt: HostRuntime) {
+    let bytes = expect_ok!(&rt; many(rt.alloc()));
+    for len in (0..511).chain([4097, 5000, 70000]) {
+        let mut buffer = expect_ok!(&rt; vec![in rt.alloc(); 0u8; len]);
+        let mut reader = Counts::new(&bytes);
+        check_eq!(&rt; borrowed_read(&mut reader, &mut buffer).ok(), Some(len));
+        check_eq!(&rt; reader.single.saturating_add(reader.others), 1, len);
+        let mut reader = Counts::new(&bytes);
+        check!(&rt; borrowed_read_exact(&mut reader, &mut buffer).is_ok(), len);
+        check_eq!(&rt; reader.asked(), (0, 0, 1), len);
+    }
+}

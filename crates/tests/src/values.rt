@@ -1,0 +1,126 @@
+//! Values: what `Debug` prints, the bytes that `Hash` feeds, and JSON texts.
+ghost use Rattle.std.specs.Prelude.{◌<◌, ◌^◌};
+
+use fakes::expect::ErrorKind;
+use fakes::forms::{CASES, case, different};
+use fakes::{check, check_eq, expect_ok, expect_rejected};
+use multihash::{Head, Multihash};
+use serde_json::Value;
+use std::alloc::Global;
+use std::fmt::Debug;
+use std::hash::{DefaultHasher, Hash, Hasher};
+use std::process::Abort;
+
+fn expect_shown<D: Debug>(rt: &impl Abort, alloc: Global, shown: &D, wanted: &str) {
+    let found = expect_ok!(rt; format!(in alloc; "{shown:?}"));
+    check_eq!(rt; found.as_str(), wanted);
+}
+
+fn expect_value_shown<const S: usize>(rt: &impl Abort, alloc: Global, code: u64, digest: &[u8])
+    requires { S < 2 ^ 16 }
+{
+    let m = expect_ok!(rt; Multihash::<S>::wrap(code, digest));
+    let size = digest.len();
+    let wanted = format!(in alloc;
+        "Multihash {{ code: {code}, size: {size}, digest: {digest:?} }}"
+    );
+    expect_shown(rt, alloc, &m, expect_ok!(rt; wanted).as_str());
+}
+
+fn expect_values_shown<const S: usize>(rt: &impl Abort, alloc: Global)
+    requires { S < 2 ^ 16 }
+{
+    let mut bytes = different();
+    bytes[5] = 0;
+    for n in 0..CASES {
+        if let Some((code, digest)) = case(&bytes, S, n) {
+            expect_value_shown::<S>(rt, alloc, code.0, digest);
+        }
+    }
+}
+
+#[test]
+fn values_of_each_length_are_shown(rt: HostRuntime) {
+    expect_values_shown::<0>(&rt, rt.alloc());
+    expect_values_shown::<32>(&rt, rt.alloc());
+    expect_values_shown::<64>(&rt, rt.alloc());
+    expect_values_shown::<255>(&rt, rt.alloc());
+    expect_values_shown::<300>(&rt, rt.alloc());
+}
+
+// The bytes that `truncate` left in the buffer are not shown.
+#[test]
+fn known_values_are_shown(rt: HostRuntime) {
+    let alloc = rt.alloc();
+    let rt = &rt;
+    let cut = expect_ok!(rt; Multihash::<64>::wrap(18, b"foobar")).truncate(3);
+    let wanted = "Multihash { code: 18, size: 3, digest: [102, 111, 111] }";
+    expect_shown(rt, alloc, &cut, wanted);
+    let lines = expect_ok!(rt; format!(in alloc; "{:#?}", cut.truncate(1)));
+    let wanted = "Multihash {\n    code: 18,\n    size: 1,\n    digest: [\n        102,\n    ],\n}";
+    check_eq!(rt; lines.as_str(), wanted);
+    let head = expect_ok!(rt; Head::read_front(&[18, 3, 7]));
+    let wanted = "Head { code: 18, digest_len: 3, digest_offset: 2 }";
+    expect_shown(rt, alloc, &head, wanted);
+    for (input, kind) in [
+        ([].as_slice(), "Insufficient"),
+        (&[255; 9], "Overflow"),
+        (&[128, 0], "NotMinimal"),
+        (&[0, 5], "InvalidSize(5)"),
+        (
+            &[0, 1],
+            "Io(Error { kind: UnexpectedEof(\"failed to fill whole buffer\") })",
+        ),
+    ] {
+        let wanted = expect_ok!(rt; format!(in alloc; "Err(Error {{ kind: {kind} }})"));
+        let outcome = Multihash::<4>::from_bytes(input);
+        expect_shown(rt, alloc, &outcome, wanted.as_str());
+    }
+}
+
+fn hash_of<T: Hash>(x: &T) -> u64 {
+    let mut state = DefaultHasher::new();
+    x.hash(&mut state);
+    state.finish()
+}
+
+#[test]
+fn a_multihash_hashes_as_its_pair(rt: HostRuntime) {
+    let rt = &rt;
+    for (code, digest) in [(0u64, b"foo".as_slice()), (18, b"foobar")] {
+        let m = expect_ok!(rt; Multihash::<6>::wrap(code, digest));
+        check_eq!(rt; hash_of(&m), hash_of(&(code, digest)));
+    }
+}
+
+#[test]
+fn json_text(rt: HostRuntime) {
+    let alloc = rt.alloc();
+    let rt = &rt;
+    let m = expect_ok!(rt; Multihash::<4>::wrap(18, &[159, 0, 255]));
+    let text = "[18,3,159,0,255]";
+    let value = expect_ok!(rt; m.to_value(alloc));
+    check_eq!(rt; expect_ok!(rt; value.to_string(alloc)).as_str(), text);
+    let parsed = expect_ok!(rt; Value::from_str(alloc, text));
+    check!(rt; expect_ok!(rt; Multihash::<4>::from_value(&parsed)) == m);
+}
+
+// Every kind of value, alone and after a zero, but arrays of bytes.
+const NO_BYTES: &str = r#"[
+null, true, false, 0, 7, 255, 256, 18446744073709551615, -1, -9223372036854775808, -0, 0.5, 1.0, 1e300,
+"", "0", "AA", {}, {"0":0}, [[]], [[0]], [256], [0,null], [0,true], [0,false], [0,256],
+[0,18446744073709551615], [0,-1], [0,-9223372036854775808], [0,-0], [0,0.5], [0,1.0], [0,1e300], [0,""],
+[0,"0"], [0,[]], [0,[0]], [0,{}], [0,{"0":0}], [0,0,0,0.0], [0,3,256], [0,0,18446744073709551616]]"#;
+
+#[test]
+fn other_values_are_no_bytes(rt: HostRuntime) {
+    let rt = &rt;
+    let all = expect_ok!(rt; Value::from_str(rt.alloc(), NO_BYTES));
+    let Value::Array(values) = &all else {
+        return check!(rt; false);
+    };
+    check!(rt; !values.is_empty());
+    for (n, value) in values.iter().enumerate() {
+        expect_rejected!(rt; &Multihash::<255>::from_value(value), ErrorKind::NotBytes, n);
+    }
+}

@@ -1,0 +1,265 @@
+//! Writers: the bytes in slices of each length; how often each is called, borrowed or not; that an error is
+//! passed on unchanged, with no call after it; and how a vector grows.
+ghost use Rattle.std.specs.Prelude.{◌<◌, ◌^◌};
+
+use fakes::expect::{ErrorKind, is_failed};
+use fakes::forms::{CODES, Form, LENGTHS, Sample, different, long_list, many, samples};
+use fakes::streams::{CountsWrites, Drip, FailWrite};
+use fakes::{check, check_eq, expect_bytes, expect_ok, expect_rejected};
+use multihash::no_std_io::{self, Write};
+use std::alloc::Global;
+use std::process::Abort;
+
+// The bytes of a list of two, and one more.
+const MOST: usize = 533;
+
+// As many bytes as fit; a byte after them is unchanged.
+fn expect_front(rt: &impl Abort, buffer: &[u8], wanted: &[u8]) {
+    let len = buffer.len().min(wanted.len());
+    expect_bytes!(rt; &buffer[..len], &wanted[..len]);
+    check!(rt; matches!(&buffer[len..], [] | [0]), len);
+}
+
+fn expect_in_slice<const S: usize>(rt: &impl Abort, sample: &Sample<S>, room: usize) {
+    let room = room.min(MOST);
+    for borrowed in [false, true] {
+        let mut buffer = [0u8; MOST];
+        let mut left = &mut buffer[..room];
+        let _outcome = sample.writes(&mut left, borrowed);
+        expect_front(rt, &buffer[..room], &sample.bytes);
+    }
+}
+
+fn expect_in_slices<const S: usize>(rt: &impl Abort, sample: &Sample<S>) {
+    let len = sample.bytes.len();
+    for room in 0..len.saturating_add(2) {
+        if sample.size < 4 || room % 61 == 0 || room >= len.saturating_sub(2) {
+            expect_in_slice(rt, sample, room);
+        }
+    }
+}
+
+fn expect_each_in_slices<const S: usize>(rt: &impl Abort, alloc: Global)
+    requires { S < 2 ^ 16 }
+{
+    for sample in &expect_ok!(rt; samples::<S>(alloc, &Form::ALL, 0)) {
+        expect_in_slices(rt, sample);
+    }
+}
+
+#[test]
+fn each_length_is_written(rt: HostRuntime) {
+    expect_each_in_slices::<0>(&rt, rt.alloc());
+    expect_each_in_slices::<32>(&rt, rt.alloc());
+    expect_each_in_slices::<64>(&rt, rt.alloc());
+    expect_each_in_slices::<127>(&rt, rt.alloc());
+    expect_each_in_slices::<128>(&rt, rt.alloc());
+    expect_each_in_slices::<255>(&rt, rt.alloc());
+    expect_each_in_slices::<300>(&rt, rt.alloc());
+}
+
+// Each code with lengths at which the size's varint or a copy behaves differently.
+#[test]
+fn each_code_is_written(rt: HostRuntime) {
+    let bytes = different();
+    for code in CODES {
+        for len in [0, 1, 31, 32, 33, 64, 127, 128, 255] {
+            let digest = bytes.get(..len).unwrap_or(&[]);
+            for form in Form::ALL {
+                let sample = Sample::<255>::new(rt.alloc(), form, code, digest);
+                expect_in_slices(&rt, &expect_ok!(&rt; sample));
+            }
+        }
+    }
+}
+
+// The bytes are not 0, so a byte that is not written differs.
+fn expect_copied(rt: &impl Abort, alloc: Global, bytes: &[u8], room: usize) {
+    let mut buffer = expect_ok!(rt; vec![in alloc; 0u8; room]);
+    let mut left = &mut buffer[..];
+    check_eq!(rt; left.write(bytes).ok(), Some(room.min(bytes.len())));
+    expect_front(rt, &buffer, bytes);
+    let mut buffer = expect_ok!(rt; vec![in alloc; 0u8; room]);
+    let mut left = &mut buffer[..];
+    check_eq!(rt; left.write_all(bytes).is_ok(), bytes.len() <= room);
+    expect_front(rt, &buffer, bytes);
+}
+
+const COPIED: [usize; 17] = [
+    511, 512, 513, 1023, 1024, 1025, 4095, 4096, 4097, 16383, 16384, 16385, 65535, 65536, 65537,
+    5000, 70000,
+];
+
+#[test]
+fn each_length_is_copied(rt: HostRuntime) {
+    let bytes = expect_ok!(&rt; many(rt.alloc()));
+    for len in (0..511).chain(COPIED) {
+        let these = bytes.get(..len).unwrap_or(&[]);
+        expect_copied(&rt, rt.alloc(), these, len / 2);
+        for room in len.saturating_sub(2)..len.saturating_add(2) {
+            expect_copied(&rt, rt.alloc(), these, room);
+        }
+    }
+}
+
+// A borrowed writer has the trait's own `write_all`, which makes no call for no bytes.
+fn expect_calls<const S: usize>(rt: &impl Abort, alloc: Global, sample: &Sample<S>) {
+    // The code and the size of a SCALE form are one write.
+    let writes = if matches!(sample.form, Form::Scale) {
+        2
+    } else {
+        3
+    };
+    let whole = sample.items.len().saturating_mul(writes);
+    let mut writer = CountsWrites::new(alloc);
+    check!(rt; sample.writes(&mut writer, false).is_ok(), sample.form);
+    check_eq!(rt; (writer.parts, writer.whole), (0, whole), sample.form);
+    let parts = whole.saturating_sub(sample.empty_digests());
+    let mut writer = CountsWrites::new(alloc);
+    check!(rt; sample.writes(&mut writer, true).is_ok(), sample.form);
+    check_eq!(rt; (writer.parts, writer.whole), (parts, 0), sample.form);
+}
+
+fn expect_each_call<const S: usize>(rt: &impl Abort, alloc: Global, from: usize)
+    requires { S < 2 ^ 16 }
+{
+    for sample in &expect_ok!(rt; samples::<S>(alloc, &Form::MORE, from)) {
+        expect_calls(rt, alloc, sample);
+    }
+}
+
+#[test]
+fn each_length_makes_as_many_calls(rt: HostRuntime) {
+    expect_each_call::<32>(&rt, rt.alloc(), LENGTHS);
+    expect_each_call::<64>(&rt, rt.alloc(), LENGTHS);
+    expect_each_call::<255>(&rt, rt.alloc(), 0);
+    expect_each_call::<300>(&rt, rt.alloc(), LENGTHS);
+}
+
+fn borrowed_write<W: Write>(w: &mut W, buf: &[u8]) -> Result<usize, no_std_io::Error> {
+    let mut reference = w;
+    Write::write(&mut reference, buf)
+}
+
+#[test]
+fn each_length_is_borrowed(rt: HostRuntime) {
+    let bytes = expect_ok!(&rt; many(rt.alloc()));
+    for len in (0..511).chain([4097, 5000, 70000]) {
+        let mut writer = CountsWrites::new(rt.alloc());
+        let these = bytes.get(..len).unwrap_or(&[]);
+        check_eq!(&rt; borrowed_write(&mut writer, these).ok(), Some(len));
+        check_eq!(&rt; (writer.parts, writer.whole), (1, 0), len);
+    }
+}
+
+// A writer that is full, or fails, after that many bytes.
+fn failing_writer<const A: bool>(
+    rt: &impl Abort,
+    alloc: Global,
+    at: usize,
+    why: ErrorKind,
+) -> FailWrite<A> {
+    let is_full = why == ErrorKind::WriteZero;
+    let room = if is_full { at } else { 700 };
+    let calls = if is_full { 700 } else { at };
+    FailWrite::new(expect_ok!(rt; Drip::new(alloc, room, 1)), calls, why)
+}
+
+fn expect_error<const S: usize, const A: bool>(
+    rt: &impl Abort,
+    alloc: Global,
+    sample: &Sample<S>,
+    at: usize,
+    why: ErrorKind,
+) {
+    for borrowed in [false, true] {
+        let mut writer = failing_writer::<A>(rt, alloc, at, why);
+        let outcome = sample.writes(&mut writer, borrowed);
+        expect_rejected!(rt; &outcome, why, (sample.form, at));
+        expect_bytes!(rt; &writer.drip.held, sample.bytes.get(..at).unwrap_or(&[]));
+        check_eq!(rt; writer.asked, at.saturating_add(1), (sample.form, at));
+    }
+}
+
+const ERRORS: [ErrorKind; 3] = [
+    ErrorKind::DISK_GONE,
+    ErrorKind::OutOfMemory,
+    ErrorKind::WriteZero,
+];
+
+fn expect_errors<const S: usize>(rt: &impl Abort, alloc: Global, sample: &Sample<S>) {
+    for at in 0..sample.bytes.len() {
+        if sample.is_tried(at) {
+            for why in ERRORS {
+                expect_error::<S, false>(rt, alloc, sample, at, why);
+                expect_error::<S, true>(rt, alloc, sample, at, why);
+            }
+        }
+    }
+}
+
+fn expect_each_error<const S: usize>(rt: &impl Abort, alloc: Global, from: usize)
+    requires { S < 2 ^ 16 }
+{
+    for sample in &expect_ok!(rt; samples::<S>(alloc, &Form::ALL, from)) {
+        expect_errors(rt, alloc, sample);
+    }
+}
+
+#[test]
+fn each_length_fails_or_is_full(rt: HostRuntime) {
+    expect_each_error::<32>(&rt, rt.alloc(), LENGTHS);
+    expect_each_error::<64>(&rt, rt.alloc(), LENGTHS);
+    expect_each_error::<255>(&rt, rt.alloc(), 0);
+    expect_each_error::<300>(&rt, rt.alloc(), LENGTHS);
+    expect_errors(&rt, rt.alloc(), &expect_ok!(&rt; long_list(rt.alloc())));
+}
+
+// The trait's own `write_all`, of more bytes than a digest has.
+#[test]
+fn each_byte_of_a_long_buffer_fails_or_is_full(rt: HostRuntime) {
+    let bytes = expect_ok!(&rt; many(rt.alloc()));
+    for at in 0..600 {
+        for why in ERRORS {
+            let mut writer = failing_writer::<false>(&rt, rt.alloc(), at, why);
+            let outcome = writer.write_all(bytes.get(..600).unwrap_or(&[]));
+            check!(&rt; is_failed(&outcome, why), (why, at));
+            expect_bytes!(&rt; &writer.drip.held, bytes.get(..at).unwrap_or(&[]));
+        }
+    }
+}
+
+#[test]
+fn who_allocates(rt: HostRuntime) {
+    check!(&rt; <Vec<u8> as Write>::ALLOCATES && <&mut Vec<u8> as Write>::ALLOCATES);
+    check!(&rt; !<&mut [u8] as Write>::ALLOCATES && !<&mut &mut [u8] as Write>::ALLOCATES);
+}
+
+// How often the capacities change while the bytes are appended 300 times. A vector that doubles has less than
+// twice what is needed, and 8 at first.
+fn count_own_growths(rt: &impl Abort, alloc: Global, bytes: &[u8]) -> usize {
+    let mut held = Vec::new(alloc);
+    let mut parts = Vec::new(alloc);
+    let mut growths = 0usize;
+    for _ in 0..300 {
+        let before = (held.capacity(), parts.capacity());
+        check!(rt; held.write_all(bytes).is_ok());
+        check!(rt; parts.write(bytes).is_ok());
+        let most = held.len().saturating_mul(2).max(8);
+        check!(rt; held.capacity().max(parts.capacity()) <= most, most);
+        if (held.capacity(), parts.capacity()) != before {
+            growths = growths.saturating_add(1);
+        }
+    }
+    growths
+}
+
+// Each length alone, since another piece between would double the capacity instead.
+#[test]
+fn a_vector_grows_seldom_by_each_length(rt: HostRuntime) {
+    let bytes = expect_ok!(&rt; many(rt.alloc()));
+    for len in (1..258).chain([300, 512, 1000]) {
+        let growths = count_own_growths(&rt, rt.alloc(), bytes.get(..len).unwrap_or(&[]));
+        check!(&rt; growths < 40, (len, growths));
+    }
+}
