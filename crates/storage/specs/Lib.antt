@@ -1,3 +1,2 @@
 pub mod Content
-pub mod Hashing
 pub mod Log

@@ -2,6 +2,4 @@
 #![tactic(auto)]
 
 pub mod content;
-pub mod hashing;
 pub mod log;
-mod pins;

@@ -14,7 +14,6 @@ use multihash::{Error, Multihash};
 use std::alloc::Global;
 use std::process::Abort;
 use storage::content::hash_of;
-use storage::hashing::{HashingReader, HashingWriter};
 use storage::log::{EntryError, read_entry, valid_prefix, write_entry};
 
 // The identifier of `aaaa` as raw bytes, with its SHA-256 from another implementation.
@@ -26,7 +25,6 @@ const IDENTIFIER: [u8; 36] = [
 
 #[derive(Clone, Copy, Debug)]
 enum Reads {
-    Hashed,
     Verdict,
     Coded,
     UpTo(usize),
@@ -66,9 +64,6 @@ impl Reads {
         let one = [Multihash::<32>::default()];
         let mut out = Vec::new(alloc);
         match self {
-            Reads::Hashed => HashingReader::new(r)
-                .read_exact(&mut [0; 5000])
-                .map_err(Error::from),
             Reads::Verdict => done(read_verdict::<32, _>(r)),
             Reads::Coded => done(code_table::read::<32, _>(&[18], r)),
             Reads::UpTo(limit) => done(read_up_to::<32, _>(alloc, r, limit)),
@@ -110,13 +105,11 @@ const BLOCK: [u8; 4] = [3, 7, 8, 9];
 fn calls_of_readers_are_counted(rt: HostRuntime) {
     let alloc = rt.alloc();
     let rt = &rt;
-    let long = [7; 5000];
     let hash = &IDENTIFIER[2..];
     let mut entry = [0; 38];
     entry[..34].copy_from_slice(hash);
     entry[34..].copy_from_slice(&BLOCK);
-    let rows: [(Reads, &[u8], [usize; 4]); 13] = [
-        (Reads::Hashed, &long, [0, 1, 0, 5000]),
+    let rows: [(Reads, &[u8], [usize; 4]); 12] = [
         (Reads::Verdict, hash, [2, 0, 1, 34]),
         (Reads::Coded, hash, [2, 0, 1, 34]),
         (Reads::UpTo(0), hash, [0; 4]),
@@ -140,7 +133,6 @@ fn calls_of_readers_are_counted(rt: HostRuntime) {
 
 #[derive(Clone, Copy, Debug)]
 enum Writes {
-    Hashed,
     Framed,
     Entry,
     Node,
@@ -152,9 +144,6 @@ impl Writes {
     fn make<W: Write>(self, content: &[u8], w: &mut W) -> Result<(), Error> {
         let hash = hash_of::<32>(content);
         match self {
-            Writes::Hashed => HashingWriter::new(w)
-                .write_all(content)
-                .map_err(Error::from),
             Writes::Framed => frame::write(content, w),
             Writes::Entry => write_entry(&hash, content, w),
             Writes::Node => write_node(&[hash], content, w),
@@ -167,14 +156,13 @@ impl Writes {
     }
 }
 
-// The calls of `write` and of `write_all`: a multihash is three, and a varint is one.
-const WRITES: [(Writes, (usize, usize)); 6] = [
-    (Writes::Hashed, (1, 0)),
-    (Writes::Framed, (0, 2)),
-    (Writes::Entry, (0, 5)),
-    (Writes::Node, (0, 4)),
-    (Writes::Version0, (0, 3)),
-    (Writes::Version1, (0, 5)),
+// The calls of `write_all`: a multihash is three, and a varint is one.
+const WRITES: [(Writes, usize); 5] = [
+    (Writes::Framed, 2),
+    (Writes::Entry, 5),
+    (Writes::Node, 4),
+    (Writes::Version0, 3),
+    (Writes::Version1, 5),
 ];
 
 fn failing_writer(rt: &impl Abort, alloc: Global, at: usize, why: ErrorKind) -> FailWrite<false> {
@@ -190,9 +178,9 @@ fn calls_of_writers_are_counted(rt: HostRuntime) {
         for content in [&BLOCK, long.as_slice()] {
             let mut writer = CountsWrites::new(alloc);
             expect_ok!(rt; call.make(content, &mut writer));
-            check_eq!(rt; (writer.parts, writer.whole), calls, call);
+            check_eq!(rt; (writer.parts, writer.whole), (0, calls), call);
         }
-        for at in 0..calls.0.saturating_add(calls.1) {
+        for at in 0..calls {
             for why in [ErrorKind::DISK_GONE, ErrorKind::OutOfMemory] {
                 let mut writer = failing_writer(rt, alloc, at, why);
                 expect_rejected!(rt; &call.make(&BLOCK, &mut writer), why, (call, at));
@@ -338,9 +326,4 @@ const LOG: [u8; 73] = [
 #[test]
 fn a_known_log_is_valid(rt: HostRuntime) {
     expect_bytes!(&rt; valid_prefix(&LOG), &LOG);
-}
-
-#[test]
-fn hashing_writers_allocate_as_inner_ones(rt: HostRuntime) {
-    check!(&rt; HashingWriter::<Vec<u8>>::ALLOCATES && !HashingWriter::<Drip>::ALLOCATES);
 }
