@@ -1,17 +1,17 @@
 -- Known content identifiers, the errors of known inputs, and what is no error.
-use Rattle.std.proofs.Common.{List, ℕ, [], ◌∷◌, Some, length, refl, ap, arith, ◌≡◌, ◌≤◌, ◌++◌, Option, inl, inr, sym, ◌∙◌, subst}
+use Rattle.std.proofs.Common.{List, ℕ, [], ◌∷◌, Some, length, refl, ap, arith, ◌≡◌, ◌≤◌, Option, inl, inr, sym, ◌∙◌}
 use Rattle.multihash.specs.Pair.{Pair, FitsBuffer}
 use Rattle.multihash.specs.Encoding.{IsEncoding}
 use Rattle.multihash.proofs.VarintWriteLemmas.{one_byte}
-use Rattle.examples.specs.ContentId.{content_error_text, version_1, IsContentId, FitsContentId, HashFails, RestFails, ContentIdFails, HasTrailingBytes}
-use Rattle.examples.proofs.IdentifierLemmas.{after_number, one_place}
+use Rattle.examples.specs.ContentId.{content_error_text, version_1, IsContentId, HashFails, RestFails, ContentIdFails}
+use Rattle.examples.proofs.IdentifierLemmas.{after_number}
 use Rattle.std.specs.Prelude.{codes}
 use Rattle.std.specs.Fmt.{digits}
 use Rattle.multihash.specs.Verdict.{malformed}
 use Rattle.multihash.proofs.CallingLemmas.{rejected_no_encoding, head_of_encoding}
 use Rattle.examples.specs.PeerId.{IsAllowed, IsPeer, PeerFails, peer_error_text}
 use Rattle.examples.specs.declared.content_id.ContentIdError.{ContentIdError}
-use Rattle.examples.specs.declared.content_id.ContentIdError.TheVariants.{OtherVersion, Trailing}
+use Rattle.examples.specs.declared.content_id.ContentIdError.TheVariants.{OtherVersion}
 use Rattle.examples.specs.declared.peer_id.PeerError.{PeerError}
 use Rattle.examples.specs.declared.peer_id.PeerError.TheVariants.{Malformed, NotAllowed, OtherLength}
 
@@ -19,7 +19,13 @@ abbrev pub two_bytes : Pair
 two_bytes = record { code = 0x12; digest = 7 ∷ 8 ∷ [] }
 
 encodes_two : IsEncoding two_bytes (0x12 ∷ 0x02 ∷ 7 ∷ 8 ∷ [])
-encodes_two = record { code = 0x12 ∷ []; size = 0x02 ∷ []; is_code = one_byte 0x12 (omega arith); is_size = one_byte 2 (omega arith); spelled = refl }
+encodes_two = record {
+  code = 0x12 ∷ [];
+  size = 0x02 ∷ [];
+  is_code = one_byte 0x12 (omega arith);
+  is_size = one_byte 2 (omega arith);
+  spelled = refl;
+}
 
 -- raw bytes
 abbrev pub raw : List ℕ
@@ -33,25 +39,27 @@ names_raw = record {
   is_version = one_byte 1 (omega arith);
   is_codec = one_byte 0x55 (omega arith);
   encodes = encodes_two;
-  spelled = refl;
+  encoded = refl;
 }
 
 -- ---- content identifiers
 
-other_version : (S : ℕ) (e : ContentIdError) (new : Option (List ℕ)) → ContentIdFails S 0 0 e (Some (2 ∷ [])) new
-    → (e ≡ OtherVersion 2) × (new ≡ Some [])
+other_version : (S : ℕ) (e : ContentIdError) (new : Option (List ℕ))
+    → ContentIdFails S 0 0 e (Some (2 ∷ [])) new → (e ≡ OtherVersion 2) × (new ≡ Some [])
 other_version S e new fails =
-    elim (after_number 0 0 refl e 2 (2 ∷ []) [] (Some (2 ∷ [])) new (RestFails S 0 0 e) (one_byte 2 (omega arith)) refl fails) [
+    let two = one_byte 2 (omega arith) in
+    elim (after_number 0 0 refl e 2 (2 ∷ []) [] (Some (2 ∷ [])) new (RestFails S 0 0 e) two refl fails) [
       | inl (_, _, (is, _, kept)) ↦ (is, kept)
       | inr (inl one, _) ↦ absurd (omega (arith, one))
       | inr (inr hash, _) ↦ absurd (omega (arith, hash))
     ]
 
 -- the digest of version 0 has 32 bytes, not 31
-other_size : (S : ℕ) (e : ContentIdError) (new : Option (List ℕ)) → ContentIdFails S 0 0 e (Some (0x12 ∷ 0x1f ∷ [])) new
-    → (e ≡ OtherVersion 0x12) × (new ≡ Some [])
+other_size : (S : ℕ) (e : ContentIdError) (new : Option (List ℕ))
+    → ContentIdFails S 0 0 e (Some (0x12 ∷ 0x1f ∷ [])) new → (e ≡ OtherVersion 0x12) × (new ≡ Some [])
 other_size S e new fails =
-    by (after_number 0 0 refl e 0x12 (0x12 ∷ []) (0x1f ∷ []) (Some (0x12 ∷ 0x1f ∷ [])) new (RestFails S 0 0 e) (one_byte 0x12 (omega arith)) refl fails)
+    by (after_number 0 0 refl e 0x12 (0x12 ∷ []) (0x1f ∷ []) (Some (0x12 ∷ 0x1f ∷ [])) new (RestFails S 0 0 e)
+    (one_byte 0x12 (omega arith)) refl fails)
   where
     hash : HashFails S 0 0 e 0x12 0x1f (Some []) new → (e ≡ OtherVersion 0x12) × (new ≡ Some [])
     hash (inl (is, _)) = absurd (omega (arith, is))
@@ -61,7 +69,8 @@ other_size S e new fails =
     by : RestFails S 0 0 e 0x12 (Some (0x1f ∷ [])) new → (e ≡ OtherVersion 0x12) × (new ≡ Some [])
     by (inl (_, other, _)) = absurd (other refl)
     by (inr (_, later)) =
-        hash (after_number 0 0 refl e 0x1f (0x1f ∷ []) [] (Some (0x1f ∷ [])) new (HashFails S 0 0 e 0x12) (one_byte 0x1f (omega arith)) refl later)
+        hash (after_number 0 0 refl e 0x1f (0x1f ∷ []) [] (Some (0x1f ∷ [])) new (HashFails S 0 0 e 0x12)
+        (one_byte 0x1f (omega arith)) refl later)
 
 -- an error of another version counts no failure
 module _ (S : ℕ) (old new : Option (List ℕ)) where
@@ -73,18 +82,10 @@ module _ (S : ℕ) (old new : Option (List ℕ)) where
   counts_one n (inr (_, _, _, inr (_, inr (_, _, _, inr (inl (_, _, (r, is, _))))))) = cc
   counts_one n (inr (_, _, _, inr (_, inr (_, _, _, inr (inr (_, _, (_, same, _))))))) = omega (arith, same)
 
-one_byte_after : (S n : ℕ) → HasTrailingBytes S n (raw ++ 9 ∷ []) → (n ≡ 1) × (2 ≤ S)
-one_byte_after S n h =
-    let one = one_place h.content (version_1 0x55 two_bytes) h.bytes raw h.rest (9 ∷ []) h.is names_raw (sym h.cut) in
-    let fits : FitsContentId S (version_1 0x55 two_bytes) = subst (FitsContentId S) one.0 h.fits in
-    (omega (arith, h.many, ap length one.2), omega (arith, fits))
-
-none_after : (S : ℕ) (input : List ℕ) → ¬ (HasTrailingBytes S 0 input)
-none_after S input h = omega (arith, h.some)
-
 -- ---- peer identifiers
 
-allowed_sizes : IsAllowed 0 42 × ¬ (IsAllowed 0 43) × IsAllowed 0x12 32 × ¬ (IsAllowed 0x12 31) × ¬ (IsAllowed 0x12 33)
+allowed_sizes : IsAllowed 0 42 × ¬ (IsAllowed 0 43)
+    × IsAllowed 0x12 32 × ¬ (IsAllowed 0x12 31) × ¬ (IsAllowed 0x12 33)
 allowed_sizes = (
   inl (refl, omega arith),
   no_other 0 43 (omega arith) (omega arith),
@@ -100,7 +101,8 @@ allowed_sizes = (
 -- an identifier has no error
 no_error : (p : Pair) (bytes : List ℕ) (e : PeerError) → IsPeer p → IsEncoding p bytes → ¬ (PeerFails bytes e)
 no_error p bytes (Malformed r) is encodes (f, named, v) =
-    let fits : FitsBuffer 42 p = elim is [ inl identity ↦ omega (arith, identity.1) | inr hash ↦ omega (arith, hash.1) ] in
+    let fits : FitsBuffer 42 p =
+    elim is [ inl identity ↦ omega (arith, identity.1) | inr hash ↦ omega (arith, hash.1) ] in
     rejected_no_encoding 42 {e = r} (malformed f, v 42, named) p encodes fits
 no_error p bytes (NotAllowed code size) is encodes (len, head, other) =
     let same = head_of_encoding code size len bytes head p encodes in
@@ -112,8 +114,7 @@ no_error p bytes (OtherLength n) is encodes (code, size, len, head, allowed, lon
 -- ---- texts
 
 texts : (content_error_text (OtherVersion 7) ≡ codes "no content identifier of version 7")
-    × (content_error_text (Trailing 10) ≡ codes "10 bytes after a content identifier")
     × (peer_error_text (NotAllowed 18 31) ≡ codes "no peer has a hash of code 18 and 31 bytes")
     × (peer_error_text (OtherLength 7) ≡ codes "7 bytes in place of the digest")
 unfolding digits
-texts = (refl, refl, refl, refl)
+texts = (refl, refl, refl)

@@ -1,5 +1,5 @@
 -- Content identifiers of version 0 and of version 1.
-use Rattle.std.specs.Prelude.{◌≡◌, ◌<◌, ℕ, ⊤, ◌⊎◌, List, ◌++◌, length, Option, codes}
+use Rattle.std.specs.Prelude.{◌≡◌, ℕ, ⊤, ◌⊎◌, List, ◌++◌, length, Option, codes}
 use Rattle.std.specs.Fmt.{decimal}
 use Rattle.multihash.specs.Varint.{IsVarint}
 use Rattle.multihash.specs.Pair.{Pair, FitsBuffer}
@@ -10,7 +10,7 @@ use Rattle.multihash.specs.Multihash.{pair_of}
 use Rattle.examples.specs.declared.content_id.ContentId.{ContentId}
 use Rattle.examples.specs.declared.content_id.ContentId.TheVariants.{V0, V1}
 use Rattle.examples.specs.declared.content_id.ContentIdError.{ContentIdError}
-use Rattle.examples.specs.declared.content_id.ContentIdError.TheVariants.{Rejected, OtherVersion, Trailing}
+use Rattle.examples.specs.declared.content_id.ContentIdError.TheVariants.{Rejected, OtherVersion}
 
 -- what an identifier encodes: a SHA2-256 digest, or a codec and a multihash
 pub data Content : Type 0 where
@@ -35,7 +35,7 @@ pub record IsVersion1 (codec : ℕ) (p : Pair) (bytes : List ℕ) : Type 0 where
   pub is_version : IsVarint 1 version
   pub is_codec : IsVarint codec codec_bytes
   pub encodes : IsEncoding p encoding
-  pub spelled : bytes ≡ version ++ (codec_bytes ++ encoding)
+  pub encoded : bytes ≡ version ++ (codec_bytes ++ encoding)
 
 -- the bytes are an identifier of this content
 abbrev pub IsContentId : Content → List ℕ → Type 0
@@ -51,7 +51,6 @@ FitsContentId S (version_1 codec p) = FitsBuffer S p
 abbrev pub content_error_text : ContentIdError → List ℕ
 content_error_text (Rejected error) = refusal_text error
 content_error_text (OtherVersion n) = codes "no content identifier of version " ++ decimal n
-content_error_text (Trailing n) = decimal n ++ codes " bytes after a content identifier"
 
 -- the error passes on an error that satisfies P
 abbrev pub IsRejected : (Refusal → Type 0) → ContentIdError → Type 0
@@ -80,19 +79,7 @@ RestFails S before after e version old new =
     ⊎ (((version ≡ 1) ⊎ (version ≡ 0x12))
     × FailsInTurn (NumberFails before after e) ConsumesVarint (HashFails S before after e version) old new)
 
--- reading an identifier failed, in the version or after it. It leaves what follows, so it reports no trailing
--- bytes
+-- reading an identifier failed, in the version or after it
 abbrev pub ContentIdFails : ℕ → ℕ → ℕ → ContentIdError → Option (List ℕ) → Option (List ℕ) → Type 0
 ContentIdFails S before after e =
     FailsInTurn (NumberFails before after e) ConsumesVarint (RestFails S before after e)
-
--- an identifier that fits is a prefix of the input, and that many bytes follow it
-pub record HasTrailingBytes (S n : ℕ) (input : List ℕ) : Type 0 where
-  pub content : Content
-  pub bytes : List ℕ
-  pub rest : List ℕ
-  pub is : IsContentId content bytes
-  pub fits : FitsContentId S content
-  pub cut : input ≡ bytes ++ rest
-  pub many : length rest ≡ n
-  pub some : 0 < n

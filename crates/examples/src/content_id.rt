@@ -1,11 +1,11 @@
 //! Content identifiers of versions 0 and 1 (<https://github.com/multiformats/cid>).
-ghost use Rattle.std.specs.Prelude.{◌≡◌, ◌⊎◌, ℕ, List, ◌++◌, length, Some, Option, IfOk, IfErr, OnOk, OnErr, MatchResult};
+ghost use Rattle.std.specs.Prelude.{◌≡◌, ℕ, List, ◌++◌, length, Some, IfOk, IfErr, OnOk, OnErr, MatchResult};
 ghost use Rattle.multihash.specs.Reading.{Consumes};
 ghost use Rattle.multihash.specs.Writing.{AppendsPrefix, CountsWriterFailures};
 ghost use Rattle.multihash.specs.Refusal.{IsIo, of_io};
 ghost use Rattle.multihash.specs.Multihash.{pair_of};
-ghost use Rattle.examples.specs.ContentId.{Content, content_of, content_error_text, IsContentId, FitsContentId, ContentIdFails, HasTrailingBytes};
-ghost use Rattle.examples.specs.declared.content_id.ContentIdError.TheVariants.{Rejected, Trailing};
+ghost use Rattle.examples.specs.ContentId.{Content, content_of, content_error_text, IsContentId, FitsContentId, ContentIdFails};
+ghost use Rattle.examples.specs.declared.content_id.ContentIdError.TheVariants.{Rejected};
 
 mod codec;
 
@@ -38,8 +38,6 @@ pub enum ContentIdError {
     Rejected(Error),
     /// The first varint has this number, which is neither 1 nor the start of a multihash of version 0.
     OtherVersion(u64),
-    /// This number of bytes follows the identifier.
-    Trailing(usize),
 }
 
 impl fmt::Display for ContentIdError {
@@ -49,7 +47,6 @@ impl fmt::Display for ContentIdError {
         match self {
             ContentIdError::Rejected(e) => fmt::Display::fmt(e, f),
             ContentIdError::OtherVersion(n) => write!(f, "no content identifier of version {n}"),
-            ContentIdError::Trailing(n) => write!(f, "{n} bytes after a content identifier"),
         }
     }
 }
@@ -116,28 +113,6 @@ impl<const S: usize> ContentId<S> {
         Ok(ContentId::V0(digest))
     }
 
-    /// Reads the identifier that is the whole of `bytes`.
-    ///
-    /// # Errors
-    ///
-    /// Those of [`ContentId::read`], and [`ContentIdError::Trailing`] with the number of bytes that follow
-    /// the identifier, if some do.
-    pub fn from_bytes(bytes: &[u8]) -> Result<Self, ContentIdError>
-        ensures ok { IfOk result (λ id. IsContentId (content_of id) bytes.now) }
-        ensures found { (content : Content) → IsContentId content bytes.now →
-            FitsContentId S content → MatchResult result (λ id. content_of id ≡ content) (λ _. ⊥) }
-        ensures err { IfErr result (λ e.
-            ((n : ℕ) × (e ≡ Trailing n) × HasTrailingBytes S n bytes.now)
-            ⊎ ((left : Option (List ℕ)) × ContentIdFails S 0 0 e (Some bytes.now) left)) }
-    {
-        let mut left = bytes;
-        let id = Self::read(&mut left)?;
-        match left.len() {
-            0 => Ok(id),
-            more => Err(ContentIdError::Trailing(more)),
-        }
-    }
-
     /// Appends the identifier to `w`.
     ///
     /// # Errors
@@ -163,20 +138,6 @@ impl<const S: usize> ContentId<S> {
             }
         }
         Ok(())
-    }
-
-    /// Returns the identifier's length in bytes.
-    #[tactic(auto, using(crate::proofs::IdentifierLemmas::bare_is))]
-    pub fn encoded_len(&self) -> usize
-        ensures { (bytes : List ℕ) × IsContentId (content_of self.now) bytes
-            × (result ≡ length bytes) }
-    {
-        match self {
-            ContentId::V0(digest) => bare(digest).encoded_len(),
-            ContentId::V1 { codec, hash } => {
-                1 + varint::len(codec.number).unwrap() + hash.encoded_len()
-            }
-        }
     }
 }
 

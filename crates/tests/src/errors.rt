@@ -63,7 +63,6 @@ fn expect_number_of_callers(rt: &impl Abort, alloc: Global, n: u64) {
     expect_printed(rt, alloc, &EntryError::TooLong(n));
     expect_printed(rt, alloc, &UnknownCode { code: n });
     expect_printed(rt, alloc, &ContentIdError::OtherVersion(n));
-    expect_printed(rt, alloc, &ContentIdError::Trailing(n as usize));
     expect_printed(rt, alloc, &PeerError::OtherLength(n as usize));
     expect_printed(rt, alloc, &PeerError::NotAllowed { code: n, size: 7 });
     expect_printed(rt, alloc, &PeerError::NotAllowed { code: 7, size: n });
