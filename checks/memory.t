@@ -96,7 +96,7 @@ def results(work: Path) -> Iterator[tap.Result]:
         source = f"#include <stdlib.h>\nint main(void) {{ {text} }}\n"
         error = counted.error_of([str(counted.build(source, "planted"))], number, "1", "0")
         yield tap.planted(f"{number}: {text}", [error], found)
-    program = tap.program("tests", "test")
+    program = tap.program("tests_callers", "test")
     listed = subprocess.run([program, "--list"], stdout=subprocess.PIPE, text=True).stdout
     tests = {path.rpartition("::")[2]: path for path in re.findall(r"(?m)^(\S+): test$", listed)}
     yield "the tests are those listed", others(tests)

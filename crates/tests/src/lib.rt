@@ -2,15 +2,11 @@
 #![tactic(auto)]
 
 #[cfg(test)]
-mod callers;
-#[cfg(test)]
 mod errors;
 #[cfg(test)]
 mod helpers;
 #[cfg(test)]
 mod lists;
-#[cfg(test)]
-mod memory;
 #[cfg(test)]
 mod readers;
 #[cfg(test)]
