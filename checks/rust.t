@@ -143,8 +143,9 @@ on_target() {
   "${@:3}" | diff - <(sed 1d "$work/list" | wc -l)
 }
 
+# A core that Rust's packages bring refers to the function that unwinds, which is in std.
 in_emulator() {
-  printf '%s\n' '#include <stdio.h>' 'unsigned check_vectors(void);' \
+  printf '%s\n' '#include <stdio.h>' 'unsigned check_vectors(void);' 'void rust_eh_personality(void) {}' \
     'int main(void) { printf("%u\n", check_vectors()); }' > "$work/host.c"
   "$1-gcc" -static -Wl,--no-warn-mismatch -x c "$work/host.c" -x none "$work/vectors" -o "$work/host"
   "$2" "$work/host"
