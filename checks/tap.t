@@ -58,7 +58,7 @@ red|# none|true|grep 1 "$1/it"
 red|s/1/4/|true|false
 red|s/1/4/|false|grep 1 "$1/it"
 red\nlist:2: not seen: s/2/5/|s/1/4/,s/2/5/|true|grep 1 "$1/it"
-red\nlist:1: not seen: s/3/5/|s/3/5/,s/1/4/|true|grep 1 "$1/it"
+red\nlist:1: no file has what it edits: s/3/5/|s/3/5/,s/1/4/|true|grep 1 "$1/it"
 red\nlist:1: not built: s/1/3/|s/1/3/,s/1/4/|sed -n /3/q1 "$1/it"|grep 1 "$1/it"
 END
 tries "1..0\nstatus 1" true

@@ -91,7 +91,7 @@ rejects_edits() {
 # is built, and its tests fail.
 #   sees_faults LIST FOLDER "FILE.." BUILD TEST    these files are edited; the two commands get the path of the copy
 sees_faults() {
-  local at edit edits ended file tried=0 copy=$work/faults
+  local at edit edits ended file is_edited tried=0 copy=$work/faults
   rm -rf "$copy"
   cp -r "$2" "$copy"
   "$4" "$copy"
@@ -100,8 +100,12 @@ sees_faults() {
   for at in "${!edits[@]}"; do
     edit=${edits[at]}
     [[ $edit != "#"* ]] || continue
-    tried=1
-    for file in $3; do sed "$edit" "$2/$file" > "$copy/$file"; done
+    tried=1 is_edited=0
+    for file in $3; do
+      sed "$edit" "$2/$file" > "$copy/$file"
+      cmp -s "$2/$file" "$copy/$file" || is_edited=1
+    done
+    [ $is_edited = 1 ] || { echo "$1:$((at + 1)): no file has what it edits: $edit"; continue; }
     run "$work/tested" "$4" "$copy"
     [ "$ended" = 0 ] || { echo "$1:$((at + 1)): not built: $edit"; tail "$work/tested"; }
     run "$work/tested" "$5" "$copy"
