@@ -11,9 +11,9 @@ s/taken = (size_t)field(\w*, 3)/& + 1/
 s/length = (size_t)field(\w*, 2)/& + 1/
 s/== 0 ? 0/== 1 ? 0/
 s/w2c_multihash_version(.*)/& + 1/
-s/\(&\w*, RESULT, of\), /\1 + 1, /
-s/prefix_length, whole_length);/prefix_length, whole_length + 1);/
-s/bytes_length, limit);/bytes_length, limit + 1);/
+s/status_text(&\w*, RESULT, \w*/& + 1/
+s/from_prefix(&.*, \w*/& + 1/
+s/read_limit(&.*, \w*/& + 1/
 s/> \w*->limit/> 255/
 s/errno != EINTR/1/
 s/== 0 ? 2 : 1/== 0 ? 3 : 1/

@@ -3,16 +3,16 @@
 /^await connectLater/,$s/^export.*//
 /^connect(Uint8/,$s/^export.*//
 /^export function connect/,$s/^export \*.*//
-s/failure(words.6./& \& 7/
+s/failure(\w*\[6\]/& \& 7/
 s/^        this.release();//
 s/ |= / = /
 /throws, before a copy/d
-s/source.destroy();/;/
+s/\w*.destroy();/;/
 # With --all:
 s/new TypeError(/new Error(1 + /
 s/: status/: code/
 s/{ cause },//
-s/tagOf.call(data)/data?.[Symbol.toStringTag]/
+s/tagOf.call(\(\w*\)) !== 'Uint8Array') throw/\1?.[Symbol.toStringTag] !== 'Uint8Array') throw/
 s/offsetOf.call(d/bufferOf.call(data).resize ? 0 : &/
 s/n length;/n lengthOf.call(data);/
 s/ || \w* < 0//
@@ -22,14 +22,14 @@ s/Number(\(\w*\)) + 0/Number(\1)/
 s/new Uint8Array((row/length === 3 ? memory.subarray(at, at + 3) : &/
 s/forJSON = .*/forJSON = Number;/
 s/(\(\w*\) < 1)/(\1 < 0)/
-s/named === undefined/!named/
+s/(\(\w*\) === undefined ? ''/(!\1 ? ''/
 s/if (value inst.*//
 s/> 0 ? \(.*\), cause).*/>= 0 ? \1) : null;/
 s/TE.includes(this/TE[0].includes(this/
 s/writable: true, //
 s/? wide(2)/? words[2] % 31/
 s/(given.*undefined/words[4] : {}.code/
-s/copy = /&!digest.byteOffset ? digest : /
+s/= new Uint8Array(\(\w*\)); .. once/= !\1.byteOffset ? \1 : new Uint8Array(\1); \/\/ once/
 s/size = digest.length/& % 32/
 s/encode(this/this.kept ??= &/
 /if (tagOf/s/ !== 'U\w*'/ == null/g
@@ -37,13 +37,13 @@ s/code !== 'bigint/code !== 'string/
 s/0) .left, right/0) [left/
 s/index = 0/index = 1/
 s/n this;/n { ...this };/
-0,/taken: words.10./s//& % 34/
-s/taken: words.6./& % bytes.length/
-s/scale_encode(resultAt, number/& \& 255n/
+0,/taken: \w*\[10\]/s//& % 34/
+s/taken: \w*\[6\]/& % bytes.length/
+s/scale_encode(\w*, \w*/& \& 255n/
 s/put(rightDigest/put(right.digest/
 s/rightCode, \(s.*\)right/leftCode, \1left/
 s/slice(this.#at/&, -1/
-s/n found?.*/n found \&\& { bytes: [] };/
+s/return \(\w*\)?\.multihash.*/return \1 \&\& { bytes: [] };/
 s/'the code/'code/
 s/throw e.*/throw Error(1);/
 s/this.#isReleased = true//
@@ -58,7 +58,7 @@ s/ = 264/ = 265/
 s/, version,/,/
 s/functions.memory.buffer/&.valueOf()/
 s/#end ??= () => {/#end = () => {/
-s/else if (!stream.locked)/else/
+s/else if (!\w*.locked)/else/
 s/CODES = { __proto__: null }/CODES = {}/
 s/NAMES\[code\] = name/NAMES[code] = code/
 s/0x13, 'SHA-512'/0x13, 'SHA-384'/

@@ -5,12 +5,12 @@ s/limit=64/limit=63/
 s/^    Py_DECREF(type);//
 s/"OK is/"It is/
 s/self._is_busy = True/pass/
-s/return found.taken + (s/return found.digest_length == 64 ? 1 : found.taken + (s/
+s/return \(\w*\).taken + (s/return \1.digest_length == 64 ? 1 : \1.taken + (s/
 # With --all:
 s/PyBytes_CheckExact/PyBytes_Check/
 s/1) return result_of.*/1) return PyBytes_FromString("01234567");/
-s/PyUnicode_InternFromString(text)/PyUnicode_FromString(text)/
-s/whole < 0 ? NULL/(whole += whole > 300) < 0 ? NULL/
+s/PyUnicode_InternFromString(\(\w*\))/PyUnicode_FromString(\1)/
+s/\(\w*\) < 0 ? NULL : f/(\1 += \1 > 300) < 0 ? NULL : f/
 s/if (view == NULL)/& PyErr_SetNone(PyExc_OSError);\n&/
 s/if (index == NULL)/& PyErr_SetNone(PyExc_ValueError);\n&/
 s/"a %s is not/"no %s is/
@@ -21,11 +21,11 @@ s/MULTIHASH_INSUFFICIENT || s/MULTIHASH_OVERFLOW || s/
 s/was not imported/was imported/
 s/statuses, (Py_ssize_t)status/& % 6 + 1/
 s/names, at), values\[at/&  == 1 || at == 2 ? 3 - at : at/
-s/multihash, (Py_ssize_t)found.taken/& + 1/
-s/bytes + found.digest_offset/& - 1/
+s/(\"Nn\", .*\.taken/& + 1/
+s/\w* + \w*.digest_offset/& - 1/
 /^    Py_DECREF(from->owner);/d
 s/length = found.digest_length/& + from.length/
-s/\(PyBytes_FromStringAndSize(.*out, .*length\));$/\1 - 1);/
+s/\(PyBytes_FromStringAndSize(.*\w, .*\.length\));$/\1 - 1);/
 s/encoded(module, m/encoded(module, named ? multihash_scale_encode : m/
 s/PyLong_FromLong(order_of/PyBool_FromLong(order_of/
 s/expected a Multihash, not/no Multihash:/
@@ -47,7 +47,7 @@ s/read(%zu)/it (%zu)/
 s/(Py_ssize_t)\w*->length/& % 4/
 s/return \(new_multihash(type, n.*\);/PyObject *made = \1;\nPy_XINCREF(made);\nreturn made;/
 s/type)) Py_RETURN_NOTIMPLEMENTED/type)) Py_RETURN_FALSE/
-s/0, operation)/0, operation ^ (Py_TYPE(left) != Py_TYPE(right)))/
+s/\(order_of(\(\w*\), \(\w*\)), 0, \w*\)/\1 ^ (Py_TYPE(\2) != Py_TYPE(\3))/
 s/PyObject_Hash(\w*->digest)/PyObject_HasAttrString(self, "__dict__")/
 s/code=%R, d/code=%R; d/
 s/"OO", ((multihash_object \*)self)->code/"KO", ((multihash_object *)self)->number ^ 1/
@@ -68,7 +68,7 @@ s/"--help"/"--shown"/
 s/{code: name for name/{code: code for name/
 s/range(1, 65)/range(1, 64)/
 s/ in hashlib.algorithms_available/ in ()/
-s/int(bits) \/\/ 4/int(bits) \/\/ 8/
+s/\(int(\w*) \/\/ \)4/\18/
 s/"sha2-224": 0x1013/"sha2-224": 0x1012/
 s/name not in CODES/name is None/
 s/code not in NAMES/code < 0/

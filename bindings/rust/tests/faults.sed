@@ -4,17 +4,17 @@ s/io::Read::read_exact(&mut &\[\]\[..\], &mut \[0\])/io::Write::write_all(\&mut 
 s/Kind::Io(error) => Some(error),/Kind::Io(_) => None,/
 /fn code/,/}/s/self.0.code$/& ^ 2/
 s/self.digest().hash(state)/self.digest().len().hash(state)/
-s/Some(self.cmp(other))/(self.cmp(other) as i8 > 9).then_some(Ordering::Less)/
+s/Some(self.cmp(\(\w*\)))/(self.cmp(\1) as i8 > 9).then_some(Ordering::Less)/
 s/\w*.next_element()/&.map_err(|it| if length % 12 == 1 { A::Error::custom("none") } else { it })/
 s/LENGTH_MAX };/LENGTH_MAX + 1 };/
 s/a valid Multihash/a Multihash/
 s/InvalidSize(\w* as u64/& + 1/
-s/InvalidCode(code)))/InvalidCode(code ^ 1)))/
-s/field("size", size)/field("size", code)/
+s/\(InvalidCode(\w*\))))/\1 ^ 1)))/
+s/\("code", \(\w*\)).field("size", \)\w*/\1\2/
 s/error: "/&!/
-s/self.error = Some(error);/drop(error);/
-s/self.stream.read_exact(buf)/self.stream.read(buf).map(|_| ())/
-s/self.stream.write_all(buf)/self.stream.write(buf).map(|_| ())/
+s/self.error = Some(\(\w*\));/drop(\1);/
+s/\(self.stream.read\)_exact(\(\w*\))/\1(\2).map(|_| ())/
+s/\(self.stream.write\)_all(\(\w*\))/\1(\2).map(|_| ())/
 s/0 => return Err(WRITE_ZERO)/0 => return Ok(())/
 s/byte >= LAST_BYTE_LIMIT {/byte > LAST_BYTE_LIMIT {/
 s/if byte == 0 {/if byte == 1 {/
