@@ -287,9 +287,9 @@ def results() -> Iterator[tap.Result]:
     for name, check in CHECKS.items():
         yield name, "\n".join(check(texts))
     yield from program_results(texts)
-    for name, *edit in edits.rows(Path(__file__).with_name("pages.edits")):
-        changed = edits.apply(texts, [edits.Edit(*edit)])
-        yield tap.planted(f"{name}: {' > '.join(edit)}", CHECKS[name]({**texts, **changed}))
+    for name, path, old, new in edits.rows(Path(__file__).with_name("pages.edits")):
+        changed = {**texts, path: texts[path].replace(old, new, 1)}
+        yield tap.planted(f"{name}: {path} > {old} > {new}", CHECKS[name](changed))
 
 
 if __name__ == "__main__":
