@@ -36,17 +36,18 @@ async function serve(request, response) {
 }
 
 // On a busy machine Chromium sometimes hangs at its start, before it asks for the page, so another one is started with
-// a new profile. timeout ends a browser and what it has started.
+// a new profile, and may take longer. timeout ends a browser and what it has started.
 function start(attempt) {
   const profile = mkdtempSync(join(tmpdir(), `${name}-`));
   const words = commands[name](profile, `http://127.0.0.1:${server.address().port}/${path}`);
   const env = { ...process.env, HOME: profile, TMPDIR: profile };
   browser = spawn('timeout', ['--kill-after=1', '1800', ...words], { stdio: 'ignore', env });
-  startLimit = setTimeout(() => browser.kill(), 120_000);
+  startLimit = setTimeout(() => browser.kill(), 120_000 * attempt ** 2);
   browser.on('exit', () => {
     clearTimeout(startLimit);
     rmSync(profile, { recursive: true, force: true, maxRetries: 20, retryDelay: 100 });
     if (process.exitCode === undefined && attempt < 3) return start(attempt + 1);
+    if (process.exitCode === undefined) console.log(`${name} sent no report`);
     process.exitCode ??= 1;
     server.close();
   });
