@@ -10,56 +10,62 @@ import * as module from 'verified-multihash/module';
 type Same<A, B> = (<T>() => T extends A ? 1 : 2) extends <T>() => T extends B ? 1 : 2 ? true : false;
 /** The value has this type and no other, such as `any` or a union with more. */
 const is = <A>() => <B>(value: B, ..._: Same<A, B> extends true ? [] : [never]): B => value;
+type Fields<A> = { [Name in keyof A as A[Name] extends Function ? never : Name]: A[Name] };
+/** No field of the value is assigned to. */
+const isFixed = <A>(_: A, ...__: Same<Fields<A>, Readonly<Fields<A>>> extends true ? [] : [never]): void => undefined;
 
 const bytes = new Uint8Array([0x12, 0]);
 const found = is<Multihash>()(decode(bytes));
 // @ts-expect-error bytes are no text
 decode('1200');
-is<Read>()(read(bytes, 2n ** 60n));
+is<(bytes: Uint8Array, limit?: Wide) => Read>()(read);
 // @ts-expect-error a limit is no text
 read(bytes, '255');
-is<{ multihash: Multihash; taken: number }>()({ ...read(bytes) });
+is<{ readonly multihash: Multihash; readonly taken: number }>()(read(bytes, 2n ** 60n));
 is<Head>()(head(bytes));
 // @ts-expect-error bytes are no array of numbers
 head([18, 0]);
-is<{ code: Wide; digestLength: Wide; taken: number }>()({ ...head(bytes) });
-is<Uint8Array>()(encode(0x12, bytes));
+is<{ readonly code: Wide; readonly digestLength: Wide; readonly taken: number }>()(head(bytes));
+is<(code: Wide, digest: Uint8Array) => Uint8Array>()(encode);
 // @ts-expect-error a digest is no text
 encode(1, '');
-is<number>()(encodedLength(2n ** 60n, 32));
+is<(code: Wide, digestLength: Wide) => number>()(encodedLength);
 // @ts-expect-error a length is no digest
 encodedLength(18, bytes);
-is<-1 | 0 | 1>()(compare(found, found));
+is<(left: Multihash, right: Multihash) => -1 | 0 | 1>()(compare);
 // @ts-expect-error an encoding is no multihash
 compare(found, bytes);
 is<Read>()(scaleDecode(bytes));
 // @ts-expect-error a buffer is no view
 scaleDecode(new ArrayBuffer(9));
-is<Uint8Array>()(scaleEncode(1n, bytes));
+is<(code: Wide, digest: Uint8Array) => Uint8Array>()(scaleEncode);
 // @ts-expect-error a code is no name
 scaleEncode('sha2-256', bytes);
 is<string>()(index.version);
+is<readonly [255, 18, 266, 264]>()(
+  [index.DIGEST_MAX, index.HEAD_MAX, index.LENGTH_MAX, index.SCALE_LENGTH_MAX] as const);
 
 is<Multihash<number>>()(Multihash.of(0x12, bytes));
 is<Multihash<Wide>>()(Multihash.of(2n ** 60n, bytes));
 // @ts-expect-error a code is no name
 Multihash.of('sha2-256', bytes);
+// @ts-expect-error a digest is no text
+Multihash.of(18, '');
 // @ts-expect-error Multihash.of makes one
 new Multihash();
 is<number | bigint>()(found.code);
 is<number>()(found.size);
 is<Uint8Array>()(found.digest);
 is<Uint8Array>()(found.bytes);
+isFixed(found);
 // @ts-expect-error a multihash is not changed
 found.code = 3;
-// @ts-expect-error nor is its digest replaced
-found.digest = bytes;
 is<boolean>()(found.equals('any value'));
 is<Multihash<number>>()(found.narrow());
 is<{ code: number | string; size: number; digest: string }>()(found.toJSON());
 
 const error = new MultihashError('invalid_size', { size: 2n ** 60n });
-export const plain: Error = error;
+export const plain: Error = new MultihashError('overflow');
 // @ts-expect-error 'ok' is the status of no error
 new MultihashError('ok');
 // @ts-expect-error a field may be absent, not undefined
@@ -69,15 +75,23 @@ is<Wide | undefined>()(error.size);
 is<Wide | undefined>()(error.code);
 is<number | undefined>()(error.taken);
 is<boolean>()(error.isIncomplete);
+isFixed(error as Omit<MultihashError, 'name' | 'message' | 'stack'>);
+isFixed(error.cause);
+is<Wide | undefined>()(error.cause.size ?? error.cause.code ?? error.cause.taken);
 is<Details & { readonly status: Status }>()(error.cause);
 is<MultihashError | undefined>()(MultihashError.from({}));
-is<number | string | undefined>()(error.toJSON().size);
-// @ts-expect-error an error is not changed
-error.status = 'overflow';
+is<{ name: string; message: string; status: Status; size?: number | string; code?: number | string; taken?: number }>()(
+  error.toJSON());
 
 declare const stream: ReadableStream<Uint8Array>;
 const reader = new MultihashReader(stream, { limit: 64, rest: bytes });
 export const source: ByteStream = stream;
+is<[source: ByteStream | AsyncIterable<Uint8Array>, options?: { limit?: Wide; rest?: Uint8Array }]>()(
+  null! as ConstructorParameters<typeof MultihashReader>);
+is<{ done: boolean; value?: Uint8Array | undefined }>()(await source.getReader().read());
+is<'read' | 'cancel' | 'releaseLock'>()(null! as keyof ReturnType<ByteStream['getReader']>);
+is<'locked' | 'getReader' | 'cancel'>()(null! as keyof ByteStream);
+isFixed(source);
 export const iterable = (chunks: AsyncIterable<Uint8Array>): MultihashReader => new MultihashReader(chunks);
 // @ts-expect-error chunks are no texts
 export const texts = (stream: ReadableStream<string>): MultihashReader => new MultihashReader(stream);
@@ -88,8 +102,7 @@ is<Multihash | null>()(await reader.read());
 export const next: Multihash = await reader.read();
 for await (const each of reader) is<Multihash>()(each);
 is<Uint8Array>()(reader.rest);
-// @ts-expect-error rest is a copy
-reader.rest = bytes;
+isFixed(reader);
 is<void>()(reader.release());
 is<Promise<void>>()(reader.cancel('a reason'));
 is<Promise<void>>()(reader[Symbol.asyncDispose]());
@@ -115,6 +128,8 @@ export const theirs: MultihashDigest[] = [found.narrow(), Multihash.of(0x12, byt
 // @ts-expect-error the code may be a bigint
 export const wide: MultihashDigest = found;
 export const hashers: MultihashHasher[] = [sha256, identity];
+is<string>()(sha256.name);
+isFixed(sha256);
 is<0>()(identity.code);
 is<0x12>()(sha256.code);
 is<0x20>()(sha384.code);
@@ -126,7 +141,11 @@ is<boolean>()(await verify(found, bytes));
 is<boolean>()(await verify(bytes, bytes));
 // @ts-expect-error an encoding is no text
 verify('1200', bytes);
+// @ts-expect-error nor is a content
+verify(bytes, '');
 is<string | undefined>()(NAMES[18]);
 is<number | undefined>()(CODES['sha2-256']);
 // @ts-expect-error a list is not changed
 CODES['sha2-256'] = 3;
+// @ts-expect-error nor is the other one
+NAMES[18] = 'sha2-256';
