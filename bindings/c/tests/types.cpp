@@ -1,4 +1,4 @@
-// The exact type of each function in C++.
+// The exact type of each function and field in C++, and calls that it rejects.
 #include "multihash.h"
 
 #include <type_traits>
@@ -7,6 +7,13 @@ template <typename Type, typename Function> constexpr bool is(Function *)
 {
     return std::is_same_v<Function, Type>;
 }
+/* The fields have these types, and are assigned to. */
+template <typename Struct, typename... Types> constexpr bool has(Types Struct::*...)
+{
+    return true;
+}
+template <auto function, typename... Types>
+constexpr bool rejects = !std::is_invocable_v<decltype(function), Types...>;
 using bytes = const uint8_t *;
 using out = uint8_t *;
 using text = const char *;
@@ -26,3 +33,17 @@ static_assert(is<int32_t(uint64_t, bytes, size_t, uint64_t, bytes, size_t)>(mult
 static_assert(is<uint32_t()>(multihash_version));
 static_assert(is<encoded(multihash_status, out, size_t)>(multihash_put_status_text));
 static_assert(is<text(multihash_status)>(multihash_status_text));
+
+static_assert(std::is_same_v<multihash_status, uint32_t>);
+static_assert(has<decoded, multihash_status, uint64_t, uint64_t, size_t, size_t, size_t>(
+    &decoded::status, &decoded::size, &decoded::code, &decoded::digest_offset, &decoded::digest_length,
+    &decoded::taken));
+static_assert(has<encoded, multihash_status, uint64_t, size_t>(&encoded::status, &encoded::size, &encoded::length));
+static_assert(has<multihash_front, multihash_status, uint64_t, uint64_t, size_t>(
+    &multihash_front::status, &multihash_front::code, &multihash_front::digest_length, &multihash_front::taken));
+
+static_assert(!rejects<multihash_from_bytes, out, size_t>);
+static_assert(rejects<multihash_from_bytes, text, size_t>);
+static_assert(rejects<multihash_from_bytes, bytes>);
+static_assert(rejects<multihash_encode, uint64_t, bytes, size_t, bytes, size_t>);
+static_assert(rejects<multihash_compare, decoded, decoded>);
