@@ -208,7 +208,7 @@ rust_counts() {
   rejects "truncate 1 20" in_crate ../beside_upstream.py .
 }
 
-# What the package forbids is an error, and so is a warning of Cargo, or a test that is left out.
+# What the package forbids is an error, and so is a warning of Cargo, a test that is left out, or what no type allows.
 planted_warnings() {
   local file command text line
   while IFS=, read -r file command text line; do
@@ -223,6 +223,11 @@ planted_warnings() {
 src/lib.rs,build,missing documentation,pub mod planted {}
 src/lib.rs,build,incompatible with previous forbid,#[allow(unsafe_code)] mod planted {}
 tests/values.rs,tests cargo test --test values,> left out,#[test] fn planted() { println!("left out") }
+tests/types.rs,build --test types,E0308,fn planted() { _ = Value::from_bytes("1200"); }
+tests/types.rs,build --test types,E0308,const _: fn(Empty) -> Result<proved::Multihash<64>, Error> = Value::read;
+tests/types.rs,build --test types,E0423,fn planted(bare: proved::Multihash<64>) -> Value { Multihash(bare) }
+tests/types.rs,build --test types,E0515,fn planted() -> &'static [u8] { Value::default().digest() }
+tests/types.rs,build --test types,E0616,fn planted(bare: &mut proved::Multihash<64>) { bare.size = 65; }
 Cargo.toml,tests cargo test --features serde --test values,unused manifest key: planted,[planted]
 END
 }
