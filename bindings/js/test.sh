@@ -14,8 +14,19 @@ export MULTIHASH_VERDICTS=$vectors/verdicts.tsv
 # The module of a folder is imported.
 imported() { node --no-warnings "$1/index.js"; }
 
-# All tests of a folder. No process may take more than that CPU time.
-npm_test() { (cd "$1"; ulimit -t 600; npm test); }
+# All tests of a folder, or those that other words choose. No process may take more than that CPU time.
+npm_test() { (cd "$1"; ulimit -t 600; npm test -- "${@:2}"); }
+
+# Inputs that are drawn have the results that verdicts.py computes. A wrong result is found.
+drawn() {
+  local -x MULTIHASH_VERDICTS=$work/drawn/verdicts.tsv
+  mkdir "$work/drawn"
+  cp "$vectors/hashes.tsv" "$work/drawn"
+  crates/vectors/verdicts.py --draw 1 3000 > "$MULTIHASH_VERDICTS"
+  npm_test "$here" --test-name-pattern=vectors tests/index.test.js
+  printf '4\t1200\tpair 18 aa\t2\tpair 18 aa\tunexpected_eof\t-\n' >> "$MULTIHASH_VERDICTS"
+  rejects "head: 18 0 2, wanted 18 1 1" npm_test "$here" --test-name-pattern=vectors tests/index.test.js
+}
 
 # The tests see each fault of a list.
 sees() { sees_faults "$1" "$here" "core.js api.js index.js inline.js module.js hashes.js" imported npm_test; }
@@ -156,6 +167,7 @@ test_browser() {
 needs="rt wasm-opt=$binaryen wasm2wat=$wabt" try "the WebAssembly built anew" built_anew
 needs=wasm-validate try "the WebAssembly for old engines" old_module
 needs="$node npm" try "in Node.js" npm_test "$here"
+needs="$node npm" try "drawn inputs" drawn
 sed '/^# With --all/,$d' "$here/tests/faults.sed" > "$work/faults.sed"
 needs="$node npm" try "faults" sees "$work/faults.sed"
 needs="--all $node npm" try "all faults" sees "$here/tests/faults.sed"

@@ -74,6 +74,18 @@ all_tests() {
   unit_tests "$here/tests" PYTHONMALLOC=debug
 }
 
+# Inputs that are drawn have the results that verdicts.py computes. A wrong result is found.
+drawn() {
+  local -x MULTIHASH_VERDICTS=$work/drawn/verdicts.tsv
+  local replay=("$python" -m unittest discover -s "$here/tests" -k Vectors)
+  mkdir "$work/drawn"
+  cp crates/vectors/data/hashes.tsv "$work/drawn"
+  crates/vectors/verdicts.py --draw 1 3000 > "$MULTIHASH_VERDICTS"
+  "${replay[@]}"
+  printf '4\t1200\tpair 18 aa\t2\tpair 18 aa\tunexpected_eof\t-\n' >> "$MULTIHASH_VERDICTS"
+  rejects "'pair 18 -' != 'pair 18 aa'" "${replay[@]}"
+}
+
 # The module keeps nothing between calls but CPython's version, in a variable that is zero at first, beside one of the C
 # library: interpreters and threads share them.
 keeps_nothing() {
@@ -191,6 +203,7 @@ ONLY='' try "an environment" /usr/bin/python3 -m venv --clear --system-site-pack
 ONLY='' try "the wheel, installed" imports "$work"/dist/*.whl
 needs="nm" try "no state" keeps_nothing
 try "the tests" all_tests
+try "drawn inputs" drawn
 needs="mypy stubtest" try "types" types
 try "the results of plain Python, in less CPU time" "$python" -I "$here/beside_plain.py"
 try "other results and times" rejects_edits "$here" "$python" -I "$work/planted/beside_plain.py" << 'END'

@@ -6,13 +6,17 @@ It computes them from the rules of docs/FORMAT.md by itself and calls nothing of
     crates/vectors/verdicts.py            checks each line
     crates/vectors/verdicts.py --write    writes the results of the stored inputs, of a new one only the
                                           capacity and the input are needed
+    crates/vectors/verdicts.py --draw SEED COUNT
+                                          prints that many lines of stored inputs that are changed at random
 
 Of the first inputs 3000 came from outside. None is there twice with one capacity."""
 import difflib
 import hashlib
+import operator
+import random
 import re
 import sys
-from collections.abc import Callable
+from collections.abc import Callable, Iterator
 from pathlib import Path
 
 TOP = Path(__file__).resolve().parents[2]
@@ -99,9 +103,36 @@ def result(call: Callable[[int, bytes], tuple[int, bytes, int]], size: int, data
 RULES = Rules(int(BITS))
 
 
+def inputs_of(stored: str) -> list[tuple[str, ...]]:
+    return [tuple(line.split("\t")[:2]) for line in stored.splitlines()[1:]]
+
+
+def changed(data: bytes, other: bytes, draw: random.Random) -> bytes:
+    """Changes, inserts, repeats or removes bytes, mostly near the front, and may drop those that follow."""
+    at = draw.randint(0, min(len(data), draw.choice((4, 12, 24, 300))))
+    end = draw.randint(at, min(len(data), at + 9))
+    part = data[at:end]
+    flipped = bytes(byte ^ draw.choice((0, 128, 1 << draw.randrange(8))) for byte in part)
+    edge = bytes(draw.choices((0, 1, 127, 128, 255), k=draw.randint(1, 9)))
+    new = draw.choice((b"", part + part, flipped, flipped, edge, draw.randbytes(len(part)), other[at:end]))
+    return data[:at] + new + data[end : draw.choice((len(data), len(data), len(data), draw.randint(end, len(data))))]
+
+
+def drawn(stored: str, seed: int, count: int) -> Iterator[str]:
+    """Makes a list of stored inputs that are changed once or more."""
+    inputs, draw = inputs_of(stored), random.Random(seed)
+    yield "\t".join(COLUMNS)
+    for _ in range(count):
+        (size, data), (_, other) = draw.choices(inputs, k=2)
+        made, other_made = (bytes.fromhex(each.removeprefix("-")) for each in (data, other))
+        for _ in range(draw.randint(1, 4)):
+            made = changed(made, other_made, draw)
+        yield RULES.line(int(size), made)
+
+
 def made_of(stored: str) -> str:
     """Makes the list of the stored inputs."""
-    inputs = [tuple(line.split("\t")[:2]) for line in stored.splitlines()[1:]]
+    inputs = inputs_of(stored)
     first = "".join("\t".join(line) + "\n" for line in inputs[:FIRST])
     if hashlib.sha256(first.encode()).hexdigest() != SHA256:
         raise ValueError(f"the first {FIRST} inputs are others")
@@ -127,8 +158,13 @@ def main() -> int:
     stored = STORED.read_text("utf-8")
     if sys.argv[1:] == ["--write"]:
         return STORED.write_text(made_of(stored), "utf-8") == 0
+    if sys.argv[1:2] == ["--draw"]:
+        sys.stdout.writelines(f"{line}\n" for line in drawn(stored, *map(int, sys.argv[2:])))
+        return 0
     new = f"{RULES.line(0, bytes(77))}\n"
     results = [("the results of the stored inputs", error_of(stored)), ("an appended input", error_of(stored + new))]
+    words = ({*re.findall(r"\t(\w*[g-z]\w*)", text)} for text in (stored, "\n".join(drawn(stored, 1, 2000))))
+    results.append(("drawn inputs have each result", " ".join(operator.xor(*words))))
     others = f"the first {FIRST} inputs are others"
     for what, text, error in (
         ("a wrong result", stored.replace("invalid_size 3", "invalid_size 4", 1), "@@ -2 +2 @@"),
