@@ -1,6 +1,6 @@
 #!/usr/bin/env python3
-"""Compares the pages with the sources: docs/CONTRACTS.md, links, paths, names, versions and limits, what blocks and
-tables show; and runs README.md's commands and programs.
+"""Compares the pages with the sources: docs/CONTRACTS.md, links, paths, names, codes, versions and limits, what blocks
+and tables show; and runs README.md's commands and programs.
 
 What a page says in its own words is not compared. Of each comparison one difference, of pages.edits, is planted.
 """
@@ -171,6 +171,17 @@ def stated_errors(texts: Texts) -> Iterator[str]:
     for name, number in re.findall(r"^ +(MULTIHASH_\w+) = (\d+)", read(HEADER), re.M):
         if f"| `{name}` | {number} | {said.get(name)} |" not in texts[C]:
             yield f"{C}: {name} is {number}, {said.get(name)}"
+
+
+def code_errors(texts: Texts) -> Iterator[str]:
+    """Compares constants with names of hash functions, of sources and pages, with hashes.tsv."""
+    rows = (line.split("\t") for line in read("crates/vectors/data/hashes.tsv").splitlines()[1:])
+    codes = {name.upper().replace("-", "_"): int(code, 16) for code, name, _ in rows}
+    form = re.compile(rf"\b({'|'.join(codes)})(?:: \w+)? = (0x\w+|\d+)\b")
+    for path in paths():
+        for name, code in form.findall(texts.get(path) or read(path)) if not path.endswith(".edits") else ():
+            if int(code, 0) != codes[name]:
+                yield f"{path}: {name} is {codes[name]:#x}, not {code}"
 
 
 def shown_errors(texts: Texts) -> Iterator[str]:
