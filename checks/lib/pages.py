@@ -298,6 +298,8 @@ def results() -> Iterator[tap.Result]:
     for name, check in CHECKS.items():
         yield name, "\n".join(check(texts))
     yield from program_results(texts)
+    for page, text in pages_of(texts).items():
+        yield tap.planted(f"a link of {page}", CHECKS["link_errors"]({**texts, page: f"{text}[none](none)\n"}), page)
     for name, path, old, new in edits.rows(Path(__file__).with_name("pages.edits")):
         changed = {**texts, path: texts[path].replace(old, new, 1)}
         yield tap.planted(f"{name}: {path} > {old} > {new}", CHECKS[name](changed))
