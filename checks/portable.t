@@ -123,14 +123,15 @@ another int another(void); int count = another();
 END
 }
 
-# The tests over a copy that was edited: an access after each block, unchecked ones before an input and after it, and a
-# mask of digits.
+# The tests over a copy that was edited: an access after each block, unchecked ones before an input and after it, a mask
+# of digits, and a wrong result of inputs that only draws are as long as.
 planted_source() {
   rejects_edits "$tree" passes "$work/planted" planted/built cc -O1 << 'END'
 Aborted|sed -i 's/\(w2c_multihash_head(.*bytes_length\))/\1 + 1)/' multihash.c
 Segm|sed -i '/ multihash_from_bytes/,/^}/s/= ANY_INPUT/= bytes_length \&\& bytes[-1] == 1/' multihash.c
 Segm|sed -i '/ multihash_from_bytes/,/^}/s/= ANY_INPUT/= bytes_length \&\& bytes[bytes_length] == 1/' multihash.c
 not so: |sed -i 's/35747867511423103ull/35747867511423102ull/' multihash.c
+not so: same(mul|sed -i '/w2c_multihash_from_bytes(/s/bytes_length)/bytes_length - (bytes_length > 281))/' multihash.c
 END
 }
 
