@@ -33,9 +33,9 @@ has_packages() {
     dpkg -c "$file" | awk '!/^d/ { sub(/\/usr/, "", $6); print $2, $6 }' | sort | diff <(sort "$work/files.$package") -
     dpkg -x "$file" "$root"
     cmp LICENSE "$root/usr/share/doc/libmultihash-$package/copyright"
+    dpkg-deb -f "$file" Multi-Arch | diff - <(echo same) # those of two architectures can be installed at once
   done
-  dpkg-deb -f "$1/libmultihash-c-dev_$version-1_$architecture.deb" Depends Multi-Arch |
-    diff - <(printf '%s\n' "Depends: libmultihash-c$major (= $version-1)" "Multi-Arch: same")
+  dpkg-deb -f "$file" Depends | diff - <(echo "libmultihash-c$major (= $version-1)")
   has_modes "$root"
   has_shared_library "$root/usr/$lib/libmultihash_c.so"
   dpkg-deb -I "${file/-dev/$major}" symbols | sed '/^ MULTIHASH_C/d' |
