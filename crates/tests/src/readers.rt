@@ -99,6 +99,10 @@ fn expect_error<const S: usize>(rt: &impl Abort, sample: &Sample<S>, at: usize, 
         let mut reader = FailAt::new(Cuts::new(&sample.bytes, 1), at, why);
         expect_rejected!(rt; &sample.reads(&mut reader, borrowed), why, note);
         check_eq!(rt; reader.asked, at.saturating_add(1), note);
+        // A reader that fails at once is read from its start afterwards.
+        if at == 0 {
+            check!(rt; expect_ok!(rt; sample.reads(&mut reader, borrowed)), note);
+        }
     }
     if matches!(sample.form, Form::Binary) {
         let mut reader = FailAt::new(Cuts::new(&sample.bytes, 1), at, why);
