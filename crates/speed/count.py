@@ -7,9 +7,12 @@
     crates/speed/count.py --write [TUNED DEFAULT]
         writes the tables of the page. With two builds of rust/main.rs counts them too; else their
         columns stay
+    crates/speed/count.py --time [BUILD..]
+        prints the nanoseconds of each call from C, of these archives or C files, or of the page's
 
 Valgrind counts instructions.
 """
+import os
 import re
 import subprocess
 import sys
@@ -34,6 +37,8 @@ RUST = "| Call | instructions | tuned Rust | share | default Rust | share |"
 FROM_C = "| Call from C | archive | plain C | share | fast C | share | portable source |"
 CAUSES = "| Call | Cause |"
 FEWER, MORE, JOBS = 1000, 3000, 2
+# the turns of each build, the rounds in one, and the bytes before the code, since its alignment changes the time
+TURNS, ROUNDS, PLACES = 18, 20, (0, 16, 32)
 Counts = dict[str, list[int]]
 
 
@@ -56,14 +61,39 @@ def count(program: str, names: Iterable[str]) -> dict[str, int]:
         return dict(zip(names, pool.map(of_call, names)))
 
 
+def compile_c(build: Path, program: str, *before: str) -> str:
+    """Compiles and returns the program that calls this build."""
+    run(["cc", "-std=c11", "-O2", f"-I{C}/include", *before, C / "speed/count.c", build, "-o", program])
+    return program
+
+
 def count_c(builds: list[Path]) -> Counts:
     """Returns the instructions of each call from C: of each of these builds."""
     with tempfile.TemporaryDirectory() as work:
-        program, counts = f"{work}/count", []
-        for build in builds:
-            run(["cc", "-std=c11", "-O2", f"-I{C}/include", C / "speed/count.c", build, "-o", program])
-            counts.append(count(program, run([program]).split()))
+        programs = [compile_c(build, f"{work}/{number}") for number, build in enumerate(builds)]
+        counts = [count(program, run([program]).split()) for program in programs]
         return {name: [found[name] for found in counts] for name in counts[0]}
+
+
+def print_times(builds: list[Path]) -> None:
+    """Prints the least time of each call from C, in turns on one core: of each of these builds."""
+    os.sched_setaffinity(0, {max(os.sched_getaffinity(0))})
+    programs: list[tuple[int, str]] = []
+    least: dict[str, list[float]] = {}
+    with tempfile.TemporaryDirectory() as work:
+        for place in PLACES:
+            source = Path(f"{work}/{place}.s")
+            source.write_text(f'.section .text.unlikely, "ax"\n.zero {place}\n.section .note.GNU-stack, ""\n', "utf-8")
+            programs += [(n, compile_c(build, f"{work}/{n}_{place}", str(source))) for n, build in enumerate(builds)]
+        for turn in range(TURNS):
+            for number, program in programs[:: 1 if turn % 2 else -1]:
+                for name, time in re.findall(r"(\S+) (\S+)", run([program, str(ROUNDS)])):
+                    row = least.setdefault(name, [float("inf")] * len(builds))
+                    row[number] = min(row[number], float(time))
+    print("| Nanoseconds |", *(f"{build.parent.name}/{build.name} |" for build in builds))
+    print("|---|" + "---:|" * len(builds))
+    for name, row in least.items():
+        print(f"| {name} |", *(f"{time:.1f} |" for time in row))
 
 
 def rows_of(page: str, head: str) -> Counts:
@@ -145,6 +175,9 @@ def write(programs: list[str], names: list[str]) -> None:
 
 
 def main() -> int:
+    if sys.argv[1:2] == ["--time"]:
+        print_times([*map(Path, sys.argv[2:])] or C_BUILDS)
+        return 0
     program = tap.program("speed")
     names = (HOME / "args").read_text("utf-8").splitlines()[1:]
     if sys.argv[1:2] != ["--write"]:
