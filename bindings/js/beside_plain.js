@@ -3,8 +3,9 @@
 import * as ours from './index.js';
 import { same } from './tests/check.js';
 
-const ROUNDS = 30;
-const CALLS = 1000;
+// Rounds are short, so that some have no garbage collection, and many, so that the last ones are of optimized code.
+const ROUNDS = 300;
+const CALLS = 100;
 const { MultihashError } = ours;
 const fail = (status, details) => {
   throw new MultihashError(status, details);
