@@ -56,6 +56,9 @@ class Plain:
     def __bytes__(self) -> bytes:
         return encode(self.code, self.digest)
 
+    def hexdigest(self) -> str:
+        return self.digest.hex()
+
 
 Head = NamedTuple("Head", [("code", int), ("digest_length", int), ("length", int)])
 
@@ -182,6 +185,7 @@ def calls_of(library: Any, kind: Any, reader: Any) -> Dict[str, Callable[[], Any
         "`compare`": lambda: library.compare(left, right),
         "`hash`": lambda: hash(left),
         "`bytes`": lambda: bytes(left),
+        "`hexdigest`": lambda: left.hexdigest(),
         "`read_from`": lambda: (file.seek(0), library.read_from(file)),
         "`MultihashReader.read`": lambda: (file.seek(0), of_file.read()),
         "an error of `decode`": partial(caught, library.decode, DATA[:20]),

@@ -122,7 +122,14 @@ static PyObject *multihash_reduce(PyObject *self, PyObject *unused)
 static PyObject *multihash_hexdigest(PyObject *self, PyObject *unused)
 {
     (void)unused;
-    return result_of(((multihash_object *)self)->digest, "hex");
+    char out[2 * MULTIHASH_DIGEST_MAX];
+    size_t length;
+    const uint8_t *digest = digest_of(self, &length);
+    for (size_t at = 0; at < length; at++) {
+        out[2 * at] = "0123456789abcdef"[digest[at] >> 4];
+        out[2 * at + 1] = "0123456789abcdef"[digest[at] & 15];
+    }
+    return PyUnicode_FromStringAndSize(out, (Py_ssize_t)(2 * length));
 }
 
 static PyObject *multihash_bytes(PyObject *self, PyObject *unused)
