@@ -276,7 +276,7 @@ needs=$bare try "the switch from upstream's package" rust_switch
 needs=$bare try "serde" rust_serde
 needs="$bare cargo-clippy" try "lints" rust_lints
 needs="$bare cargo-clippy" try "a warning of each command" planted_warnings
-needs="$cargo python3=3.11+ valgrind /lib64/ld-linux-x86-64.so.2" try "instructions" rust_counts
+needs="$bare python3=3.11+ valgrind /lib64/ld-linux-x86-64.so.2" try "instructions" rust_counts
 sources=$(cd bindings/rust; find multihash/src -name '*.rs' | paste -sd ' ')
 needs=$bare try "faults" sees_faults bindings/rust/tests/faults.sed bindings/rust "$sources" build_sources test_sources
 finish
