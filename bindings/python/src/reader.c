@@ -1,4 +1,4 @@
-/* What both readers are. */
+/* Readers of files: the base of both classes, and `read_once`, which is read_from. */
 #include "core.h"
 
 typedef struct reader_object {
@@ -140,6 +140,7 @@ static PyObject *reader_next(PyObject *self, PyObject *unused)
     return count < 0 || kept < 0 ? NULL : reader_decoded(self, unused);
 }
 
+/* This reader ends with the call: after an error, as of a file that ends within a multihash, what was read is lost. */
 PyObject *read_once(PyObject *module, PyObject *arguments)
 {
     PyObject *file, *most;

@@ -177,8 +177,8 @@ class AsyncMultihashReader(_core.Reader):
 def read_from(file: _Readable, limit: int = DIGEST_MAX) -> Optional[Multihash]:
     """Reads the next multihash from a binary file that blocks, and no byte after it; None at the end of the file.
 
-    `file.read` may return fewer bytes than it is asked for. After an error part of a multihash has been read. A file
-    that has no bytes for the time being is an io.UnsupportedOperation: a MultihashReader keeps what it has read.
+    `file.read` may return fewer bytes than it is asked for. After an error the bytes that were read of a multihash are
+    lost; a MultihashReader keeps them. A file that does not block and has no bytes yet is an io.UnsupportedOperation.
     """
     try:
         return _core.read_once(file, limit)
