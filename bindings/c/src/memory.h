@@ -4,7 +4,8 @@
  * are the caller's own bytes, which are not copied, and one for the functions' stack and their result. Each
  * access is checked against the length of its block, so the functions read nothing but the inputs, write
  * nothing but `out`, or end the program by `abort`. They should never do that: before their translation they
- * are proved to stay in the slices that they are given, and STACK_SIZE is what their deepest calls take.
+ * are proved to stay in the slices that they are given, and STACK_SIZE is what their deepest calls take. It,
+ * `texts` and TEXTS_START, the address of the texts, are defined at the top of module.h, which includes this file.
  *
  * The blocks are on the caller's stack: no call allocates, and threads share nothing that is written. */
 #ifndef MEMORY_H

@@ -1,5 +1,6 @@
-/* The functions of multihash.h over the generated ones of module.h. Each passes on its arguments, with
- * addresses in place of pointers, and returns what the generated function wrote. Nothing is decided here. */
+/* The functions of multihash.h over the generated ones of module.h, with a memory for each call, as memory.h
+ * describes it. Each passes on its arguments, with addresses in place of pointers, and returns what the generated
+ * function wrote. Nothing is decided here. */
 #include "multihash.h"
 
 #include "module.h"
