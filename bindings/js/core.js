@@ -25,10 +25,10 @@ const NUMBERS = [];
 // The module's functions; its memory, which no function grows, and the words of a result and the first of an input in
 // it; and, in the memory after what the module uses, the addresses of that result, two inputs and an output.
 const unconnected = new Proxy({}, { get: askConnection });
-let [library, memory, words] = [unconnected, unconnected, unconnected];
+let [library, memory, words] = [unconnected, unconnected, unconnected]; // a field of a result has two words
 let result, first, second, output;
 let resultAt, firstAt, secondAt, outputAt;
-const FIRST_WORD = 16;
+const FIRST_WORD = 16; // the index in `words` of the first input
 
 // Views of the memory by address and length: to make one is as slow as to copy from it.
 const views = [];
@@ -74,7 +74,7 @@ export function connect(bytes) {
   connectTo(instance.exports);
 }
 
-/** The same later, as pages need it in Chrome before 115, which compiles at once no more than 4 kB there. */
+/** Does what `connect` does, later: in pages Chrome before 115 compiles at once no more than 4 kB. */
 export async function connectLater(bytes) {
   checkEngine();
   if (library !== unconnected) return;
@@ -91,7 +91,7 @@ export function connectTo(functions) {
   for (let number = 0; number <= PREFIX_MAX; number++) NUMBERS[number] = BigInt(number);
   memory = new Uint8Array(functions.memory.buffer);
   const free = Number(functions.__heap_base.value);
-  [result, first, output, second] = [0, 64, 352, 624].map((offset) => free + offset);
+  [result, first, output, second] = [0, 64, 352, 624].map((offset) => free + offset); // 288 bytes for PREFIX_MAX
   words = new Uint32Array(memory.buffer, result, FIRST_WORD + 1);
   [resultAt, firstAt, secondAt, outputAt] = [result, first, second, output].map(BigInt);
   library = functions;
@@ -260,7 +260,7 @@ export class Multihash {
   }
 }
 
-/** What a decoding of the first input found. */
+/** What a decoding of the first input found: the fields of `multihash_decoded`, in the order of multihash.h. */
 function found() {
   return new Multihash(MAKING, wide(4), copied(first + words[6], words[8]));
 }
