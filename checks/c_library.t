@@ -75,7 +75,7 @@ under_valgrind() { build_and_run "$1" "${valgrind[*]}" cc "${c_flags[@]}" "${hea
 # C by hand that reads a byte after an input, built and run by a command.
 overread() {
   sed "s/multihash_front front = {0};/& volatile int most = length ? bytes[length] : 0; (void)most;/" \
-    "$top/crates/speed/c/plain.c" > "$work/overread.c"
+    "$top/crates/speed/from_c/plain.c" > "$work/overread.c"
   "$@" "$work/overread.c"
 }
 
@@ -120,7 +120,7 @@ test_source() {
 # C by hand, with a later header.
 by_hand() {
   sed -E 's/(_VERSION ).*/\1"12.34.56"/; s/(_NUMBER )[0-9]+$/\1123456/' "$c/include/multihash.h" > "$work/multihash.h"
-  build_and_run "$1" "" cc "${c_flags[@]}" -O2 -I "$work" "$top/crates/speed/c/$1.c" "${tests[@]}"
+  build_and_run "$1" "" cc "${c_flags[@]}" -O2 -I "$work" "$top/crates/speed/from_c/$1.c" "${tests[@]}"
 }
 
 # The first example of the page.

@@ -28,7 +28,12 @@ sys.path.append(str(ROOT / "checks" / "lib"))
 import tap
 
 C, PAGE = ROOT / "bindings/c", ROOT / "docs/SPEED.md"
-C_BUILDS = [C / "prebuilt/x86_64/libmultihash_c.a", HOME / "c/plain.c", HOME / "c/fast.c", C / "src/multihash.c"]
+C_BUILDS = [
+    C / "prebuilt/x86_64/libmultihash_c.a",
+    HOME / "from_c/plain.c",
+    HOME / "from_c/fast.c",
+    C / "src/multihash.c",
+]
 # the heads of the tables: this library's counts, and others, before the shares in them
 OTHERS = "| Other call | instructions |"
 RUST = "| Call | instructions | tuned Rust | share | default Rust | share |"
@@ -61,7 +66,7 @@ def count(program: str, names: Iterable[str]) -> dict[str, int]:
 
 def compile_c(build: Path, program: str, *before: str) -> str:
     """Compiles and returns the program that calls this build."""
-    run(["cc", "-std=c11", "-O2", f"-I{C}/include", *before, HOME / "c/count.c", build, "-o", program])
+    run(["cc", "-std=c11", "-O2", f"-I{C}/include", *before, HOME / "from_c/count.c", build, "-o", program])
     return program
 
 
