@@ -35,12 +35,12 @@ sees() { sees_faults "$1" "$here" "core.js api.js index.js inline.js module.js h
 # shellcheck disable=SC2317 # build.sh runs them
 built_anew() {
   local -x text edit
+  "$here/build.sh" --check
   mkdir -p "$work/anew/bindings"
   cp -r "$here" "$work/anew/bindings"
   ln -s "$top/tools" "$work/anew"
   (cd "$work/anew/bindings/js"; sed -i "s/atob('[^']*/&more/" demo.html; rm bytes.js multihash.wasm; ./build.sh)
   diff -r "$here" "$work/anew/bindings/js"
-  "$here/build.sh" --check
   PROVED=$work/none rejects "No such file" tools/link_wasm "$work/none.wasm"
   env() { :; } # no build
   wasm-opt() {
