@@ -51,7 +51,7 @@ s/\(order_of(\(\w*\), \(\w*\)), 0, \w*\)/\1 ^ (Py_TYPE(\2) != Py_TYPE(\3))/
 s/PyObject_Hash(\w*->digest)/PyObject_HasAttrString(self, "__dict__")/
 s/code=%R, d/code=%R; d/
 s/"OO", ((multihash_object \*)self)->code/"KO", ((multihash_object *)self)->number ^ 1/
-s/, "hex")/, "title")/
+s/>> 4\]/>> 5]/
 s/encode(((multihash_object \*)self)->number/& + 1/
 s/READONLY, "The code/0, "The code/
 s/"read", "read_from"/"read_from"/
