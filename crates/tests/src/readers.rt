@@ -5,7 +5,7 @@ ghost use Rattle.std.specs.Prelude.{◌<◌, ◌^◌};
 use fakes::expect::{ErrorKind, is_failed};
 use fakes::forms::{Calls, Form, LENGTHS, Sample, long_list, many, samples};
 use fakes::streams::{Counts, Cuts, FailAt, Silent};
-use fakes::{check, check_eq, expect_ok, expect_rejected};
+use fakes::{check, check_eq, expect_bytes, expect_ok, expect_rejected};
 use multihash::Multihash;
 use multihash::no_std_io::{self, Read};
 use std::alloc::Global;
@@ -26,6 +26,11 @@ fn expect_read<const S: usize>(rt: &impl Abort, sample: &Sample<S>) {
         check_eq!(rt; reader.asked, calls.saturating_sub(sample.empty_digests()), form);
     }
     check!(rt; expect_ok!(rt; sample.reads(&mut Silent(&sample.bytes), false)), form);
+    for most in [1, 2, 3, 7] {
+        let mut cuts = Cuts::new(&sample.bytes, most);
+        check!(rt; expect_ok!(rt; sample.reads(&mut cuts, false)), (form, most));
+        check!(rt; cuts.left.is_empty(), (form, most));
+    }
 }
 
 fn expect_each_read<const S: usize>(rt: &impl Abort, alloc: Global, from: usize)
@@ -99,6 +104,7 @@ fn expect_error<const S: usize>(rt: &impl Abort, sample: &Sample<S>, at: usize, 
         let mut reader = FailAt::new(Cuts::new(&sample.bytes, 1), at, why);
         expect_rejected!(rt; &sample.reads(&mut reader, borrowed), why, note);
         check_eq!(rt; reader.asked, at.saturating_add(1), note);
+        expect_bytes!(rt; reader.cuts.left, sample.bytes.get(at..).unwrap_or(&[]));
         // A reader that fails at once is read from its start afterwards.
         if at == 0 {
             check!(rt; expect_ok!(rt; sample.reads(&mut reader, borrowed)), note);
@@ -145,8 +151,24 @@ fn each_byte_of_a_long_buffer_fails(rt: HostRuntime) {
             let mut reader = FailAt::new(Cuts::new(&bytes, 1), at, why);
             let outcome = reader.read_exact(&mut [0; 600]);
             check!(&rt; is_failed(&outcome, why), (why, at));
+            expect_bytes!(&rt; reader.cuts.left, bytes.get(at..).unwrap_or(&[]));
         }
     }
+}
+
+// The trait's own `read_exact` reads the bytes before the end of the input; that of a slice reads none.
+#[test]
+fn what_is_truncated_is_read_in_parts(rt: HostRuntime) {
+    let rt = &rt;
+    let mut left = [0u8, 2, 9].as_slice();
+    expect_rejected!(rt; &Multihash::<2>::read(&mut left), ErrorKind::UnexpectedEof, 2);
+    expect_bytes!(rt; left, &[9]);
+    let mut cuts = Cuts::new(&[0, 2, 9], 1);
+    expect_rejected!(rt; &Multihash::<2>::read(&mut cuts), ErrorKind::UnexpectedEof, 3);
+    check!(rt; cuts.left.is_empty());
+    let mut cuts = Cuts::new(&[1, 2, 3], 2);
+    check!(rt; is_failed(&cuts.read_exact(&mut [0; 4]), ErrorKind::UnexpectedEof));
+    check!(rt; cuts.left.is_empty());
 }
 
 fn borrowed_read<R: Read>(r: &mut R, buf: &mut [u8]) -> Result<usize, no_std_io::Error> {

@@ -93,16 +93,23 @@ fn a_multihash_hashes_as_its_pair(rt: HostRuntime) {
     }
 }
 
+const DIGEST: [u8; 32] = [
+    159, 228, 204, 198, 222, 22, 114, 79, 58, 48, 199, 232, 242, 84, 243, 198, 71, 25, 134, 172,
+    177, 248, 216, 207, 142, 150, 206, 42, 215, 219, 231, 251,
+];
+
+const DIGEST_TEXT: &str = "[18,32,159,228,204,198,222,22,114,79,58,48,199,232,242,84,243,198,71,\
+    25,134,172,177,248,216,207,142,150,206,42,215,219,231,251]";
+
 #[test]
 fn json_text(rt: HostRuntime) {
     let alloc = rt.alloc();
     let rt = &rt;
-    let m = expect_ok!(rt; Multihash::<4>::wrap(18, &[159, 0, 255]));
-    let text = "[18,3,159,0,255]";
+    let m = expect_ok!(rt; Multihash::<32>::wrap(18, &DIGEST));
     let value = expect_ok!(rt; m.to_value(alloc));
-    check_eq!(rt; expect_ok!(rt; value.to_string(alloc)).as_str(), text);
-    let parsed = expect_ok!(rt; Value::from_str(alloc, text));
-    check!(rt; expect_ok!(rt; Multihash::<4>::from_value(&parsed)) == m);
+    check_eq!(rt; expect_ok!(rt; value.to_string(alloc)).as_str(), DIGEST_TEXT);
+    let parsed = expect_ok!(rt; Value::from_str(alloc, DIGEST_TEXT));
+    check!(rt; expect_ok!(rt; Multihash::<32>::from_value(&parsed)) == m);
 }
 
 // Every kind of value, alone and after a zero, but arrays of bytes.

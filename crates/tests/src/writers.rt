@@ -118,6 +118,11 @@ fn expect_calls<const S: usize>(rt: &impl Abort, alloc: Global, sample: &Sample<
     let mut writer = CountsWrites::new(alloc);
     check!(rt; sample.writes(&mut writer, true).is_ok(), sample.form);
     check_eq!(rt; (writer.parts, writer.whole), (parts, 0), sample.form);
+    for most in [1, 2, 3, 7] {
+        let mut drip = expect_ok!(rt; Drip::new(alloc, sample.bytes.len(), most));
+        check_eq!(rt; sample.writes(&mut drip, false).ok(), Some(sample.bytes.len()), most);
+        expect_bytes!(rt; &drip.held, &sample.bytes);
+    }
 }
 
 fn expect_each_call<const S: usize>(rt: &impl Abort, alloc: Global, from: usize)
@@ -227,6 +232,14 @@ fn each_byte_of_a_long_buffer_fails_or_is_full(rt: HostRuntime) {
             expect_bytes!(&rt; &writer.drip.held, bytes.get(..at).unwrap_or(&[]));
         }
     }
+}
+
+#[test]
+fn parts_are_written_until_it_is_full(rt: HostRuntime) {
+    let mut drip = expect_ok!(&rt; Drip::new(rt.alloc(), 5, 2));
+    check_eq!(&rt; drip.write(&[1, 2, 3]).ok(), Some(2));
+    check!(&rt; is_failed(&drip.write_all(&[3, 4, 5, 6]), ErrorKind::WriteZero));
+    expect_bytes!(&rt; &drip.held, &[1, 2, 3, 4, 5]);
 }
 
 #[test]
