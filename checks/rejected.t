@@ -95,6 +95,7 @@ def lists() -> Iterator[tuple[str, list[str], str]]:
 def shown() -> Iterator[tuple[str, str, str]]:
     """Returns texts and other streams for mh_show, with what is written, and the status on a last line."""
     yield "1603aAbBCc\n", "", "code 22\nsize 3\ndigest aabbcc\n0"
+    yield "0000", "", "code 0\nsize 0\ndigest -\n0"
     # texts that mh_show rejects, which Python's tests read too
     for line in (LIB / "not_shown.txt").read_text("utf-8").splitlines()[1:]:
         text, _, reason = line.replace("\\n", "\n").replace("\\r", "\r").partition("|")
