@@ -199,8 +199,11 @@ async function wrongSources(module, stream) {
     [TypeError, { limit: '64' }, 'a limit has to be a number or a bigint'],
     [TypeError, { rest: 'ab' }, 'bytes have to be a Uint8Array'],
   ];
-  for (const [kind, option, text] of options)
-    fails(kind, () => new module.MultihashReader(chunks(), option), 'an option', text);
+  for (const [kind, option, text] of options) {
+    const source = new ReadableStream();
+    fails(kind, () => new module.MultihashReader(source, option), 'an option', text);
+    same(source.locked, false, 'a source after a wrong option');
+  }
 }
 
 /** The CPU time of a chunk grows with its multihashes: with their square it would be minutes. Pages measure none. */
