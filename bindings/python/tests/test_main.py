@@ -34,6 +34,8 @@ class Main(unittest.TestCase):
     def test_help(self):
         status, page, reason = run("--help", input=HEX)
         self.assertEqual((status, page[:33], reason), (0, "Shows a multihash, as the program", ""))
+        command = [sys.executable, "-OO", "-m", "verified_multihash", "--help"]
+        self.assertEqual(subprocess.run(command, check=False).returncode, 0)
 
     def test_rejected(self):
         for line in LISTED:
