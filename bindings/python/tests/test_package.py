@@ -306,6 +306,8 @@ class Module(unittest.TestCase):
         public = {name for name in own if not name.startswith("_")}
         constants = {name for name in vars(vm) if name.endswith("_MAX")} | {"__version__"}
         self.assertEqual(sorted(vm.__all__), sorted(public | constants))
+        classes = [each for each in map(vars(vm).get, public) if isinstance(each, type)]
+        self.assertEqual({each.__module__ for each in classes}, {vm.__name__})  # that pickled values name
         self.assertEqual(Multihash.__match_args__, tuple(parameters_of(Multihash)))
         for call in (*NAMED_CALLS, vm.MultihashReader, vm.AsyncMultihashReader):
             limit = parameters_of(call).get("limit")
