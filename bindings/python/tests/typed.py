@@ -77,6 +77,17 @@ vm.read_from("name")  # type: ignore[arg-type]
 vm.read_from(io.BytesIO(DATA), "64")  # type: ignore[arg-type]
 
 
+class Raw:
+    """As a file that does not block, which has no bytes yet."""
+
+    def read(self, size: int = -1) -> Optional[bytes]:
+        return None
+
+
+vm.read_from(Raw())
+vm.MultihashReader(Raw())
+
+
 async def read(stream: asyncio.StreamReader) -> None:
     waiting = vm.AsyncMultihashReader(stream, limit=64)
     assert_type(await waiting.read(), Optional[Multihash])
