@@ -8,7 +8,7 @@ use multihash::no_std_io as io;
 #[cfg(feature = "std")]
 use std::io;
 
-use io::Read;
+use io::{Read, Write};
 
 /// The bytes of a text that is still to be written.
 struct Expected<I>(I);
@@ -127,7 +127,8 @@ fn check_varint(number: u64, input: &[u8]) {
 fn check_writers<const S: usize>(multihash: &Multihash<S>, encoding: &[u8]) {
     let length = encoding.len();
     let (mut out, mut bare) = ([0xa5; 267], [0xa5; 267]);
-    assert_eq!((multihash.write(&mut out[..]).ok(), multihash.encoded_len()), (Some(length), length));
+    let written = multihash.write(&mut &mut out[..] as &mut dyn Write);
+    assert_eq!((written.ok(), multihash.encoded_len()), (Some(length), length));
     let proved = proved::Multihash::<S>::from_bytes(encoding).expect("a multihash");
     assert_eq!(proved.write(&mut SliceWriter::new(&mut bare)).ok(), Some(length));
     assert_eq!((&out[..length], &out[length..], &out), (encoding, &[0xa5; 267][length..], &bare));
