@@ -130,10 +130,12 @@ example_in() {
   "$work/example" | diff <(echo "code 0, digest hello") -
 }
 
-# The reader of a stream that is installed, over pipes that are cut at each byte.
+# The reader of a stream that is installed, over pipes that are cut at each byte; the program reads SHA2-512 too.
 stream_example() {
   cc "${c_flags[@]}" "${sanitize[@]}" -I "$c/include" -I "$c/examples" "$c/tests/stream.c" "$library" -o "$work/stream"
   "$work/stream"
+  cc "${c_flags[@]}" -I "$c/include" "$c/examples/stream.c" "$library" -o "$work/stream"
+  prints "size 64" "$work/stream" < <(printf '\x13\x40%064d' 0)
 }
 
 # The example that hashes, over each row of hashes.tsv: for some codes it has no function.
@@ -152,6 +154,7 @@ verify_example() {
     fi
   done < <(sed 1d "$top/crates/vectors/data/hashes.tsv")
   rejects "another content" "$work/verify" 1201ba < <(printf abc)
+  rejects "the content cannot be hashed" "$work/verify" 1201ba < "$work"
 }
 
 # ---- all of it
