@@ -193,8 +193,10 @@ def versions() -> Iterator[tap.Result]:
     texts = version.read()
     yield "the version", "\n".join(version.errors(texts))
     pending = {**texts, version.CHANGES: version.PENDING + texts[version.CHANGES]}
-    later = version.written(pending, "99.0.0", date(2099, 1, 1))
+    later = version.written(pending, "99.9.0", date(2099, 1, 1))
     yield "a later version", "\n".join(version.errors(later))
+    pending = {**later, version.CHANGES: version.PENDING + later[version.CHANGES]}
+    yield "the next one", "\n".join(version.errors(version.written(pending, "99.10.0", date(2099, 1, 2))))
     for path in later:
         yield tap.planted(f"another version: {path}", version.errors({**later, path: texts[path]}))
 
