@@ -104,7 +104,7 @@ fn expect_error<const S: usize>(rt: &impl Abort, sample: &Sample<S>, at: usize, 
         let mut reader = FailAt::new(Cuts::new(&sample.bytes, 1), at, why);
         expect_rejected!(rt; &sample.reads(&mut reader, borrowed), why, note);
         check_eq!(rt; reader.asked, at.saturating_add(1), note);
-        expect_bytes!(rt; reader.cuts.left, sample.bytes.get(at..).unwrap_or(&[]));
+        check_eq!(rt; reader.cuts.left.len(), sample.bytes.len().saturating_sub(at), note);
         // A reader that fails at once is read from its start afterwards.
         if at == 0 {
             check!(rt; expect_ok!(rt; sample.reads(&mut reader, borrowed)), note);
@@ -151,7 +151,7 @@ fn each_byte_of_a_long_buffer_fails(rt: HostRuntime) {
             let mut reader = FailAt::new(Cuts::new(&bytes, 1), at, why);
             let outcome = reader.read_exact(&mut [0; 600]);
             check!(&rt; is_failed(&outcome, why), (why, at));
-            expect_bytes!(&rt; reader.cuts.left, bytes.get(at..).unwrap_or(&[]));
+            check_eq!(&rt; reader.cuts.left.len(), bytes.len().saturating_sub(at), at);
         }
     }
 }
