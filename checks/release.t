@@ -118,7 +118,7 @@ are_plain() {
 }
 
 # The files of a release, each with its checksum, also in the bill of materials. In that a file whose name has a machine
-# is made from the library for it.
+# is made from the library for it, and others from the portable source.
 has_files() {
   local bill=multihash-$version.spdx.json
   cd "$1"
@@ -143,7 +143,8 @@ for each in bill["relationships"]:
 END
   grep -v spdx SHA256SUMS | diff <(sed '/ from /d' "$work/listed" | sort -k 2) -
   sed -nE 's,.*(x86_64|amd64)\..*,& from bindings/c/prebuilt/x86_64/libmultihash_c.a,p
-    s,.*(aarch64|arm64)\..*,& from bindings/c/prebuilt/aarch64/libmultihash_c.a,p' "$work/files" | sort |
+    s,.*(aarch64|arm64)\..*,& from bindings/c/prebuilt/aarch64/libmultihash_c.a,p
+    s,(multihash_c.*-source|^verified_multihash-[0-9.]*)\.tar.*,& from bindings/c/src/module.h,p' "$work/files" | sort |
     comm -23 - <(sort "$work/listed") | diff /dev/null -
 }
 
@@ -179,6 +180,9 @@ has_owner() {
   cd "$work/of_owner"
   dpkg-deb -f "libmultihash-c${major}_$version-1_amd64.deb" Maintainer Homepage |
     diff - <(printf '%s\n' 'Maintainer: A Tester <tester@forge.example>' 'Homepage: https://forge.example/')
+  dpkg-deb --fsys-tarfile "libmultihash-c${major}_$version-1_amd64.deb" |
+    tar -xO "./usr/share/doc/libmultihash-c$major/changelog.Debian.gz" | zcat |
+    grep '^ -- A Tester <tester@forge.example>  '
   tar -xOf "verified-multihash-$version.tgz" package/package.json |
     grep '"repository": "https://forge.example/multihash"'
   tar -xOf "multihash-$upstream.crate" "multihash-$upstream/Cargo.toml" |
