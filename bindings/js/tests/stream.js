@@ -206,13 +206,15 @@ async function wrongSources(module, stream) {
   }
 }
 
-/** The CPU time of a chunk grows with its multihashes: with their square it would be minutes. Pages measure none. */
+/** CPU time grows with the multihashes, in one chunk or many: with their square it is minutes. Pages measure none. */
 async function many(module, encoding) {
   const chunk = new Uint8Array(100000 * encoding.length);
   for (let at = 0; at < chunk.length; at += encoding.length) chunk.set(encoding, at);
   const start = globalThis.process?.cpuUsage?.();
   const { found } = await readAll(module, chunks(chunk));
   same(found.length, 100000, 'many in a chunk');
+  const one = await readAll(module, chunks(...Array(70000).fill(encoding)));
+  same(one.found.length, 70000, 'many chunks');
   if (start) same(process.cpuUsage(start).user < 9e6, true, 'the time of a chunk');
 }
 
