@@ -83,6 +83,7 @@ packed_script() {
   diff out "$top/crates/mh_show/stdout"
   grep -x 'invalid_size 34' err
   node --no-warnings --input-type=commonjs -e "
+    require('verified-multihash/package.json');
     if (process.features.require_module) require('verified-multihash/inline').decode(Uint8Array.of(1, 0));
     const compiled = new \
       WebAssembly.Module(require('fs').readFileSync(require.resolve('verified-multihash/multihash.wasm')));
