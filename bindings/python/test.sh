@@ -25,6 +25,7 @@ builds() {
   CC="cc $warnings" "$here/pack.sh" "$work/dist" "$archive"
   (umask 077; cd "$clone"; TMPDIR=$work/again bindings/python/pack.sh "$work/again" "${archive#"$OLDPWD/"}")
   diff -r "$work/dist" "$work/again"
+  tar -xOf "$work"/dist/*.tar.gz --wildcards '*[0-9]/PKG-INFO' | grep -xF "$(head -n 1 "$here/README.md")"
 }
 
 # An archive with a function less than the header's, which `$1` has in C.
