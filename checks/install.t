@@ -116,7 +116,8 @@ builds_for_windows() {
 planted_test() {
   local -x LIBRARY_PATH=$prefix/lib
   local test=$prefix/$document/examples/test.sh
-  PKG_CONFIG_PATH=$prefix/lib/pkgconfig LD_LIBRARY_PATH=$prefix/lib "$test"
+  (cd "$prefix/$document"
+    CDPATH=. PKG_CONFIG_PATH=$prefix/lib/pkgconfig LD_LIBRARY_PATH=$prefix/lib examples/test.sh)
   PKG_CONFIG=none rejects '0 passed' "$test" "$prefix"
   rejects_edits "$work/un packed built" "$work/planted/$document/examples/test.sh" "$work/planted" << 'END'
 failed: static: show.c builds|rm lib/libmultihash_c.a
@@ -266,7 +267,7 @@ in_go() {
   go run . | diff <(echo 'code 18, digest abc') -
 }
 
-# Each page of a function is that of the library, which has the sentences of the header's comments, each function, and
+# Each page of a function is that of the library, which has the sentences of the header's comments, its functions, and
 # the date of the version. Literal blocks alone have ` or *.
 man_pages() {
   mandoc -T lint man3/multihash.3 "$top/crates/mh_show/mh_show.1"
@@ -279,6 +280,8 @@ man_pages() {
   tr '\n' ' ' < "$header" | grep -oP '/\*.*?\*/' | sed -E 's/[.:] |  - |\*\/|\*  /\n/g' |
     sed -E 's/\W+/ /g; s/^ | $//g' |
     awk 'NR == FNR { page = $0; next } !index(page, $0)' "$work/words" - | diff /dev/null -
+  tr -s ' \n' ' ' < "$header" | grep -oE 'multihash_\w+\([^()]*\);' |
+    awk 'NR == FNR { page = $0; next } !index(page, $0)' <(tr -s ' \n' ' ' < "$work/page") - | diff /dev/null -
 }
 
 # Debian's packages have the pages, so Python is there when they are built.
