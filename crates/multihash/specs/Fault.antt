@@ -1,9 +1,11 @@
 -- What a contract sees of an error of readers and writers.
 use Rattle.std.specs.Prelude.{◌≡◌, ℕ, List, ◌⊎◌, codes}
 use Rattle.multihash.specs.declared.no_std_io.error.Kind.{Kind}
-use Rattle.multihash.specs.declared.no_std_io.error.Kind.TheVariants.{UnexpectedEof as Eof, WriteZero as Full, OutOfMemory as Memory, Other as Own}
+use Rattle.multihash.specs.declared.no_std_io.error.Kind.TheVariants.{UnexpectedEof as Eof, WriteZero as Full}
+use Rattle.multihash.specs.declared.no_std_io.error.Kind.TheVariants.{OutOfMemory as Memory, Other as Own}
 
--- truncated input, a full writer, out of memory, or an error of the reader or the writer itself, with its text
+-- truncated input, a full writer, out of memory, or an error of the reader or the writer itself,
+-- with its text
 pub data Fault : Type 0 where
   UnexpectedEof WriteZero OutOfMemory : Fault
   Other : List ℕ → Fault
