@@ -178,11 +178,10 @@ void check_decodings(const uint8_t *bytes, size_t length, size_t limit)
     CHECK(head.status == wanted.status && head.code == wanted.code);
     CHECK(head.digest_length == wanted.digest_length && head.taken == wanted.taken);
     CHECK(same(multihash_from_bytes(bytes, length), model_whole(bytes, length, length)));
-    const size_t limits[] = {limit, SIZE_MAX - SIZE_MAX / 2};
-    for (int i = 0; i < 2; i++)
-        CHECK(same(multihash_read_limit(bytes, length, limits[i]), model_read(bytes, length, length, limits[i])));
+    CHECK(same(multihash_read_limit(bytes, length, limit), model_read(bytes, length, length, limit)));
     CHECK(same(multihash_scale_decode(bytes, length), model_scale(bytes, length)));
     CHECK(same(multihash_from_prefix(bytes, length, length + 300), model_whole(bytes, length, length + 300)));
+    CHECK(same(multihash_from_prefix(bytes, length, SIZE_MAX), model_whole(bytes, length, SIZE_MAX)));
     for (size_t part = 0; part <= length; part++) {
         if (part == MULTIHASH_HEAD_MAX + 3 && length > part + 8) part = length - 8;
         CHECK(same(multihash_read(bytes, part), model_read(bytes, part, part, MULTIHASH_DIGEST_MAX)));
