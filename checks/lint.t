@@ -75,8 +75,8 @@ try_linter() {
   try "what scripts do after a failure" diff /dev/null <(comm -23 <(echo "$shell") \
     <(printf '%s\n' $ending $others | sort -u))
   try_linter short long.js "long.js:1" "$(printf '%121s' .)" $shell $python $javascript
-  try_linter are_run unused.sh "unused is not run" "unused() { true; } # unused" $shell
-  try_linter chains chain.bash chain.bash:2 'set -e\nfalse && true\ntrue' $ending
+  try_linter are_run unused.sh "unused is not run" "# unused\nunused() { true; }" $shell
+  try_linter chains chain.bash chain.bash:3 'set -e\nf() {\n  false && true\n  true\n}' $ending
   needs=shellcheck try_linter "shellcheck -x -o check-set-e-suppressed" cd.sh SC2310 \
     "#!/bin/bash\nset -e\nf() { cd /tmp; }\nf || exit" $shell
   needs=black try_linter "black --check --line-length 120" layout.py "would reformat" "number  =  1" $python

@@ -45,6 +45,7 @@ PLANTED = (
     (TWICE, 3, "where number 3 fails, allocations: 2, not freed: 0, it prints: 0"),
     ("return !malloc(1);", 1, "where number 2 fails, allocations: 1, not freed: 1, it prints: 0"),
     ("free(malloc(1)); return 0;", 1, "where number 1 fails, allocations: 1, not freed: 0, it prints: 0"),
+    ("void *a = malloc(1); free(a); return a ? 0 : 10;", 1, "it prints: 10"),
 )
 
 

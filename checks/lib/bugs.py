@@ -82,10 +82,14 @@ def results() -> Iterator[tap.Result]:
     for (crate, are_fake), bugs in read_bugs().items():
         yield f"{crate}, bugs of fakes" if are_fake else crate, error_of(bugs, run_tests(crate, bugs))
     bugs = [Bug("", ["a", "b=(8,"], "", "", "")]
-    log = "test b ... FAILED\n  (9, 9)\ntest c ... FAILED\n"
-    yield tap.planted("other tests, another text", [error_of(bugs, log)], "'a'", "b prints", "'c'")
-    log = "test a ... FAILED\ntest b ... FAILED\n  (8, 9)\n no-answer\n"
-    yield tap.planted("a test that ends with no result", [error_of(bugs, log)], "no-answer")
+    seen = "test a ... FAILED\ntest b ... FAILED\n  (8, 9)\n"
+    for what, log, text in (
+        ("a bug that a test does not see", seen.replace("a ... FAILED", "a ... ok"), "'a'"),
+        ("another text", seen.replace("8", "9"), "b prints"),
+        ("a test that sees no bug", f"{seen}test c ... FAILED\n", "'c'"),
+        ("a test that ends with no result", f"{seen} no-answer\n", "no-answer"),
+    ):
+        yield tap.planted(what, [error_of(bugs, log)], text)
 
 
 if __name__ == "__main__":
