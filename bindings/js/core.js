@@ -85,8 +85,8 @@ export async function connectLater(bytes) {
 /** Connects the functions once: all entries have the same module, so the first of them serves all. */
 export function connectTo(functions) {
   if (library !== unconnected) return;
-  const number = version.split('.').reduce((number, part) => 100 * number + Number(part), 0);
-  if (functions.multihash_version?.() !== number)
+  const wanted = version.split('.').reduce((sum, part) => 100 * sum + Number(part), 0);
+  if (functions.multihash_version?.() !== wanted)
     throw new TypeError(`the module is not multihash.wasm of version ${version}`);
   for (let number = 0; number <= PREFIX_MAX; number++) NUMBERS[number] = BigInt(number);
   memory = new Uint8Array(functions.memory.buffer);
