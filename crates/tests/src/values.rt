@@ -4,7 +4,7 @@ ghost use Rattle.std.specs.Prelude.{◌<◌, ◌^◌};
 use fakes::expect::ErrorKind;
 use fakes::forms::{CASES, case, different};
 use fakes::{check, check_eq, expect_ok, expect_rejected};
-use multihash::{Head, Multihash};
+use multihash::{Head, Multihash, MultihashGeneric, no_std_io};
 use serde_json::Value;
 use std::alloc::Global;
 use std::fmt::Debug;
@@ -53,7 +53,9 @@ fn values_of_each_length_are_shown(rt: HostRuntime) {
 fn known_values_are_shown(rt: HostRuntime) {
     let alloc = rt.alloc();
     let rt = &rt;
-    let cut = expect_ok!(rt; Multihash::<64>::wrap(18, b"foobar")).truncate(3);
+    // The aliases name these types.
+    let wrapped: multihash::Result<MultihashGeneric<9>> = Multihash::<9>::wrap(18, b"foobar");
+    let cut = expect_ok!(rt; wrapped).truncate(3);
     let wanted = "Multihash { code: 18, size: 3, digest: [102, 111, 111] }";
     expect_shown(rt, alloc, &cut, wanted);
     let lines = expect_ok!(rt; format!(in alloc; "{:#?}", cut.truncate(1)));
@@ -62,6 +64,24 @@ fn known_values_are_shown(rt: HostRuntime) {
     let head = expect_ok!(rt; Head::read_front(&[18, 3, 7]));
     let wanted = "Head { code: 18, digest_len: 3, digest_offset: 2 }";
     expect_shown(rt, alloc, &head, wanted);
+    let other = Head {
+        digest_offset: 1,
+        ..head
+    };
+    check!(rt; head == head && other != head);
+}
+
+#[test]
+fn known_errors_are_shown(rt: HostRuntime) {
+    let alloc = rt.alloc();
+    let rt = &rt;
+    let own = no_std_io::Error::other("link down");
+    expect_shown(rt, alloc, &own, "Error { kind: Other(\"link down\") }");
+    let large = Multihash::<4>::wrap(1 << 63, &[]);
+    let wanted = "Err(Error { kind: InvalidCode(9223372036854775808) })";
+    expect_shown(rt, alloc, &large, wanted);
+    let other = Multihash::<4>::from_value(&Value::Null);
+    expect_shown(rt, alloc, &other, "Err(Error { kind: NotBytes })");
     for (input, kind) in [
         ([].as_slice(), "Insufficient"),
         (&[255; 9], "Overflow"),
