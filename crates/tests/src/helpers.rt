@@ -1,7 +1,9 @@
 //! What the other tests stand on: the helpers that compare errors and bytes.
 use fakes::expect::{ErrorKind, equal_bytes, is_failed, is_rejected};
+use fakes::streams::Counts;
 use fakes::{check, check_eq};
-use multihash::{Error, Multihash, no_std_io};
+use multihash::no_std_io::{self, Read};
+use multihash::{Error, Multihash};
 
 const ERRORS: [ErrorKind; 8] = [
     ErrorKind::Insufficient,
@@ -53,4 +55,20 @@ fn bytes_are_compared_whole(rt: HostRuntime) {
     for other in [&b""[..], b"a", b"abc", b"aB", b"Ab"] {
         check!(&rt; equal_bytes(other, b"ab").is_err() && equal_bytes(b"ab", other).is_err());
     }
+}
+
+// A `read_exact` that meets the end leaves the byte, and is followed by one call of each kind.
+#[test]
+fn calls_after_the_end_are_counted(rt: HostRuntime) {
+    let rt = &rt;
+    let mut reader = Counts::new(&[7]);
+    check!(rt; reader.read_exact(&mut [0; 2]).is_err());
+    check_eq!(rt; reader.after_end, 0);
+    check!(rt; reader.read_exact(&mut [0; 2]).is_err());
+    check_eq!(rt; reader.after_end, 1);
+    check_eq!(rt; reader.read(&mut [0; 1]).ok(), Some(1));
+    check_eq!(rt; reader.after_end, 2);
+    check_eq!(rt; reader.read(&mut [0; 1]).ok(), Some(0));
+    check_eq!(rt; reader.read(&mut [0; 1]).ok(), Some(0));
+    check_eq!(rt; reader.after_end, 3);
 }
