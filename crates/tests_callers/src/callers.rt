@@ -1,10 +1,10 @@
 //! Callers, in `examples`, `frame`, `headline` and `storage`: the calls of a reader or a writer, that an
 //! error is passed on, what is reserved, and that memory suffices.
 use examples::any_reader::read_up_to;
-use examples::code_table;
 use examples::content_id::{Codec, ContentId, ContentIdError};
 use examples::merkle::{through, write_node};
 use examples::std_reader::StdReader;
+use examples::{code_table, loops};
 use fakes::expect::ErrorKind;
 use fakes::streams::{Counts, CountsWrites, Cuts, Drip, FailAt, FailWrite};
 use fakes::{check, check_eq, expect_bytes, expect_ok, expect_rejected};
@@ -13,7 +13,7 @@ use multihash::no_std_io::{Read, Write};
 use multihash::{Error, Multihash};
 use std::alloc::Global;
 use std::process::Abort;
-use storage::content::hash_of;
+use storage::content::{UnknownCode, hash_of, verify};
 use storage::log::{EntryError, read_entry, valid_prefix, write_entry};
 
 // The identifier of `aaaa` as raw bytes, with its SHA-256 from another implementation.
@@ -206,7 +206,7 @@ fn nothing_is_read_after_a_failed_write(rt: HostRuntime) {
     }
 }
 
-// Where the other fails, it fails twice.
+// Where the other fails, it fails twice, first by an interruption.
 #[derive(Drop)]
 struct Std<'a>(FailAt<'a>, bool);
 
@@ -217,7 +217,12 @@ impl std::io::Read for Std<'_> {
                 Ok(n) => return Ok(n),
                 Err(_) => true,
             };
-        Err(std::io::ErrorKind::Other.into())
+        let kind = if self.1 {
+            std::io::ErrorKind::Interrupted
+        } else {
+            std::io::ErrorKind::Other
+        };
+        Err(kind.into())
     }
 }
 
@@ -305,6 +310,17 @@ fn streams_of_each_length_are_read(rt: HostRuntime) {
     }
 }
 
+// A digest of 64 bytes, the most that it reads, and an empty one.
+#[test]
+fn codes_of_a_stream_are_read(rt: HostRuntime) {
+    let mut stream = [0u8; 68];
+    stream[..2].copy_from_slice(&[0x13, 64]);
+    let codes = expect_ok!(&rt; loops::codes(rt.alloc(), &stream));
+    check!(&rt; matches!(codes.as_slice(), [0x13, 0]));
+    stream[1] = 65;
+    expect_rejected!(&rt; &loops::codes(rt.alloc(), &stream), ErrorKind::InvalidSize(65), ());
+}
+
 // The head of a block that claims 2^62 bytes.
 const CLAIM: [u8; 9] = [128, 128, 128, 128, 128, 128, 128, 128, 64];
 
@@ -326,4 +342,13 @@ const LOG: [u8; 73] = [
 #[test]
 fn a_known_log_is_valid(rt: HostRuntime) {
     expect_bytes!(&rt; valid_prefix(&LOG), &LOG);
+}
+
+#[test]
+fn a_known_content_is_verified(rt: HostRuntime) {
+    let one = expect_ok!(&rt; Multihash::<64>::from_bytes(&LOG[..34]));
+    check_eq!(&rt; verify(&one, b"one"), Ok(true));
+    check_eq!(&rt; verify(&one, b"two"), Ok(false));
+    let other = expect_ok!(&rt; Multihash::<64>::wrap(0x13, one.digest()));
+    check_eq!(&rt; verify(&other, b"one"), Err(UnknownCode { code: 0x13 }));
 }
