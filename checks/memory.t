@@ -31,6 +31,8 @@ TESTS = {
     "allocating_push": 2,
     # each block by 3, of 4096, 8192 and 16384 bytes
     "allocating_storage": 6,
+    # the same 3: memory grows with the bytes that arrive, and not with the length that is claimed
+    "allocating_claimed_length": 3,
     # 3 for 4, 8 and 16 items, 1, 1; 2 encodings; 1, 2 and 1 for the forms
     "allocating_examples": 11,
     "calls_over_slices_need_no_memory": 0,

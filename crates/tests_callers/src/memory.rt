@@ -252,6 +252,15 @@ fn allocating_storage(rt: HostRuntime) -> Result<(), Fail> {
     )
 }
 
+// A head that claims 2^62 bytes, of which 10000 arrive: memory grows as it does for a block of that length.
+#[test]
+fn allocating_claimed_length(rt: HostRuntime) -> Result<(), Fail> {
+    let mut claimed = [128u8; 10009];
+    claimed[8] = 64;
+    let outcome = of_entry(frame::read(rt.alloc(), &mut claimed.as_slice(), usize::MAX));
+    unless_failed(is_rejected(&outcome, ErrorKind::UnexpectedEof) || succeeded(&rt, &outcome))
+}
+
 #[test]
 fn allocating_examples(rt: HostRuntime) -> Result<(), Fail> {
     let alloc = rt.alloc();
