@@ -37,7 +37,7 @@ RESULTS = [
 ]
 TAKEN = ["-", *map(str, range(13))]
 NOT_READ, NOT_WRITTEN = "mh_show: input not read\n1", "mh_show: output not written\n1"
-# texts and other streams for them, and what is written: the first error is reported
+# texts and other streams for them, or arguments, and what is written: the first error is reported
 STREAMS = (
     (f"008001{256 * '0'}", "", "mh_show: Invalid multihash size 128.\n1"),
     (65537 * "0", "", NOT_READ),
@@ -47,6 +47,7 @@ STREAMS = (
     ("", "< / > /dev/full", NOT_READ),
     ("160100", "> /dev/full", NOT_WRITTEN),
     ("160100", ">&-", NOT_WRITTEN),
+    ("160100", "--help 1603 -", "code 22\nsize 1\ndigest 00\n0"),
     ("160100", "2> /dev/full", "code 22\nsize 1\ndigest 00\n0"),
     ("zz", "2> /dev/full", "1"),
     ("zz", "2>&-", "1"),
