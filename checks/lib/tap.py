@@ -13,23 +13,14 @@ CRATES = Path(__file__).resolve().parents[2] / "crates"
 
 
 def report(results: Iterable[Result]) -> int:
-    """Prints results as they come, and then the plan. Returns the exit status: without a result it is 1 too.
-
-    What is left out is summed up on the standard error.
-    """
+    """Prints results as they come, and then the plan. Returns the exit status: without a result it is 1 too."""
     failed = number = 0
-    reasons: list[str] = []
     for number, (what, error) in enumerate(results, 1):
         failed += bool(error)
         name, skip, why = what.replace("\n", " ").partition(SKIP)
-        reasons += [why] if skip else []
         print(f"{'not ok' if error else 'ok'} {number} - {name.replace('#', '')}{skip}{why}", flush=True)
         for line in error.splitlines():
             print(f"#   {line}", file=sys.stderr, flush=True)
-    if reasons:
-        gone = sorted({tool for why in reasons for tool in why.split(", ")})
-        check = os.environ.get("CHECK") or Path(sys.argv[0]).name
-        print(f"# {check}: left out {len(reasons)} of {number}: no {', '.join(gone)}", file=sys.stderr, flush=True)
     print(f"1..{number}")
     return 1 if failed or not number else 0
 

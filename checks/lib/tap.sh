@@ -10,8 +10,7 @@
 #   rejects TEXT COMMAND..         it ends with another status
 #   finish                         the last line of the script: prints the plan, without which prove fails
 #
-# The variable ONLY is a regular expression: checks with other names are not run. What is left out is summed up on the
-# standard error.
+# The variable ONLY is a regular expression: checks with other names are not run.
 set -euo pipefail
 shopt -s inherit_errexit
 unset CDPATH CLICOLOR_FORCE FORCE_COLOR
@@ -19,10 +18,9 @@ cd "$(dirname "${BASH_SOURCE[0]}")/../.."
 # shellcheck source=checks/lib/is_there.sh
 . checks/lib/is_there.sh
 export LC_ALL=C.UTF-8
-number=0 failed=0 left=0 is_finished=0 gone="" without="" needs=""
+number=0 failed=0 is_finished=0 without="" needs=""
 work=$(mktemp -d)
 finish() {
-  [ $left = 0 ] || echo "# ${CHECK:-${0##*/}}: left out $left of $number: no $(sort -u <<< "$gone" | list)" >&2
   echo "1..$number"
   is_finished=1
 }
@@ -53,7 +51,6 @@ try() {
   # shellcheck disable=SC2086 # words
   lack=$without$'\n'$(missing $needs)
   if [ "$lack" != $'\n' ]; then
-    left=$((left + 1)) gone+=$'\n'$lack
     echo "ok $number - $1 # SKIP no $(list <<< "$lack")"
     return
   fi
