@@ -1,3 +1,33 @@
-#!/usr/bin/env bash
-# What the pages say, README.md's programs, and that docs/CONTRACTS.md is what the sources say.
-exec "$(dirname "$0")/lib/pages.py"
+#!/usr/bin/env python3
+"""Compares the pages with the sources: docs/CONTRACTS.md, links, paths, names, codes, versions and limits, what blocks
+and tables show. What a page says in its own words is not compared.
+
+A link that leads nowhere is planted in each page, and for each comparison a difference of pages.edits.
+"""
+import sys
+from collections.abc import Iterator
+from pathlib import Path
+
+LIB = Path(__file__).with_name("lib")
+sys.path.append(str(LIB))
+import edits
+import pages
+import stated
+import tap
+
+CHECKS = {name: check for name, check in {**vars(pages), **vars(stated)}.items() if name.endswith("_errors")}
+
+
+def results() -> Iterator[tap.Result]:
+    texts = pages.read_texts()
+    for name, check in CHECKS.items():
+        yield name, "\n".join(check(texts))
+    for page, text in pages.pages_of(texts).items():
+        yield tap.planted(f"a link of {page}", pages.link_errors({**texts, page: f"{text}[none](none)\n"}), page)
+    for name, path, old, new in edits.rows(LIB / "pages.edits"):
+        changed = {**texts, path: texts[path].replace(old, new, 1)}
+        yield tap.planted(f"{name}: {path} > {old} > {new}", CHECKS[name](changed))
+
+
+if __name__ == "__main__":
+    sys.exit(tap.report(results()))

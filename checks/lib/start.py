@@ -1,9 +1,8 @@
-"""Runs the commands and the programs of README.md as a reader would, in new folders.
+"""Runs the programs of README.md as a reader would, each in a new folder, without a network.
 
-Each row of its first table has a program, in the same order: the program's first line has the name
-of its file and the command that runs it. Nothing uses a network. What the programs print is compared
-with the line that the page says they print. The programs of the page of a language run in the same
-folder.
+Each row of its first table has a program, in the same order: the program's first line has the name of its file and the
+command that runs it. What it prints is compared with the line that the page says. The programs of the page of a
+language run in the same folder.
 """
 
 import os
@@ -20,21 +19,40 @@ ROW = re.compile(r"^\| \[(\w+)[^\]]*\]\(([^)]*)\) \| `([^`]+)` \|", re.M)
 HEAD = re.compile(r"(?://|#) (\S+): (.*)\n")
 SHOWN = "code 0, digest hello"
 OLDEST = re.findall(r'rust-version = "(.*)"', (TOP / "bindings/rust/multihash/Cargo.toml").read_text())[0]
-REGISTRY = Path("/usr/share/cargo/registry")  # of Debian, for crates that the program of Rust's page needs
-# what a program needs, in the forms of is_there.sh
-TOOLS = {
-    "JavaScript": ("node=20.16+", "npm"),
-    "Python": ("cc", "/usr/include/python3*/Python.h", "python:ensurepip", "python:setuptools", "python:wheel"),
-    "Rust": ("cargo", f"rustc={OLDEST}+"),
-    "C": ("cc", "cmake", "pkg-config"),
-    "Rattle": ("rt",),
-}
-# what the programs of a language's page need besides
-MORE = {
-    "JavaScript": (),
-    "Python": (),
-    "Rust": (f"{REGISTRY}/sha2-0.10*", f"{REGISTRY}/data-encoding-2*"),
-    "C": ("/usr/include/openssl/evp.h",),
+REGISTRY = "/usr/share/cargo/registry"  # of Debian, for crates that the program of Rust's page needs
+SOURCE = f'[source.crates-io]\\nreplace-with = "here"\\n[source.here]\\ndirectory = "{REGISTRY}"\\n'
+
+
+class Language(NamedTuple):
+    """What programs need, and those of the language's page besides, in the forms of is_there.sh; and what comes before
+    each command in a folder, of which the first makes it a project."""
+
+    needs: str
+    more: str
+    before: str
+
+
+LANGUAGES = {
+    "JavaScript": Language("node=20.16+ npm", "", "export npm_config_cache=$PWD/npm npm_config_offline=true"),
+    "Python": Language(
+        "cc /usr/include/python3*/Python.h python:ensurepip python:setuptools python:wheel",
+        "",
+        "[ -d venv ] || /usr/bin/python3 -m venv --system-site-packages venv; "
+        "export PATH=$PWD/venv/bin:/usr/bin:/bin PIP_NO_INDEX=1 PIP_NO_BUILD_ISOLATION=0",
+    ),
+    "Rust": Language(
+        f"cargo rustc={OLDEST}+",
+        f"{REGISTRY}/sha2-0.10* {REGISTRY}/data-encoding-2*",
+        f"[ -d cargo ] || {{ mkdir cargo; [ ! -d {REGISTRY} ] || printf '{SOURCE}' > cargo/config.toml; "
+        "cargo init --quiet --name app; }; export CARGO_HOME=$PWD/cargo CARGO_NET_OFFLINE=true",
+    ),
+    # the shell does not read blanks that pkg-config escapes, so the root is named from the folder
+    "C": Language(
+        "cc cmake pkg-config",
+        "/usr/include/openssl/evp.h",
+        "export DESTDIR=$PWD/root PKG_CONFIG_{PATH=$PWD/root/usr/local/lib/pkgconfig,SYSROOT_DIR=root}",
+    ),
+    "Rattle": Language("rt", "", "true"),
 }
 
 
@@ -70,56 +88,28 @@ def copy_repository(to: Path) -> None:
         shutil.copytree(kept, to / proved, symlinks=True)
 
 
-def prepare(program: Program, folder: Path) -> dict[str, str]:
-    """Makes the folder a project of that language. Returns its environment."""
-    language, path = program.language, os.environ["PATH"]
-    if language == "JavaScript":
-        return {"npm_config_cache": f"{folder}/npm", "npm_config_offline": "true"}
-    if language == "Python":
-        command = ["/usr/bin/python3", "-m", "venv", "--system-site-packages", f"{folder}/venv"]
-        subprocess.run(command, check=True)
-        path = f"{folder}/venv/bin:/usr/bin:/bin"
-        return {"PATH": path, "PIP_NO_INDEX": "1", "PIP_NO_BUILD_ISOLATION": "0"}
-    if language == "Rust":
-        home = folder / "cargo"
-        home.mkdir()
-        source = f"[source.crates-io]\nreplace-with = 'here'\n[source.here]\ndirectory = '{REGISTRY}'\n"
-        (home / "config.toml").write_text("[net]\noffline = true\n" + source * REGISTRY.exists(), "utf-8")
-        subprocess.run(["cargo", "init", "--quiet", "--name", "app"], cwd=folder, check=True)
-        return {"CARGO_HOME": str(home)}
-    if language == "C":
-        # the shell does not read blanks that pkg-config escapes, so the root is named from the folder
-        packages = f"{folder}/root/usr/local/lib/pkgconfig"
-        return {"DESTDIR": f"{folder}/root", "PKG_CONFIG_PATH": packages, "PKG_CONFIG_SYSROOT_DIR": "root"}
-    (folder / "crates").mkdir()
-    (folder / "crates.txt").write_text(program.crates, "utf-8")
-    return {}
-
-
 class Project(NamedTuple):
-    """A folder in which a package is installed, and the environment of commands there."""
+    """A folder in which a package of a clone, $MH, is installed, and what comes before commands there."""
 
     folder: Path
-    environment: dict[str, str]
+    clone: Path
+    before: str
 
     def run(self, name: str, text: str, command: str) -> tuple[str, str]:
         """Writes a file and runs a command. Returns what is wrong, and what was printed."""
         file = self.folder / name
         file.parent.mkdir(parents=True, exist_ok=True)
         file.write_text(text, "utf-8")
-        words = ["bash", "-c", command]
-        ran = subprocess.run(words, cwd=self.folder, env=self.environment, capture_output=True, text=True)
+        words, variables = ["bash", "-c", f"{self.before}; {command}"], {**os.environ, "MH": str(self.clone)}
+        ran = subprocess.run(words, cwd=self.folder, env=variables, capture_output=True, text=True)
         error = f"{command}: status {ran.returncode}\n{(ran.stdout + ran.stderr)[-900:]}"
         return error if ran.returncode else "", ran.stdout
 
 
-def run(program: Program, repository: Path, folder: Path) -> tuple[Project, str]:
-    """Installs the package of a clone, $MH, in a new folder, and runs the program there.
-
-    Returns the folder, and what is wrong.
-    """
-    folder.mkdir()
-    project = Project(folder, {**os.environ, "MH": str(repository), **prepare(program, folder)})
+def run(program: Program, clone: Path, folder: Path) -> tuple[Project, str]:
+    """Installs the package of a clone in a new folder, and runs the program there. Returns what is wrong too."""
+    project = Project(folder, clone, LANGUAGES[program.language].before)
+    project.run("crates.txt", program.crates, "true")
     error, shown = project.run(program.file, program.text, f"{program.install} && {program.command}")
     if not error and SHOWN not in shown.splitlines():
         error = f"it printed {shown[-300:]!r}"
@@ -144,12 +134,3 @@ def page_errors(project: Project, page: str) -> Iterator[str]:
                 yield f"{head[1]}: {error} {shown!r}, wanted {output!r}"
     if not verifies:
         yield "no program verifies content by a CID"
-
-
-def row_errors(readme: str) -> Iterator[str]:
-    """Compares the table with its programs, and what these print with what the page says."""
-    found = {program.language for program in programs(readme)}
-    if found != set(TOOLS):
-        yield f"only a row, or only a program, is there of {sorted(found ^ set(TOOLS))}"
-    if f"prints `{SHOWN}`" not in readme:
-        yield f"it does not say that each program prints {SHOWN}"

@@ -1,0 +1,96 @@
+"""What pages state and show: versions, limits, codes, output, code of sources, and bytes."""
+
+import re
+import sys
+from collections.abc import Iterator
+
+from pages import C, CALLING, FORMAT, HEADER, MAN, RUST, Texts, flat, pages_of, paths, read, sources
+from start import FENCE, TOP
+
+sys.path.append(str(TOP / "crates" / "vectors"))
+import verdicts
+
+README, RULES = "README.md", verdicts.RULES
+# a version or a limit as pages state it, and where it is from
+STATED = (
+    (r"Rust (\d[\d.]*\d)", f"{RUST}/Cargo.toml", r'rust-version = "(.*)"'),
+    (r"CMake (\d[\d.]*\d)", "CMakeLists.txt", r"cmake_minimum_required\(VERSION (.*)\)"),
+    (r"CPython (\d\.\d+)\b(?! on)", "bindings/python/pyproject.toml", r'requires-python = ">=(.*)"'),
+    (r"Node\.js (\d+\.\d+)", "bindings/js/package.json", r'"node": ">=(.*)"'),
+    (r"`multihash` (\d[\d.]*\d)", f"{RUST}/Cargo.toml", r'\nversion = "(.*)"'),
+    (r"`(rattle-kit-[^`]*)`", "tools/makers", r"(?m)^kit=(.*)"),
+    (r"logic `([^`]*)`", "tools/makers", r"(?m)^logic=(.*)"),
+    (r"WABT (\d[\d.]*\d)", "tools/makers", r"(?m)^wabt=(.*)"),
+    (r"\| a digest \| 0 to `min\(S, (\d+)\)", HEADER, r"MULTIHASH_DIGEST_MAX (\d+)"),
+    (r"\| an encoding \| 2 to (\d+)", HEADER, r"MULTIHASH_LENGTH_MAX (\d+)"),
+    (r"\| both varints together \| 2 to (\d+)", HEADER, r"MULTIHASH_HEAD_MAX (\d+)"),
+    (r"\| a SCALE encoding \| 9 to (\d+)", HEADER, r"MULTIHASH_SCALE_LENGTH_MAX (\d+)"),
+)
+
+
+def stated_errors(texts: Texts) -> Iterator[str]:
+    """Compares versions and limits of pages with where they are from, and the errors in the page for C."""
+    prose = flat("\n".join([*pages_of(texts).values(), read("bindings/js/core.js")]))
+    for form, source, origin in STATED:
+        found, wanted = {*re.findall(form, prose)}, {*re.findall(origin, read(source))}
+        if found != wanted or len(wanted) != 1:
+            yield f"pages have {sorted(found)}, {source} has {sorted(wanted)}: {form}"
+    said = dict(re.findall(r"case (MULTIHASH_\w+):\s*return \"([^\"]*)\";", read(HEADER)))
+    for name, number in re.findall(r"^ +(MULTIHASH_\w+) = (\d+)", read(HEADER), re.M):
+        if f"| `{name}` | {number} | {said.get(name)} |" not in texts[C]:
+            yield f"{C}: {name} is {number}, {said.get(name)}"
+
+
+def code_errors(texts: Texts) -> Iterator[str]:
+    """Compares constants with names of hash functions, of sources and pages, with hashes.tsv."""
+    rows = (line.split("\t") for line in read("crates/vectors/data/hashes.tsv").splitlines()[1:])
+    codes = {name.upper().replace("-", "_"): int(code, 16) for code, name, _ in rows}
+    form = re.compile(rf"\b({'|'.join(codes)})(?:: \w+)? = (0x\w+|\d+)\b")
+    for path in paths():
+        for name, code in form.findall(texts.get(path) or read(path)) if not path.endswith(".edits") else ():
+            if int(code, 0) != codes[name]:
+                yield f"{path}: {name} is {codes[name]:#x}, not {code}"
+
+
+def shown_errors(texts: Texts) -> Iterator[str]:
+    """Compares the output of mh_show that pages show, and the Rattle code of CALLING.md, which is from sources."""
+    shown = read("crates/mh_show/stdout")
+    if ("text", shown) not in FENCE.findall(texts[README]):
+        yield f"{README} shows another output than that of mh_show"
+    if f"$ echo {read('crates/mh_show/stdin').strip()} | mh_show\n{shown}" not in texts[MAN]:
+        yield f"{MAN} shows another output"
+    known = flat(sources())
+    blocks = [body for language, body in FENCE.findall(texts[CALLING]) if language in ("rust", "text")]
+    for part in "\n\n".join(blocks).split("\n\n"):
+        if flat(part) not in known:
+            yield f"{CALLING}: no source has {part}"
+
+
+def byte_errors(texts: Texts) -> Iterator[str]:
+    """Computes by the rules of verdicts.py what pages show of bytes: varints, results, lines of test vectors."""
+    prose, python = texts[FORMAT], "bindings/python/README.md"
+    for power, number, data in re.findall(r"^\| (?:2\^(\d+) - 1|(\d+)) \| `([0-9a-f ]+)` \|$", prose, re.M):
+        if RULES.varint(bytes.fromhex(data), 0)[0] != int(number or 2 ** int(power) - 1):
+            yield f"{FORMAT}: {data} is not {number}"
+    for part in prose.split("\n\n"):
+        for data in [] if part.startswith("|") else re.findall(r"`([0-9a-f]{2}(?: [0-9a-f]{2})+)`", part):
+            number, end = RULES.varint(bytes.fromhex(data), 0)
+            if data[3 * end :] == "" and str(number) not in part:
+                yield f"{FORMAT}: {data} is the varint of no number that is there"
+    for data in re.findall(r"python -m verified_multihash (\w+)", texts[python]):
+        if verdicts.result(RULES.read, 64, bytes.fromhex(data))[1] != len(data) // 2:
+            yield f"{python}: no multihash: {data}"
+    for head, table in re.findall(r"^(\|.*\| Consumed \|)\n\|[-:|]+\n((?:\|.*\n)+)", prose, re.M):
+        call = RULES.read if "Verdict" in head else RULES.scale_decode
+        size = int(re.findall(r"`S` = (\d+)", head)[0])
+        for row in table.splitlines():
+            _, _, result, *_, inputs, consumed, _ = (cell.strip() for cell in row.split("|"))
+            for data in re.findall(r"`([^`]*)`", inputs):
+                found, taken = verdicts.result(call, size, bytes.fromhex(data))
+                name = found.split()[0].replace("unexpected_eof", "truncated").replace("_", " ")
+                if name not in result or consumed != str(taken or ""):
+                    yield f"{FORMAT}: {data} is {found}, and {taken} bytes are consumed"
+    page = "crates/vectors/data/README.md"
+    for line in re.findall(r"^\d+\t.*", texts[page], re.M):
+        if line != RULES.line(int(line.split("\t")[0]), bytes.fromhex(line.split("\t")[1])):
+            yield f"{page}: not computed: {line}"
