@@ -1,0 +1,31 @@
+#!/usr/bin/env bash
+# The packages for Debian, as they are built from the files of the repository.
+# shellcheck source=checks/lib/tap.sh
+. "$(dirname "$0")/lib/tap.sh"
+require cc cmake python3 readelf pkg-config dpkg-buildpackage dh lintian /lib64/ld-linux-x86-64.so.2
+# shellcheck source=checks/lib/packages.sh
+. checks/lib/packages.sh
+
+# Builds the packages in a copy of the repository. The tests pass.
+build_packages() {
+  local from=$work/debian/source
+  mkdir -p "$from"
+  git ls-files -z | xargs -0 cp --parents -t "$from"
+  cp -r bindings/c/debian "$from"
+  (cd "$from"; prints '100% tests passed, 0 tests failed out of ' dpkg-buildpackage -b -us -uc)
+}
+
+# A package with a file more.
+planted_package() {
+  local more='dpkg-deb -R *-c1_*.deb more; cp source/LICENSE more/usr/share/doc/*'
+  rejects_edits "$work/debian" has_packages "$work/planted" amd64 x86_64-linux-gnu \
+    <<< "> root/root ./share/doc/libmultihash-c1/LICENSE|$more; dpkg-deb -b --root-owner-group more *-c1_*.deb"
+}
+
+ONLY='' try "building packages" build_packages
+try "warnings of them" lintian --allow-root --fail-on warning \
+  --suppress-tags initial-upload-closes-no-bugs "$work"/debian/*.changes
+try "a planted package" planted_package
+ONLY='' try "packages for amd64" has_packages "$work/debian" amd64 x86_64-linux-gnu
+needs=qemu-x86_64 try "a program by the packages for amd64" try_packages amd64 x86_64-linux-gnu cc qemu-x86_64
+finish

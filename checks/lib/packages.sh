@@ -1,0 +1,91 @@
+# shellcheck shell=bash
+# Sourced after tap.sh: what packages of the library for C and of a release have to have, and programs that use them.
+# shellcheck disable=SC2154,SC2164 # tap.sh has set the work folder, and ends at a failure
+# shellcheck source=checks/lib/installed.sh
+. checks/lib/installed.sh
+
+# The packages of a folder for an architecture, unpacked together, have what is installed, the licence, and no more.
+has_packages() {
+  local architecture=$2 lib=lib/$3 root=$work/root-$2 package file
+  printf 'root/root ./%s\n' "$lib"/libmultihash_c.so.{"$major","$version"} \
+    share/doc/libmultihash-c1/{changelog{.Debian,}.gz,copyright} > "$work/files.c1"
+  files_in "$lib" share/doc/multihash_c/changelog.Debian | sed -E -e '/\.so\./d' -e 's,^,root/root ,' \
+    -e 's/-release\./-none./; s,doc/multihash_c/,doc/libmultihash-c-dev/,' \
+    -e 's/(\.3|\.md|changelog|\.Debian)$/&.gz/' > "$work/files.c-dev"
+  for package in c1 c-dev; do
+    file=$1/libmultihash-${package}_$version-1_$architecture.deb
+    dpkg -c "$file" | awk '!/^d/ { sub(/\/usr/, "", $6); print $2, $6 }' | sort | diff <(sort "$work/files.$package") -
+    dpkg -x "$file" "$root"
+    cmp LICENSE "$root/usr/share/doc/libmultihash-$package/copyright"
+    dpkg-deb -f "$file" Multi-Arch | diff - <(echo same) # those of two architectures can be installed at once
+  done
+  dpkg-deb -f "$file" Depends | diff - <(echo "libmultihash-c$major (= $version-1)")
+  has_modes "$root"
+  has_shared_library "$root/usr/$lib/libmultihash_c.so"
+  dpkg-deb -I "${file/-dev/$major}" symbols | sed '/^ MULTIHASH_C/d' |
+    diff - <(echo "libmultihash_c.so.$major libmultihash-c$major #MINVER#"
+      sed -E 's/(.*)@@MULTIHASH_C_(.*)/ \1@MULTIHASH_C_\2 \2.0/' "$work/versions")
+}
+
+# Both libraries work from where the packages were unpacked.
+try_packages() {
+  local root=$work/root-$1 flags option
+  local -x PKG_CONFIG_SYSROOT_DIR=$root PKG_CONFIG_LIBDIR=$root/usr/lib/$2/pkgconfig
+  flags=$(pkg-config --cflags --libs multihash_c)
+  eval "flags=($flags)"
+  for option in -O2 -static; do
+    "$3" "$option" bindings/c/examples/show.c "${flags[@]}" -L"$root/usr/lib/$2" -o "$work/packaged"
+    "${@:4}" -E LD_LIBRARY_PATH="$root/usr/lib/$2" "$work/packaged" | diff - "$expected"
+    readelf -d "$work/packaged" | sed -n "s/.*NEEDED.*\[\(libmultihash.*\)\]/$option \1/p" >> "$work/needed-$1"
+  done
+  diff "$work/needed-$1" <(echo "-O2 libmultihash_c.so.$major")
+}
+
+# Archives have files of root, which all may read, in the order of their names.
+are_plain() {
+  local name
+  for name in *.tar.gz; do
+    tar --numeric-owner -tvzf "$name" | awk '$1 !~ /^(-rw-r--r--|[dl-]rwxr-xr-x)$/ || $2 != "0/0"' | diff /dev/null -
+    tar -tf "$name" | tr / '\1' | sort -c
+  done
+}
+
+# The library of an archive, and its installed test.
+has_library() {
+  tar -xf "$work/release/multihash_c-$version-$1.tar.gz" -C "$work"
+  works "$work/multihash_c-$version-$1" lib
+  cmp {bindings/c/prebuilt/"$1","$work/multihash_c-$version-$1/lib"}/libmultihash_c.a
+}
+
+# The portable source of a release, compiled with an example.
+has_portable_source() {
+  tar -xf "$work/release/multihash_c-$version-source.tar.gz" -C "$work"
+  cd "$work/multihash_c-$version-source"
+  cc -std=c11 -I . "$top/bindings/c/examples/show.c" multihash.c -o show
+  ./show | diff - "$expected"
+}
+
+# The package for JavaScript is installed, and decodes.
+has_npm_package() {
+  mkdir "$work/npm"
+  cd "$work/npm"
+  npm install --offline --cache "$work/npm.cache" "$work/release/verified-multihash-$version.tgz"
+  node --input-type=module -e "import { decode } from 'verified-multihash';
+    console.log(decode(Uint8Array.of(18, 0)).code)" | diff - <(echo 18)
+}
+
+# The wheel is installed, and its tests pass.
+has_wheel() {
+  /usr/bin/python3 -m venv --system-site-packages "$work/venv"
+  "$work/venv/bin/python" -m pip install --quiet --no-index "$work/release/verified_multihash-$version"-*_x86_64.whl
+  cd "$work"
+  MULTIHASH_VERDICTS=$top/crates/vectors/data/verdicts.tsv "$work/venv/bin/python" -m unittest discover \
+    -s "$top/bindings/python/tests" 2>&1 | tee /dev/stderr | grep '^Ran [1-9]'
+}
+
+# The modules of wheels need no other libraries than these.
+modules_need() {
+  python3 -m zipfile -e "$work/release/"*_"$1".whl "$work/wheel.$1"
+  has_segments "$work/wheel.$1/verified_multihash/_core.abi3.so" "${@:2}"
+}
+
