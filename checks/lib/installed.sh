@@ -1,19 +1,25 @@
 # shellcheck shell=bash
 # Sourced after tap.sh: what an installation of the library for C has to have.
 # shellcheck disable=SC2034,SC2154 # what others use, or have set
-top=$PWD
-header=$top/bindings/c/include/multihash.h
+# shellcheck source=checks/lib/c.sh
+. checks/lib/c.sh
+header=$c/include/multihash.h
 version=$(sed -n 's/^#define MULTIHASH_VERSION "\([0-9.]*\)"$/\1/p' "$header")
 major=${version%%.*}
-released=$(sed -n "s/^$version (\(.*\))/\1/p" CHANGES)
 expected=$top/crates/mh_show/stdout
-machine=$(uname -m)
-modules="/usr/include/python3*/Python.h python:build python:ensurepip python:setuptools python:wheel"
 # The folders of an installation but that for libraries, which another one may have elsewhere.
 include=include document=share/doc/multihash_c man=share/man
 umask 022
 unset "${!CMAKE_@}"
 ulimit -c 0
+
+# Builds in a folder of that name, with options of CMake. All tests pass, of both libraries.
+build() {
+  local to=$work/$1
+  cmake -S "$top" -B "$to" "${@:2}"
+  cmake --build "$to"
+  prints '100% tests passed, 0 tests failed out of ' ctest --output-on-failure --test-dir "$to"
+}
 
 # The files of an installation, as paths from the prefix. Words after the libraries' folder are more files.
 files_in() {
@@ -21,19 +27,7 @@ files_in() {
   printf './%s\n' "$include"/multihash.h "$libdir"/libmultihash_c.{a,so,so."$major",so."$version"} \
     "$libdir"/cmake/multihash_c/multihash_c-config{,-release,-version}.cmake "$libdir/pkgconfig/multihash_c.pc" \
     "$document"/{README.md,changelog,copyright,examples/{show.c,stream.c,test.sh,verify.c}} "${@:2}"
-  { checks/header.t --exports; printf '%s\n' multihash{,_status_text}; } | sed "s,.*,./$man/man3/&.3,"
-}
-
-# The documents are the repository's.
-has_documents() {
-  local wanted=$work/documents
-  rm -rf "$wanted"
-  mkdir "$wanted"
-  cp -r bindings/c/examples bindings/c/README.md "$wanted"
-  cp CHANGES "$wanted/changelog"
-  cp LICENSE "$wanted/copyright"
-  diff -r "$wanted" "$1/$document"
-  cmp "$header" "$1/$include/multihash.h"
+  { exported; printf '%s\n' multihash{,_status_text}; } | sed "s,.*,./$man/man3/&.3,"
 }
 
 # pkg-config finds the version, the header and the library, and names nothing more.
@@ -52,7 +46,7 @@ has_flags() {
 exports_exactly() {
   awk '/^MULTIHASH_C/ { node = $1 } /^    multihash_/ { sub(/;/, "", $1); print $1 "@@" node }' "$2" | sort \
     > "$work/versions"
-  sed 's/@.*//' "$work/versions" | diff <(checks/header.t --exports) -
+  sed 's/@.*//' "$work/versions" | diff <(exported) -
   readelf -W --dyn-syms "$1" | awk '$7 ~ /^[0-9]+$/ && $4 != "SECTION" { print $8 }' | sort | diff "$work/versions" -
 }
 
@@ -76,12 +70,17 @@ has_modes() {
     ! \( -perm 644 -type f ! -name '*.sh' ! -path '*/bin/*' \) | diff /dev/null -
 }
 
-# A prefix has what it should have, with that folder for libraries, and further files.
+# A prefix has what it should have, with that folder for libraries, and further files. The documents are the
+# repository's.
 is_installed() {
   env -C "$1" find . ! -type d | sort | diff <(files_in "${@:2}" | sort) -
   find "$1" -xtype l | diff /dev/null -
   has_modes "$1"
-  has_documents "$1"
+  cmp "$header" "$1/$include/multihash.h"
+  diff -r bindings/c/examples "$1/$document/examples"
+  cmp bindings/c/README.md "$1/$document/README.md"
+  cmp CHANGES "$1/$document/changelog"
+  cmp LICENSE "$1/$document/copyright"
   (cd "$work" || exit; has_flags "$1" "$2")
   has_shared_library "$1/$2/libmultihash_c.so"
 }

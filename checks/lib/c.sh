@@ -1,13 +1,28 @@
 # shellcheck shell=bash
-# Sourced after tap.sh: the warnings of C and C++ compilers, each of which is an error, their sanitizers, and
-# what an object has.
+# Sourced after tap.sh: what checks of the library for C share: warnings of compilers, each of which is an error,
+# sanitizers, the functions of the header, and what an object has.
 # shellcheck disable=SC2034,SC2154 # what others use, or have set
 warnings=(-Wall -Wextra -Wpedantic -Wconversion -Wsign-conversion -Wshadow -Wcast-qual -Werror)
 c_flags=(-std=c11 "${warnings[@]}" -Wstrict-prototypes -Wmissing-prototypes)
 heap=(-g -O1 -DHEAP)
 sanitize=("${heap[@]}" "-fsanitize=address,undefined" -fno-sanitize-recover=all)
+top=$PWD
+c=$top/bindings/c
+tests=("$c"/tests/{test,verdicts,models,draws,buffer}.c)
+list=$top/crates/vectors/data/verdicts.tsv
 # what Clang needs for sanitizers and the fuzzer
 clang_runtime=$(clang --rtlib=compiler-rt -print-libgcc-file-name 2> /dev/null || true)
+
+# Prints the names of the functions that the header declares.
+exported() { cc -E -P "$c/include/multihash.h" | tr -s '\n ' ' ' | grep -oP '\w+(?=\([^()]*\);)' | sort; }
+
+# The program `$1`, which the remaining words build, passes for each line of the test vectors and for drawn inputs; `$2`
+# is a command that runs it, or empty.
+build_and_run() {
+  "${@:3}" -I "$c/include" -o "$work/$1"
+  # shellcheck disable=SC2086
+  prints "$(($(wc -l < "$list") - 1)) lines, drawn: 20000" $2 "$work/$1" "$list" 1 20000
+}
 
 # An object, or those of an archive, need no other functions than these, and have no section that is written.
 keeps_no_state() {

@@ -1,0 +1,111 @@
+#!/usr/bin/env bash
+# Programs that use the library for C: the examples of its page and of its installation, by a compiler, by CMake and in
+# Go.
+# shellcheck disable=SC2016 # what CMake expands
+# shellcheck source=checks/lib/tap.sh
+. "$(dirname "$0")/lib/tap.sh"
+require cc cmake python3 readelf pkg-config
+# shellcheck source=checks/lib/installed.sh
+. checks/lib/installed.sh
+library=$c/prebuilt/x86_64/libmultihash_c.a
+
+# The first example of the page.
+example_in() {
+  block_of bindings/c/README.md c > "$work/example.c"
+  cc "${c_flags[@]}" -I "$c/include" "$work/example.c" "$library" -o "$work/example"
+  "$work/example" | diff <(echo "code 0, digest hello") -
+}
+
+# The reader of a stream that is installed, over pipes that are cut at each byte; the program reads SHA2-512 too.
+stream_example() {
+  cc "${c_flags[@]}" "${sanitize[@]}" -I "$c/include" -I "$c/examples" "$c/tests/stream.c" "$library" -o "$work/stream"
+  "$work/stream"
+  cc "${c_flags[@]}" -I "$c/include" "$c/examples/stream.c" "$library" -o "$work/stream"
+  prints "size 64" "$work/stream" < <(printf '\x13\x40%064d' 0)
+}
+
+# The example that hashes, over each row of hashes.tsv: for some codes it has no function.
+verify_example() {
+  local code name digest hex
+  cc "${c_flags[@]}" "${sanitize[@]}" -I "$c/include" "$c/examples/verify.c" "$library" -lcrypto -o "$work/verify"
+  while IFS=$'\t' read -r code name digest; do
+    hex=
+    for ((code = code; code > 127; code >>= 7)); do hex+=$(printf %02x $((code & 127 | 128))); done
+    hex+=$(printf %02x%02x "$code" $((${#digest} / 2)))$digest
+    if [[ $name == @(identity|shake-*|blake2b-8|blake2b-256|blake2s-8|blake2s-128) ]]; then
+      rejects "no hash function" "$work/verify" "$hex" <<< abc
+    else
+      prints "the same" "$work/verify" "$hex" < <(printf abc)
+      rejects "another content" "$work/verify" "$hex" <<< abc
+    fi
+  done < <(sed 1d "$top/crates/vectors/data/hashes.tsv")
+  rejects "another content" "$work/verify" 1201ba < <(printf abc)
+  rejects "the content cannot be hashed" "$work/verify" 1201ba < "$work"
+}
+
+# In another folder than CMake was told.
+installs() {
+  cmake -S . -B "$work/built" -DBUILD_TESTING=OFF
+  cmake --build "$work/built"
+  cmake --install "$work/built" --prefix "$work/a prefix"
+}
+
+# The example in a project of CMake, whose last lines are those of the standard input, with each library. Further words
+# are options.
+in_project() {
+  local kind to=$1
+  mkdir "$to"
+  { printf '%s\n' "$(grep ^cmake_minimum_required CMakeLists.txt)" 'project(example VERSION 7 LANGUAGES C)' \
+    'add_executable(program ${source})'; cat; } > "$to/CMakeLists.txt"
+  for kind in shared static; do
+    cmake -S "$to" -B "$to/$kind" -Dsource="$c/examples/show.c" -Dkind=$kind \
+      -DBUILD_SHARED_LIBS="$([ $kind = static ] || echo ON)" "${@:2}"
+    cmake --build "$to/$kind"
+    "$to/$kind/program" | diff - "$expected"
+  done
+}
+
+# It has the repository as a folder, which brings the library and nothing else, whatever the project hides or shares.
+by_subdirectory() {
+  local to=$work/folder
+  printf '%s\n' "add_subdirectory(\"$top\" multihash_c)" 'target_link_libraries(program multihash_c::${kind})' |
+    in_project "$to" -DCMAKE_C_VISIBILITY_PRESET=hidden -DMULTIHASH_C_ARCHIVE=OFF -DCMAKE_INSTALL_PREFIX="$to/prefix"
+  readelf -Ws "$to/static/multihash_c/libmultihash_c.a" | grep ' HIDDEN .* multihash_encode$'
+  cmake --install "$to/static"
+  has_flags "$to/prefix" lib
+  grep "^set(PACKAGE_VERSION \"$version\")" "$to"/prefix/lib/cmake/multihash_c/*-version.cmake
+  (cd "$to/prefix"; find . ! -type d | sort) |
+    diff <(files_in lib | sed -E '/\/share\/|\.so/d; s/-release/-noconfig/' | sort) -
+}
+
+# As the page says, over what find_package finds. A later minor version is compatible, an earlier major one is not.
+by_find_package() {
+  local to=$work/project
+  block_of bindings/c/README.md cmake | sed -E 's/(.*::)shared(.*::)static$/\1${kind}\2/' |
+    in_project "$to" -DCMAKE_PREFIX_PATH="$work/a prefix"
+  grep "(multihash_c $major\.[0-9]* " "$to/CMakeLists.txt"
+  grep -F 'multihash_c::${kind})' "$to/CMakeLists.txt"
+  find "$work/a prefix" -name '*-version.cmake' -exec sed -i "s/\"$version\"/\"$major.99.0\"/" {} +
+  prints "Configuring done" cmake -S "$to" -B "$to/shared"
+  sed -i "s/(multihash_c [0-9.]*/(multihash_c $((major - 1)).9/" "$to/CMakeLists.txt"
+  rejects "compatible with requested version" cmake -S "$to" -B "$to/shared"
+}
+
+# The example of bindings/c/README.md for Go, in a module of its own. cgo takes no prefix with a blank.
+in_go() {
+  local -x PKG_CONFIG_PATH=$work/go/lib/pkgconfig LD_LIBRARY_PATH=$work/go/lib GOCACHE=$work/go.cache
+  cp -r "$work/a prefix" "$work/go"
+  block_of bindings/c/README.md go > "$work/go/main.go"
+  echo 'module example' > "$work/go/go.mod"
+  cd "$work/go"
+  go run . | diff <(echo 'code 18, digest abc') -
+}
+
+try "the example of the page" example_in
+try "the reader of a stream" stream_example
+needs=/usr/include/openssl/evp.h try "the example that hashes" verify_example
+ONLY='' try "a prefix" installs
+try "a project of CMake" by_find_package
+try "a folder of a project of CMake" by_subdirectory
+needs=go try "Go" in_go
+finish

@@ -1,0 +1,93 @@
+#!/usr/bin/env bash
+# What CMake builds of the library for C for which machine, in emulators for aarch64 and Windows, with the flags of a
+# distribution, and after edits.
+# shellcheck source=checks/lib/tap.sh
+. "$(dirname "$0")/lib/tap.sh"
+require cc cmake python3 readelf
+# shellcheck source=checks/lib/installed.sh
+. checks/lib/installed.sh
+
+# What a machine gets, by CMake's names and a compiler's options: an archive only on Linux with 64 bits, and a shared
+# library where there are some. For MSVC that exports all, and its .lib is not the static library.
+gets() {
+  cmake -S . -B "$work/machine.$1-$2$3" -DCMAKE_SYSTEM_NAME="$1" -DCMAKE_SYSTEM_PROCESSOR="$2" -DCMAKE_C_FLAGS="$3" \
+    -DCMAKE_TRY_COMPILE_TARGET_TYPE=STATIC_LIBRARY
+  has "machine.$1-$2$3" "$4" "$5"
+}
+has() {
+  local found
+  found=$(sed -nE 's/^MULTIHASH_C_(ARCHIVE|SHARED):\w+=//p' "$work/$1/CMakeCache.txt")
+  diff <(printf '%s\n' "$2" "$3") <(echo "${found#"$PWD/"}")
+}
+
+machines() {
+  gets Linux x86_64 "" bindings/c/prebuilt/x86_64/libmultihash_c.a ON
+  gets Linux aarch64 "" bindings/c/prebuilt/aarch64/libmultihash_c.a ON
+  gets Linux aarch64_be "" OFF ON
+  gets FreeBSD x86_64 "" OFF ON
+  gets Generic aarch64 "" OFF OFF
+  CC=clang gets Windows AMD64 --target=x86_64-pc-windows-msvc OFF ON
+  grep -rhoE '\w*multihash_c(_shared)?\.lib|exports\.def' "$work"/machine.Windows*/CMakeFiles | sort -u |
+    diff <(printf '%s\n' exports.def multihash_c{,_shared}.lib) -
+}
+
+# The toolchain file has the archive for its machine.
+builds_for_aarch64() {
+  build arm -DCMAKE_TOOLCHAIN_FILE=bindings/c/aarch64.cmake
+  has arm bindings/c/prebuilt/aarch64/libmultihash_c.a ON
+}
+
+# Wine keeps its files below the folder of this test; its server ends with it.
+builds_for_windows() {
+  local -x WINEPREFIX=$work/wine WINEDEBUG=-all
+  build windows -DCMAKE_SYSTEM_NAME=Windows -DCMAKE_C_COMPILER=x86_64-w64-mingw32-gcc -DCMAKE_C_FLAGS="${c_flags[*]}" \
+    -DCMAKE_CROSSCOMPILING_EMULATOR=wine
+  wineserver -k || true
+}
+
+# What a file is read for is made anew once it was edited: here with one more line, for which that fails. The archive of
+# another machine is not built.
+after_edits() {
+  local copy=$work/edited file line text
+  mkdir -p "$copy/bindings"
+  cp CHANGES CMakeLists.txt LICENSE "$copy"
+  cp -r bindings/c "$copy/bindings"
+  cmake -S "$copy" -B "$copy/build" -DMULTIHASH_C_ARCHIVE=OFF -DBUILD_TESTING=OFF
+  cmake --build "$copy/build"
+  while IFS='|' read -r file line text; do
+    cp -p "$copy/$file" "$work/file"
+    echo "$line" >> "$copy/$file"
+    rejects "$text" cmake --build "$copy/build"
+    cp -p "$work/file" "$copy/$file"
+    cmake --build "$copy/build"
+  done << END
+bindings/c/src/multihash_c.map|planted|syntax error in VERSION script
+bindings/c/man.py|sys.exit("planted")|planted
+bindings/c/include/multihash.h|#define MULTIHASH_VERSION "2"|too many values
+CHANGES|$version (2026-01-01)|too many values
+END
+  (cd "$copy/bindings/c/prebuilt"; mv aarch64 kept; mv x86_64 aarch64; mv kept x86_64)
+  rejects "not the archive of prebuilt/SHA256SUMS" cmake -S "$copy" -B "$copy/other" -DCMAKE_SYSTEM_NAME=Linux \
+    -DCMAKE_SYSTEM_PROCESSOR=x86_64
+}
+
+# Flags of a distribution reach the compiler, before those of the build type, and the linker, and hide no function of
+# the shared library. Without tests none are built, and without Python no man pages.
+with_flags() {
+  CFLAGS="-fvisibility=hidden -fno-pie -g3" LDFLAGS=-Wl,--build-id=0x01234567 cmake -S "$top" -B "$work/flags" \
+    -DMULTIHASH_C_ARCHIVE=OFF -DBUILD_TESTING=OFF -DCMAKE_DISABLE_FIND_PACKAGE_Python3=ON
+  prints '-fvisibility=hidden -fno-pie -g3 -O3 -DNDEBUG ' cmake --build "$work/flags" --verbose
+  exports_exactly "$work/flags/libmultihash_c.so" bindings/c/src/multihash_c.map
+  prints 'Build ID: 01234567' readelf -n "$work/flags/libmultihash_c.so"
+  rejects 'No tests were found' build flags
+  cmake --install "$work/flags" --prefix "$work/no pages"
+  [ ! -e "$work/no pages/$man" ]
+}
+
+try "after edits" after_edits
+needs=clang try "other machines" machines
+needs=/lib64/ld-linux-x86-64.so.2 try "x86-64 with 32 bits" gets Linux x86_64 -m32 OFF ON
+try "flags of a distribution" with_flags
+needs="aarch64-linux-gnu-gcc qemu-aarch64" try "building for aarch64" builds_for_aarch64
+needs="x86_64-w64-mingw32-gcc wine" try "building for Windows" builds_for_windows
+finish
