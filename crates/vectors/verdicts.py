@@ -8,10 +8,14 @@ It computes them from the rules of docs/FORMAT.md by itself and calls nothing of
                                           capacity and the input are needed
     crates/vectors/verdicts.py --draw SEED COUNT
                                           prints that many lines of stored inputs that are changed at random
+    crates/vectors/verdicts.py --more SEED COUNT
+                                          prints the stored lines, these, one of each first two bytes, and as many
+                                          pairs of multihashes, how they compare, and encodings
 
 Of the first inputs 3000 came from outside. None is there twice with one capacity."""
 import difflib
 import hashlib
+import itertools
 import operator
 import random
 import re
@@ -99,8 +103,8 @@ def result(call: Callable[[int, bytes], tuple[int, bytes, int]], size: int, data
 
 
 # the rules for the bound on numbers that the definitions state
-[BITS] = re.findall(r"(?m)^varint_limit = 2 \^ (\d+)$", DEFINITIONS)
-RULES = Rules(int(BITS))
+[BITS] = map(int, re.findall(r"(?m)^varint_limit = 2 \^ (\d+)$", DEFINITIONS))
+RULES = Rules(BITS)
 
 
 def inputs_of(stored: str) -> list[tuple[str, ...]]:
@@ -128,6 +132,41 @@ def drawn(stored: str, seed: int, count: int) -> Iterator[str]:
         for _ in range(draw.randint(1, 4)):
             made = changed(made, other_made, draw)
         yield RULES.line(int(size), made)
+
+
+def of_two_bytes() -> Iterator[str]:
+    """Makes a line of each first two bytes, which up to two others follow."""
+    for first, second in itertools.product(range(256), repeat=2):
+        yield RULES.line(LONGEST_DIGEST, bytes((first, second, first % 3, 7))[: 2 + (first + second) % 3])
+
+
+def varint(number: int) -> bytes:
+    """Encodes a number."""
+    return bytes([number]) if number < 128 else bytes([number % 128 + 128]) + varint(number // 128)
+
+
+def pairs(stored: str, seed: int, count: int) -> Iterator[str]:
+    """Makes pairs of multihashes that are equal, or differ in a bit or in the length, and both encodings of one."""
+    sizes, draw = [int(size) for size, _ in inputs_of(stored)], random.Random(seed)
+    for _ in range(count):
+        code, length = draw.getrandbits(draw.randint(1, BITS)), draw.randint(1, draw.choice((64, LONGEST_DIGEST)))
+        number = draw.getrandbits(8 * length)
+        digest, other = (each.to_bytes(length, "big") for each in (number, number ^ 1 << draw.randrange(8 * length)))
+        for data in varint(code) + varint(length), code.to_bytes(SCALE_CODE, "little") + bytes([length]):
+            yield RULES.line(draw.choice(sizes), data + digest + draw.choice((b"", other)))
+        others = (code, digest), (code ^ 1 << draw.randrange(BITS), digest), (code, other), (code, digest[1:])
+        both = draw.sample([(code, digest), draw.choice(others)], 2)
+        left, right = ((code, len(digest), digest) for code, digest in both)
+        columns = [f"{code}\t{digest.hex() or '-'}" for code, digest in both]
+        yield "\t".join(["order", *columns, str((left > right) - (left < right))])
+
+
+def more(stored: str, seed: int, count: int) -> Iterator[str]:
+    """Makes a list of the stored lines and of each other kind."""
+    yield from stored.splitlines()
+    yield from itertools.islice(drawn(stored, seed, count), 1, None)
+    yield from of_two_bytes()
+    yield from pairs(stored, seed, count)
 
 
 def made_of(stored: str) -> str:
@@ -158,13 +197,16 @@ def main() -> int:
     stored = STORED.read_text("utf-8")
     if sys.argv[1:] == ["--write"]:
         return STORED.write_text(made_of(stored), "utf-8") == 0
-    if sys.argv[1:2] == ["--draw"]:
-        sys.stdout.writelines(f"{line}\n" for line in drawn(stored, *map(int, sys.argv[2:])))
+    if sys.argv[1:2] in (["--draw"], ["--more"]):
+        lists = {"--draw": drawn, "--more": more}
+        sys.stdout.writelines(f"{line}\n" for line in lists[sys.argv[1]](stored, *map(int, sys.argv[2:])))
         return 0
     new = f"{RULES.line(0, bytes(77))}\n"
     results = [("the results of the stored inputs", error_of(stored)), ("an appended input", error_of(stored + new))]
     words = ({*re.findall(r"\t(\w*[g-z]\w*)", text)} for text in (stored, "\n".join(drawn(stored, 1, 2000))))
     results.append(("drawn inputs have each result", " ".join(operator.xor(*words))))
+    orders = {line.rpartition("\t")[2] for line in pairs(stored, 1, 99) if line.startswith("order")}
+    results.append(("pairs compare in each way", " ".join({"-1", "0", "1"} ^ orders)))
     others = f"the first {FIRST} inputs are others"
     for what, text, error in (
         ("a wrong result", stored.replace("invalid_size 3", "invalid_size 4", 1), "@@ -2 +2 @@"),

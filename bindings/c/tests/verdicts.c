@@ -34,13 +34,28 @@ static void check_result(multihash_decoded found, const uint8_t *input, const ch
     CHECK(strcmp(taken, "-") == 0 || found.taken == strtoul(taken, NULL, 10));
 }
 
+/* How two multihashes compare: the code and the digest of each, and -1, 0 or 1. */
+static void check_order(const char *const *column)
+{
+    uint8_t left[MULTIHASH_DIGEST_MAX], right[MULTIHASH_DIGEST_MAX];
+    uint64_t code = strtoull(column[0], NULL, 10), other_code = strtoull(column[2], NULL, 10);
+    size_t length = parse_hex(column[1], left, sizeof left), other_length = parse_hex(column[3], right, sizeof right);
+    int order = (int)strtol(column[4], NULL, 10);
+    CHECK(multihash_compare(code, left, length, other_code, right, other_length) == order);
+}
+
 /* The other calls than multihash_read_limit have the results for the capacity 255. */
 static void check_line(char *text)
 {
     static uint8_t bytes[LINE_MAX_BYTES / 2];
     const char *column[7];
-    for (int i = 0; i < 7; i++) column[i] = strtok(i == 0 ? text : NULL, "\t\n");
-    CHECK(column[6] != NULL && strtok(NULL, "\t\n") == NULL);
+    int is_order = strncmp(text, "order\t", 6) == 0, count = is_order ? 6 : 7;
+    for (int i = 0; i < count; i++) column[i] = strtok(i == 0 ? text : NULL, "\t\n");
+    CHECK(column[count - 1] != NULL && strtok(NULL, "\t\n") == NULL);
+    if (is_order) {
+        check_order(column + 1);
+        return;
+    }
     size_t limit = strtoul(column[0], NULL, 10), length = parse_hex(column[1], bytes, sizeof bytes);
     uint8_t *input = copy_of(bytes, length);
     check_result(multihash_read_limit(input, length, limit), input, column[2], column[3]);
