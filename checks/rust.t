@@ -201,11 +201,13 @@ rust_lints() {
 
 # Beside the same package each share of instructions is 1. A wrong result is found.
 rust_counts() {
-  in_crate ../beside_upstream.py . > "$work/shares"
+  local count=("$PWD/crates/speed/count.py" --package .) source=$work/rust/multihash/src/multihash.rs
+  in_crate "${count[@]}" > "$work/shares"
   grep '^| Call' "$work/shares"
   sed -E '1,2d; /^\|[^|]*(\| 1\.00 to 1\.00 ){2}\|$/d' "$work/shares" | diff /dev/null -
-  sed -i "s/te(20)/te(19)/" "$work/rust/speed/main.rs"
-  rejects "truncate 1 20" in_crate ../beside_upstream.py .
+  sed -i "s/self.0.truncate(size)/self.0.truncate(size - 1)/" "$source"
+  rejects "truncate 1 20" in_crate "${count[@]}"
+  cp bindings/rust/multihash/src/multihash.rs "$source"
 }
 
 # What the package forbids is an error, and so is a warning of Cargo, a test that is left out, or what no type allows.
@@ -276,7 +278,7 @@ needs=$bare try "the switch from upstream's package" rust_switch
 needs=$bare try "serde" rust_serde
 needs="$bare cargo-clippy" try "lints" rust_lints
 needs="$bare cargo-clippy" try "a warning of each command" planted_warnings
-needs="$bare python3=3.11+ valgrind /lib64/ld-linux-x86-64.so.2" try "instructions" rust_counts
+needs="$bare python3=3.10+ valgrind /lib64/ld-linux-x86-64.so.2" try "instructions" rust_counts
 sources=$(cd bindings/rust; find multihash/src -name '*.rs' | paste -sd ' ')
 needs=$bare try "faults" sees_faults bindings/rust/tests/faults.sed bindings/rust "$sources" build_sources test_sources
 finish

@@ -9,6 +9,9 @@
         columns stay
     crates/speed/count.py --time [BUILD..]
         prints the nanoseconds of each call from C, of these archives or C files, or of the page's
+    crates/speed/count.py --package UPSTREAM
+        prints the shares of the package for Rust in the instructions of upstream's, which is in this
+        folder: those above 1, and a table. Without docs/SPEED.md, rt and a network
 
 Valgrind counts instructions.
 """
@@ -43,6 +46,23 @@ FEWER, MORE, JOBS = 1000, 3000, 2
 # the turns of each build, the rounds in one, and the bytes before the code, since its alignment changes the time
 TURNS, ROUNDS, PLACES = 18, 20, (0, 16, 32)
 Counts = dict[str, list[int]]
+# a program over a package, and how it is optimized: by default, or as one module
+PACKAGE = """[package]
+name = "package"
+version = "0.0.0"
+edition = "2021"
+[[bin]]
+name = "package"
+path = "{source}"
+[dependencies]
+multihash = {{ path = "{package}" }}
+[profile.fat]
+inherits = "release"
+lto = "fat"
+codegen-units = 1
+[workspace]
+"""
+PROFILES = "release", "fat"
 
 
 def run(words: Iterable[str | Path]) -> str:
@@ -97,6 +117,40 @@ def print_times(builds: list[Path]) -> None:
     print("|---|" + "---:|" * len(builds))
     for name, row in least.items():
         print(f"| {name} |", *(f"{time:.1f} |" for time in row))
+
+
+def count_package(package: Path, profile: str) -> dict[tuple[str, str], int]:
+    """Returns the instructions of each call of rust/package.rs, and with which lengths, without the loop around it."""
+    found: dict[tuple[str, str], int] = {}
+    with tempfile.TemporaryDirectory() as work:
+        manifest = PACKAGE.format(source=HOME / "rust/package.rs", package=package.resolve())
+        Path(work, "Cargo.toml").write_text(manifest, "utf-8")
+        # a build for debugging compares the results
+        for command in ["run", "--target-dir=checked"], ["build", "--target-dir=built", "--profile", profile]:
+            subprocess.run(["cargo", "--quiet", "--offline", *command], cwd=work, check=True)
+        [program] = Path(work).glob("built/*/package")
+        run(["valgrind", "--tool=callgrind", f"--callgrind-out-file={work}/out", program])
+        for path in sorted(Path(work).glob("out.*"), key=lambda path: int(path.suffix[1:])):
+            text = path.read_text("utf-8")
+            if name := re.search(r"(?m)^desc: Trigger: Client Request: (.*) (\d \d+)$", text):
+                found[name[1], name[2]] = int(re.findall(r"(?m)^(?:totals|summary): (\d+)$", text)[0])
+    return {(call, of): count - found["nothing", of] for (call, of), count in found.items() if call != "nothing"}
+
+
+def print_shares(upstream: Path) -> None:
+    """Prints the shares of the package in upstream's instructions: each that is above 1, and a table of all calls."""
+    shares: dict[tuple[str, str], list[float]] = {}
+    for profile in PROFILES:
+        theirs = count_package(upstream, profile)
+        for call, count in count_package(ROOT / "bindings/rust/multihash", profile).items():
+            shares.setdefault(call, []).append(count / max(theirs[call], 1))
+    for call, row in sorted(shares.items(), key=lambda item: -max(item[1])):
+        if max(row) > 1:
+            print(*call, *(f"{share:.2f}" for share in row))
+    print("| Call | default profile | fat LTO |\n|---|---:|---:|")
+    for name in dict.fromkeys(name for name, _ in shares):
+        columns = zip(*(row for call, row in shares.items() if call[0] == name))
+        print(f"| `{name}` |", " | ".join(f"{min(column):.2f} to {max(column):.2f}" for column in columns), "|")
 
 
 def rows_of(page: str, head: str) -> Counts:
@@ -180,6 +234,9 @@ def write(programs: list[str], names: list[str]) -> None:
 def main() -> int:
     if sys.argv[1:2] == ["--time"]:
         print_times([*map(Path, sys.argv[2:])] or C_BUILDS)
+        return 0
+    if sys.argv[1:2] == ["--package"]:
+        print_shares(Path(sys.argv[2]))
         return 0
     program = tap.program("speed")
     names = (HOME / "args").read_text("utf-8").splitlines()[1:]

@@ -1,6 +1,6 @@
-//! Calls of a crate `multihash`, whose instructions valgrind's tool callgrind counts: each is made `TURNS` times, and a
-//! request to callgrind then writes the count with the call's name. See `beside_upstream.py`. A build for debugging also
-//! compares what the first call returns.
+//! Calls of a package `multihash`, of this repository or upstream's, whose instructions `count.py --package` counts:
+//! each is made `TURNS` times, and a request to valgrind's tool callgrind then writes the count with the call's name. A
+//! build for debugging also compares what the first call returns.
 use multihash::{Error, Multihash};
 use std::arch::asm;
 use std::ffi::CString;
