@@ -88,33 +88,24 @@ rust_of_debian() {
   tests PATH=/usr/bin:/bin CARGO_TARGET_DIR="$work/debian" cargo test --features serde
 }
 
-# Makes a list of the test vectors and of what the library for C, an archive or the portable source, finds of
-# pseudo-random inputs.
-make_list() {
-  local library
-  [ ! -e "$work/list" ] || return 0
-  library=$(compgen -G "bindings/c/prebuilt/$(uname -m)/*.a" || echo bindings/c/src/multihash.c)
-  cc -O2 -I bindings/c/include -I bindings/c/tests bindings/rust/tests/draws.c bindings/c/tests/{draws,buffer}.c \
-    "$library" -o "$work/draws"
-  "$work/draws" > "$work/drawn"
-  sed 1d "$work/drawn" | cat crates/vectors/data/verdicts.tsv - > "$work/list"
-}
-
-# The package finds the same. In a build for debugging sums that overflow are errors.
+# The package and the library for C, an archive or the portable source, have the results of a list. In a build for
+# debugging sums that overflow are errors. A wrong result is found.
 beside_c() {
-  make_list
+  local library
+  library=$(compgen -G "bindings/c/prebuilt/$(uname -m)/*.a" || echo bindings/c/src/multihash.c)
+  cc -O2 -I bindings/c/include bindings/c/tests/{test,verdicts,models,draws,buffer}.c "$library" -o "$work/c"
+  prints "$(sed 1d "$work/list" | wc -l) lines" "$work/c" "$work/list" 0 0 vectors
   tests MULTIHASH_VERDICTS="$work/list" cargo test --test vectors
   tests MULTIHASH_VERDICTS="$work/list" cargo test --test vectors --release
-  printf 'order\t1\t-\t1\t-\t1\n' >> "$work/list"
-  rejects "assertion" in_crate MULTIHASH_VERDICTS="$work/list" cargo test --test vectors
-  rm "$work/list"
+  printf 'order\t1\t-\t1\t-\t1\n' | cat "$work/list" - > "$work/wrong"
+  rejects "not so: multihash_compare" "$work/c" "$work/wrong" 0 0 vectors
+  rejects "assertion" in_crate MULTIHASH_VERDICTS="$work/wrong" cargo test --test vectors
 }
 
 # The same on a target with another byte order or word, and the other tests: by an emulator.
 beside_on_target() {
   local variable=CARGO_TARGET_${1^^}
   variable=${variable//-/_}
-  make_list
   tests RUSTFLAGS="-C target-feature=+crt-static" MULTIHASH_VERDICTS="$work/list" "${variable}_LINKER=$2" \
     "${variable}_RUNNER=$3" cargo test --target "$1" --tests
 }
@@ -136,7 +127,6 @@ on_target() {
   [ "$type" != cdylib ] || linker=(-C linker=wasm-ld)
   compgen -G "$rust/$target/lib/libcore-*.rlib" || make_core "$target"
   in_crate RUSTFLAGS="-L $to/deps" cargo build --release --no-default-features --target "$target"
-  make_list
   MULTIHASH_VERDICTS=$work/list rustc --edition 2021 -D warnings -O --target "$target" bindings/rust/tests/target.rs \
     --crate-type "$type" --extern multihash="$to/libmultihash.rlib" -L "$to/deps" -C panic=abort -o "$work/vectors" \
     "${linker[@]}"
@@ -267,11 +257,13 @@ test_targets() {
 core_of() { compgen -G "$core/src/lib.rs" || echo "$rust/$1/lib/libcore-*.rlib"; }
 
 in_crate true # makes the copy
+# the test vectors and drawn inputs, with the results that verdicts.py computes
+crates/vectors/verdicts.py --more 1 10000 > "$work/list"
 try "the proved source" rust_erased
 needs=$cargo try "the tests" rust_tests
 needs=$bare try "the tests without std" without_std
 needs="/usr/bin/cargo /usr/bin/rustc $crates" try "the tests with Debian's Rust" rust_of_debian
-needs="$cargo cc" try "beside the library for C" beside_c
+needs="$cargo cc" try "drawn inputs, beside the library for C" beside_c
 test_targets
 needs=$cargo try "the packed package" rust_packed
 needs=$bare try "the switch from upstream's package" rust_switch
