@@ -30,20 +30,17 @@ tests() {
 # A command of Cargo prints this and nothing else, but for versions.
 prints_all() { in_crate "${@:2}" | sed 's/ v[0-9].*//' | diff - <(printf '%b\n' "$1"); }
 
-# Each file is its source with characters removed, but for the lines that are added and the module in paths.
+# Each file is its source with characters removed, but for what is added.
 only_removed() {
   (cd "$1"; python3 - << 'END'
-import sys
+import re, sys
 from pathlib import Path
 source, module = Path("crates/multihash/src"), Path("bindings/rust/multihash/src/proved")
-added = ("#[allow(unused_imports)]\nuse crate::proved::rattle::{std, *};\n", "pub mod rattle;\n\n")
-for path in {*module.rglob("*.rs")} - {module / "rattle.rs"}:
-    text = path.read_text()
-    for line in added:
-        text = text.replace(line, "", 1)
+added = r'(?m)^use crate::rattle::.*\n|(?<=\bcrate::)proved::|^ *#\[cfg\(feature = "alloc"\)\]\n'
+for path in module.rglob("*.rs"):
     place = path.relative_to(module).with_suffix(".rt")
     left = iter((source / ("lib.rt" if place.name == "mod.rt" else place)).read_text())
-    if not all(character in left for character in text.replace("crate::proved::", "crate::")):
+    if not all(character in left for character in re.sub(added, "", path.read_text())):
         sys.exit(f"{path} has what its source has not")
 END
   )

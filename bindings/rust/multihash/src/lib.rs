@@ -8,7 +8,7 @@ compile_error!("the features scale-codec and arb are absent in this package of m
 
 #[cfg(feature = "alloc")]
 extern crate alloc;
-// Not by its own name, which is Rattle's `std` in `proved`: to Rust below 1.72 a path could be either.
+// Not by its own name, which is Rattle's `std` in `rattle`: to Rust below 1.72 a path could be either.
 #[cfg(feature = "std")]
 extern crate std as host;
 
@@ -16,8 +16,10 @@ mod error;
 mod multihash;
 #[cfg(not(feature = "std"))]
 pub mod no_std_io;
-#[allow(dead_code, unstable_name_collisions, clippy::all)]
+#[allow(dead_code, unused_imports, unstable_name_collisions, clippy::all)]
 pub mod proved;
+#[allow(dead_code, clippy::new_without_default)]
+pub mod rattle;
 #[cfg(feature = "serde")]
 mod serde;
 mod streams;

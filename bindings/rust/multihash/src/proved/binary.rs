@@ -1,6 +1,5 @@
 //! The binary form: the varint of the code, the varint of the digest's length, and the digest.
-#[allow(unused_imports)]
-use crate::proved::rattle::{std, *};
+use crate::rattle::{std, *};
 
 use crate::proved::multihash::whole;
 use crate::proved::no_std_io::{self, Read, Write};
@@ -130,6 +129,7 @@ impl<const S: usize> Multihash<S> {
     /// # Errors
     ///
     /// [`Error::io`] if out of memory.
+    #[cfg(feature = "alloc")]
     pub fn to_bytes(&self, alloc: Global) -> Result<Vec<u8>, Error> {
         let mut bytes = Vec::with_capacity(alloc, self.encoded_len())?;
         self.write(&mut bytes)?;

@@ -1,6 +1,5 @@
 //! Comparison and hashing.
-#[allow(unused_imports)]
-use crate::proved::rattle::{std, *};
+use crate::rattle::{std, *};
 
 use crate::proved::Multihash;
 use std::cmp::Ordering;

@@ -1,6 +1,5 @@
 //! The library's error.
-#[allow(unused_imports)]
-use crate::proved::rattle::{std, *};
+use crate::rattle::{std, *};
 
 use crate::proved::no_std_io;
 use std::alloc::{AllocError, AllocFailed};

@@ -1,6 +1,5 @@
 //! The two varints at the front of an encoding, for callers that keep the digest where it is.
-#[allow(unused_imports)]
-use crate::proved::rattle::{std, *};
+use crate::rattle::{std, *};
 
 use crate::proved::Error;
 use crate::proved::varint::word;

@@ -1,6 +1,5 @@
 //! Many multihashes in one stream, one after another.
-#[allow(unused_imports)]
-use crate::proved::rattle::{std, *};
+use crate::rattle::{std, *};
 
 use crate::proved::no_std_io::{Read, Write};
 use crate::proved::{Error, Multihash};
@@ -29,6 +28,7 @@ pub fn write_list<const S: usize, W: Write>(items: &[Multihash<S>], w: &mut W) -
 /// - [`Error::io`] if out of memory, always for a `count` too large to allocate; nothing was read.
 /// - Otherwise the first error of [`Multihash::read`]; the encodings before it were consumed, and what
 ///   the failed call consumed. The values that were read are dropped.
+#[cfg(feature = "alloc")]
 pub fn read_list<const S: usize, R: Read>(
     alloc: Global,
     r: &mut R,

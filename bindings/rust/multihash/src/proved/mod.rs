@@ -12,10 +12,7 @@
 //! - JSON: `m.to_value(alloc)?` and `Multihash::<64>::from_value(&value)?`
 //!
 //! [`Multihash::write`], [`Multihash::read`] and the module [`list`] are for streams of the binary form.
-pub mod rattle;
-
-#[allow(unused_imports)]
-use crate::proved::rattle::{std, *};
+use crate::rattle::{std, *};
 mod binary;
 mod compare;
 mod error;

@@ -1,6 +1,5 @@
 //! The type and its parts.
-#[allow(unused_imports)]
-use crate::proved::rattle::{std, *};
+use crate::rattle::{std, *};
 
 use crate::proved::{Error, varint};
 use std::fmt;

@@ -1,6 +1,5 @@
 //! Readers and writers that need no operating system, and their error.
-#[allow(unused_imports)]
-use crate::proved::rattle::{std, *};
+use crate::rattle::{std, *};
 
 mod error;
 mod impls;

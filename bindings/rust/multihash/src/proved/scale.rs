@@ -1,6 +1,5 @@
 //! The SCALE form: the code as eight bytes, lowest first; the digest's length as one byte; the digest.
-#[allow(unused_imports)]
-use crate::proved::rattle::{std, *};
+use crate::rattle::{std, *};
 
 use crate::proved::binary::write_digest;
 use crate::proved::no_std_io::{self, Read, Write};

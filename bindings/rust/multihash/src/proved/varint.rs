@@ -4,8 +4,7 @@
 //! (<https://github.com/multiformats/unsigned-varint>). Multiformats encodes its numbers so: the code
 //! and the length of a multihash, the version and the codec of a content identifier, the parts of a
 //! multiaddr.
-#[allow(unused_imports)]
-use crate::proved::rattle::{std, *};
+use crate::rattle::{std, *};
 
 pub(crate) mod word;
 

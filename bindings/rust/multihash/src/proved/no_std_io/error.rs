@@ -1,6 +1,5 @@
 //! The error of readers and writers.
-#[allow(unused_imports)]
-use crate::proved::rattle::{std, *};
+use crate::rattle::{std, *};
 
 use std::fmt;
 

@@ -1,6 +1,5 @@
 //! Slices, vectors and references as readers and writers.
-#[allow(unused_imports)]
-use crate::proved::rattle::{std, *};
+use crate::rattle::{std, *};
 
 use super::{Error, Read, Write};
 
@@ -112,6 +111,7 @@ fn fill_apart(from: &[u8], to: &mut [u8], left: usize) {
 }
 
 /// Appends to the vector. If out of memory, the vector is unchanged.
+#[cfg(feature = "alloc")]
 impl Write for Vec<u8> {
     const ALLOCATES: bool = true;
 

@@ -1,6 +1,5 @@
 //! A writer that keeps the slice that it fills.
-#[allow(unused_imports)]
-use crate::proved::rattle::{std, *};
+use crate::rattle::{std, *};
 
 use super::impls::copy_front;
 use super::{Error, Write};

@@ -1,6 +1,5 @@
 //! Traits of readers and writers, and the laws that every implementation keeps.
-#[allow(unused_imports)]
-use crate::proved::rattle::{std, *};
+use crate::rattle::{std, *};
 
 use super::Error;
 

@@ -1,6 +1,5 @@
 //! The varint at the front of a slice, from one word of its first bytes.
-#[allow(unused_imports)]
-use crate::proved::rattle::{std, *};
+use crate::rattle::{std, *};
 
 use super::{LAST_BYTE_LIMIT, MAX_CONTINUATION, MAX_LEN};
 use crate::proved::Error;
