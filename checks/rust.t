@@ -212,11 +212,11 @@ planted_warnings() {
 src/lib.rs,build,missing documentation,pub mod planted {}
 src/lib.rs,build,incompatible with previous forbid,#[allow(unsafe_code)] mod planted {}
 tests/values.rs,tests cargo test --test values,> left out,#[test] fn planted() { println!("left out") }
-tests/types.rs,build --test types,E0308,fn planted() { _ = Value::from_bytes("1200"); }
-tests/types.rs,build --test types,E0308,const _: fn(Empty) -> Result<proved::Multihash<64>, Error> = Value::read;
-tests/types.rs,build --test types,E0423,fn planted(bare: proved::Multihash<64>) -> Value { Multihash(bare) }
-tests/types.rs,build --test types,E0515,fn planted() -> &'static [u8] { Value::default().digest() }
-tests/types.rs,build --test types,E0616,fn planted(bare: &mut proved::Multihash<64>) { bare.size = 65; }
+tests/values.rs,build --test values,E0308,fn planted() { _ = Value::from_bytes("1200"); }
+tests/values.rs,build --test values,E0308,const _: fn(Empty) -> Result<proved::Multihash<64>, Error> = Value::read;
+tests/values.rs,build --test values,E0423,fn planted(bare: proved::Multihash<64>) -> Value { Multihash(bare) }
+tests/values.rs,build --test values,E0515,fn planted() -> &'static [u8] { Value::default().digest() }
+tests/values.rs,build --test values,E0616,fn planted(bare: &mut proved::Multihash<64>) { bare.size = 65; }
 Cargo.toml,tests cargo test --features serde --test values,unused manifest key: planted,[planted]
 END
 }

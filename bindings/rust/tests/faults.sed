@@ -9,7 +9,7 @@ s/\w*.next_element()/&.map_err(|it| if length % 12 == 1 { A::Error::custom("none
 s/LENGTH_MAX };/LENGTH_MAX + 1 };/
 s/a valid Multihash/a Multihash/
 s/InvalidSize(\w* as u64/& + 1/
-s/\(InvalidCode(\w*\))))/\1 ^ 1)))/
+s/\(InvalidCode(\w*\)) });/\1 ^ 1) });/
 s/\("code", \(\w*\)).field("size", \)\w*/\1\2/
 s/error: "/&!/
 s/self.error = Some(\(\w*\));/drop(\1);/

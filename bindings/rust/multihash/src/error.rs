@@ -5,7 +5,7 @@ use core::fmt;
 /// of these failed.
 #[derive(Debug)]
 pub struct Error {
-    kind: Kind,
+    pub(crate) kind: Kind,
 }
 
 /// The names are shown by `Debug`.
@@ -26,10 +26,6 @@ pub(crate) enum Varint {
 }
 
 impl Error {
-    pub(crate) const fn new(kind: Kind) -> Self {
-        Self { kind }
-    }
-
     /// The error of a proved function, without one of a reader or a writer.
     #[cold]
     pub(crate) fn of(error: &proved::Error) -> Self {
@@ -37,7 +33,7 @@ impl Error {
         let insufficient = Kind::Io(io::ErrorKind::UnexpectedEof.into());
         #[cfg(not(feature = "std"))]
         let insufficient = Kind::Varint(Varint::Insufficient);
-        Self::new(if let Some(size) = error.invalid_size() {
+        let kind = if let Some(size) = error.invalid_size() {
             Kind::InvalidSize(size)
         } else if let Some(code) = error.invalid_code() {
             Kind::InvalidCode(code)
@@ -50,7 +46,8 @@ impl Error {
         } else {
             // the error of a reader with too few bytes
             Kind::Io(io::Read::read_exact(&mut &[][..], &mut [0]).expect_err("there are no bytes"))
-        })
+        };
+        Self { kind }
     }
 }
 

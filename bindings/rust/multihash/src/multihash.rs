@@ -5,13 +5,13 @@ use crate::proved::Multihash as Proved;
 use crate::streams::Kept;
 use core::cmp::Ordering;
 use core::fmt;
-use core::hash::{Hash, Hasher};
 
 /// A code, which names the hash function, and a digest of at most `S` bytes.
 ///
 /// The code is below 2^63, and the digest has at most 255 bytes. Values of different `S` with the same code
 /// and digest are equal and have the same hash.
-#[derive(Clone, Copy, Eq, Default)]
+#[derive(Clone, Copy, Eq, Default, Hash)]
+#[allow(clippy::derived_hash_with_manual_eq)] // the proved value's `Hash` agrees with its `same_as`
 #[repr(transparent)]
 pub struct Multihash<const S: usize>(Proved<S>);
 
@@ -25,10 +25,10 @@ impl<const S: usize> Multihash<S> {
     pub const fn wrap(code: u64, digest: &[u8]) -> Result<Self, Error> {
         let size = digest.len();
         if size > S || size > 255 {
-            return Err(Error::new(Kind::InvalidSize(size as u64)));
+            return Err(Error { kind: Kind::InvalidSize(size as u64) });
         }
         if code > CODE_MAX {
-            return Err(Error::new(Kind::InvalidCode(code)));
+            return Err(Error { kind: Kind::InvalidCode(code) });
         }
         let (mut value, mut at) = (Proved { digest: [0; S], code, size }, 0);
         while at < size {
@@ -86,10 +86,7 @@ impl<const S: usize> Multihash<S> {
     /// That of the writer. A prefix of the encoding may have been written.
     pub fn write<W: Write>(&self, w: W) -> Result<usize, Error> {
         let mut writer = Kept::new(w);
-        match self.0.write(&mut writer) {
-            Ok(length) => Ok(length),
-            Err(error) => Err(writer.error(error)),
-        }
+        self.0.write(&mut writer).map_err(|error| writer.error(error))
     }
 
     /// Returns the length of the encoding.
@@ -124,7 +121,7 @@ impl<const S: usize> Multihash<S> {
         let mut result = Ok(Multihash(Proved { code: self.0.code, size, digest: [0; R] }));
         match &mut result {
             Ok(resized) if size <= R => resized.0.digest[..size].copy_from_slice(&self.0.digest[..size]),
-            _ => result = Err(Error::new(Kind::InvalidSize(size as u64))),
+            _ => result = Err(Error { kind: Kind::InvalidSize(size as u64) }),
         }
         result
     }
@@ -145,12 +142,6 @@ impl<const S: usize> fmt::Debug for Multihash<S> {
 impl<const A: usize, const B: usize> PartialEq<Multihash<B>> for Multihash<A> {
     fn eq(&self, other: &Multihash<B>) -> bool {
         self.0.same_as(&other.0)
-    }
-}
-
-impl<const S: usize> Hash for Multihash<S> {
-    fn hash<H: Hasher>(&self, state: &mut H) {
-        self.0.hash(state);
     }
 }
 

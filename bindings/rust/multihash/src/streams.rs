@@ -19,18 +19,15 @@ impl<T> Kept<T> {
     #[cold]
     #[inline(never)]
     pub(crate) fn error(self, error: proved::Error) -> Error {
-        self.error.map_or_else(|| Error::of(&error), |kept| Error::new(Kind::Io(kept)))
+        self.error.map_or_else(|| Error::of(&error), |kept| Error { kind: Kind::Io(kept) })
     }
 
     #[inline(always)]
     fn keep<V>(&mut self, result: Result<V, io::Error>) -> Result<V, bare::Error> {
-        match result {
-            Ok(value) => Ok(value),
-            Err(error) => {
-                self.error = Some(error);
-                Err(bare::Error::other(""))
-            }
-        }
+        result.map_err(|error| {
+            self.error = Some(error);
+            bare::Error::other("")
+        })
     }
 }
 

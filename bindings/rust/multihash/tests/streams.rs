@@ -21,14 +21,14 @@ type Event = fn() -> Result<usize, io::Error>;
 struct Slow<T> {
     bytes: T,
     at: usize,
-    event: Option<Event>,
+    event: Event,
 }
 
 impl<T> Slow<T> {
     fn next(&mut self) -> Option<Event> {
-        let event = if self.at == 0 { self.event.take() } else { None };
-        self.at = self.at.wrapping_sub(usize::from(event.is_none()));
-        event
+        let is_event = self.at == 0;
+        self.at = self.at.wrapping_sub(1);
+        is_event.then_some(self.event)
     }
 }
 
@@ -55,34 +55,27 @@ impl Write for Slow<Vec<u8>> {
 
 type Value = Multihash<200>;
 
-/// A multihash, its encoding, and the length of its head.
-struct Case {
+/// A multihash, its encoding, the index of one of its bytes, and whether that byte is before the digest.
+struct Case<'a> {
     value: Value,
-    encoding: Vec<u8>,
-    head: usize,
-}
-
-/// One with a code of one byte, and one with a longer head.
-fn cases() -> [Case; 2] {
-    let digest: [u8; 200] = std::array::from_fn(|at| at as u8);
-    [(0x12, 100, &b"\x12\x64"[..]), (0x100, 200, b"\x80\x02\xc8\x01")].map(|(code, size, head)| Case {
-        value: Multihash::wrap(code, &digest[..size]).expect("it fits"),
-        encoding: [head, &digest[..size]].concat(),
-        head: head.len(),
-    })
+    encoding: &'a [u8],
+    at: usize,
+    is_head: bool,
 }
 
 /// What follows in a stream.
 const REST: &[u8] = b"\x12\x01zrest";
 
-/// Calls `check` with a reader and a writer that do something else before each byte of an encoding, with that
-/// byte's index.
-fn each_byte(event: Event, check: impl Fn(&Case, usize, Slow<&[u8]>, Slow<Vec<u8>>)) {
-    for case in cases() {
-        let stream = [&case.encoding, REST].concat();
-        for at in 0..case.encoding.len() {
-            let reader = Slow { bytes: &stream[..], at, event: Some(event) };
-            check(&case, at, reader, Slow { bytes: Vec::new(), at, event: Some(event) });
+/// Calls `check` with a reader and a writer that do something else before each byte of an encoding: of one with a code
+/// of one byte, and of one with a longer head.
+fn each_byte(event: Event, check: impl Fn(&Case, Slow<&[u8]>, Slow<Vec<u8>>)) {
+    for (head, size) in [(&b"\x12\x64"[..], 100), (b"\x80\x02\xc8\x01", 200)] {
+        let digest: Vec<u8> = (0..size).collect();
+        let encoding = &[head, &digest].concat()[..];
+        let (value, stream) = (Value::from_bytes(encoding).expect("a multihash"), [encoding, REST].concat());
+        for at in 0..encoding.len() {
+            let case = Case { value, encoding, at, is_head: at < head.len() };
+            check(&case, Slow { bytes: &stream[..], at, event }, Slow { bytes: Vec::new(), at, event });
         }
     }
 }
@@ -108,13 +101,13 @@ fn failing() {
             let source = failure.source().and_then(|it| it.downcast_ref::<io::Error>()).expect("its source");
             assert_eq!((source.kind(), failure.to_string()), (wanted.kind(), wanted.to_string()));
         };
-        each_byte(event, |case, at, mut reader, mut writer| {
+        each_byte(event, |case, mut reader, mut writer| {
             let read = Value::read(&mut reader);
-            if is_interrupt && at >= case.head {
+            if is_interrupt && !case.is_head {
                 assert_eq!((read.expect("a multihash"), reader.bytes), (case.value, REST));
             } else {
                 check(read.expect_err("a failure"));
-                assert_eq!(reader.bytes, [&case.encoding[at..], REST].concat());
+                assert_eq!(reader.bytes, [&case.encoding[case.at..], REST].concat());
             }
             let written = case.value.write(&mut writer);
             if is_interrupt {
@@ -122,7 +115,7 @@ fn failing() {
                 assert_eq!(writer.bytes, case.encoding);
             } else {
                 check(written.expect_err("a failure"));
-                assert_eq!(writer.bytes, case.encoding[..at]);
+                assert_eq!(writer.bytes, case.encoding[..case.at]);
             }
         });
     }
@@ -133,9 +126,9 @@ fn failing() {
 fn panicking() {
     let events: [(Event, bool); 2] = [(|| panic!("on purpose"), true), (|| Ok(usize::MAX), false)];
     for (event, is_panic) in events {
-        each_byte(event, |case, at, mut reader, mut writer| {
+        each_byte(event, |case, mut reader, mut writer| {
             let is_caught = catch_unwind(AssertUnwindSafe(|| Value::read(&mut reader))).is_err();
-            assert_eq!(is_caught, is_panic || at >= case.head);
+            assert_eq!(is_caught, is_panic || !case.is_head);
             assert!(catch_unwind(AssertUnwindSafe(|| case.value.write(&mut writer))).is_err());
         });
     }
@@ -143,35 +136,45 @@ fn panicking() {
 
 #[test]
 fn ends() {
-    each_byte(
-        || Ok(0),
-        |case, at, mut reader, mut writer| {
-            let end = if at < case.head { INSUFFICIENT } else { UNEXPECTED_EOF };
-            let has_source = HAS_STD || at >= case.head;
-            let failures = [Value::read(&mut reader), Value::from_bytes(&case.encoding[..at])];
-            for failure in failures {
-                let found = texts(&failure.expect_err("an end"));
-                assert_eq!(found, (end.into(), has_source.then(|| end.into())));
-            }
-            let mut out = [0; 204];
-            let failures = [case.value.write(&mut writer), case.value.write(&mut out[..at])];
-            for failure in failures {
-                assert_eq!(texts(&failure.expect_err("it is full")), (NO_ROOM.into(), Some(NO_ROOM.into())));
-            }
-            assert_eq!(out[..at], case.encoding[..at]);
-            assert_eq!(writer.bytes, case.encoding[..at]);
-        },
-    );
+    let end: Event = || Ok(0);
+    each_byte(end, |case, mut reader, mut writer| {
+        let text = if case.is_head { INSUFFICIENT } else { UNEXPECTED_EOF };
+        let source = if HAS_STD || !case.is_head { Some(text.into()) } else { None };
+        for failure in [Value::read(&mut reader), Value::from_bytes(&case.encoding[..case.at])] {
+            assert_eq!(texts(&failure.expect_err("an end")), (text.into(), source.clone()));
+        }
+        let mut out = [0; 204];
+        for failure in [case.value.write(&mut writer), case.value.write(&mut out[..case.at])] {
+            assert_eq!(texts(&failure.expect_err("it is full")), (NO_ROOM.into(), Some(NO_ROOM.into())));
+        }
+        for written in [&out[..case.at], &writer.bytes] {
+            assert_eq!(written, &case.encoding[..case.at]);
+        }
+    });
 }
 
-#[cfg(not(feature = "std"))]
+/// `Debug` and `source`. `Display` has no width and no precision, but that of `no_std_io` does, as upstream.
 #[test]
-fn debug_without_std() {
-    let of = |bytes: &[u8]| format!("{:?}", Multihash::<3>::from_bytes(bytes).expect_err("an end"));
-    let end = "Io(Error { kind: UnexpectedEof, error: \"failed to fill whole buffer\" })";
-    assert_eq!(of(b"\x12\x01"), format!("Error {{ kind: {end} }}"));
-    assert_eq!(of(b"\x12"), "Error { kind: Varint(Insufficient) }");
-    let cut = Multihash::<3>::from_bytes(b"\x12\x01").expect_err("an end");
-    let shown = (format!("{cut:9.6}"), format!("{:9.6}", cut.source().expect("its source")));
-    assert_eq!(shown, (UNEXPECTED_EOF.into(), "failed   ".into()));
+fn shown() {
+    let of = |bytes: &[u8]| Multihash::<4>::from_bytes(bytes).expect_err("no multihash");
+    for (bytes, shown) in [
+        (&b"\x12\x05abcde"[..], "InvalidSize(5)"),
+        (b"\x92\x00\x00", "Varint(NotMinimal)"),
+        (&[0xff; 12], "Varint(Overflow)"),
+        (b"\x12", if HAS_STD { "Io(Kind(UnexpectedEof))" } else { "Varint(Insufficient)" }),
+    ] {
+        let error = of(bytes);
+        assert_eq!(format!("{error:?}"), format!("Error {{ kind: {shown} }}"));
+        assert_eq!(error.source().is_some(), shown.starts_with("Io"));
+    }
+    let cut = of(b"\x12\x03ab");
+    assert_eq!(format!("{cut:99.9}"), UNEXPECTED_EOF);
+    let source = cut.source().and_then(|it| it.downcast_ref::<io::Error>()).expect("its source");
+    #[cfg(feature = "std")]
+    assert_eq!(source.kind(), io::ErrorKind::UnexpectedEof);
+    #[cfg(not(feature = "std"))]
+    {
+        assert_eq!(format!("{source:9.6}"), "failed   ");
+        assert_eq!(format!("{source:?}"), format!("Error {{ kind: UnexpectedEof, error: {UNEXPECTED_EOF:?} }}"));
+    }
 }
