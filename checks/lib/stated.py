@@ -15,7 +15,7 @@ README, RULES = "README.md", verdicts.RULES
 STATED = (
     (r"Rust (\d[\d.]*\d)", f"{RUST}/Cargo.toml", r'rust-version = "(.*)"'),
     (r"CMake (\d[\d.]*\d)", "CMakeLists.txt", r"cmake_minimum_required\(VERSION (.*)\)"),
-    (r"CPython (\d\.\d+)\b(?! on)", "bindings/python/pyproject.toml", r'requires-python = ">=(.*)"'),
+    (r"(?<!In )CPython (\d\.\d+)", "bindings/python/pyproject.toml", r'requires-python = ">=(.*)"'),
     (r"Node\.js (\d+\.\d+)", "bindings/js/package.json", r'"node": ">=(.*)"'),
     (r"`multihash` (\d[\d.]*\d)", f"{RUST}/Cargo.toml", r'\nversion = "(.*)"'),
     (r"`(rattle-kit-[^`]*)`", "tools/makers", r"(?m)^kit=(.*)"),
