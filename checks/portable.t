@@ -7,7 +7,6 @@ require cc
 # shellcheck source=checks/lib/c.sh
 . checks/lib/c.sh
 tree=$work/tree
-ulimit -c 0
 
 # The two files have the same bytes each time, and compile to the object of the repository's files.
 two_files() {

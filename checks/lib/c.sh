@@ -6,6 +6,7 @@ warnings=(-Wall -Wextra -Wpedantic -Wconversion -Wsign-conversion -Wshadow -Wcas
 c_flags=(-std=c11 "${warnings[@]}" -Wstrict-prototypes -Wmissing-prototypes)
 heap=(-g -O1 -DHEAP)
 sanitize=("${heap[@]}" "-fsanitize=address,undefined" -fno-sanitize-recover=all)
+ulimit -c 0
 top=$PWD
 c=$top/bindings/c
 tests=("$c"/tests/{test,verdicts,models,draws,buffer}.c)

@@ -11,7 +11,6 @@ expected=$top/crates/mh_show/stdout
 include=include document=share/doc/multihash_c man=share/man
 umask 022
 unset "${!CMAKE_@}"
-ulimit -c 0
 
 # Builds in a folder of that name, with options of CMake. All tests pass, of both libraries.
 build() {

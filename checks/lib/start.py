@@ -24,35 +24,34 @@ SOURCE = f'[source.crates-io]\\nreplace-with = "here"\\n[source.here]\\ndirector
 
 
 class Language(NamedTuple):
-    """What programs need, and those of the language's page besides, in the forms of is_there.sh; and what comes before
-    each command in a folder, of which the first makes it a project."""
+    """What programs need, in the forms of is_there.sh; what comes before each command in a folder, of which the first
+    makes it a project; and what the programs of the language's page need besides."""
 
     needs: str
-    more: str
     before: str
+    more: str = ""
 
 
 LANGUAGES = {
-    "JavaScript": Language("node=20.16+ npm", "", "export npm_config_cache=$PWD/npm npm_config_offline=true"),
+    "JavaScript": Language("node=20.16+ npm", "export npm_config_cache=$PWD/npm npm_config_offline=true"),
     "Python": Language(
         "cc /usr/include/python3*/Python.h python:ensurepip python:setuptools python:wheel",
-        "",
         "[ -d venv ] || /usr/bin/python3 -m venv --system-site-packages venv; "
         "export PATH=$PWD/venv/bin:/usr/bin:/bin PIP_NO_INDEX=1 PIP_NO_BUILD_ISOLATION=0",
     ),
     "Rust": Language(
         f"cargo rustc={OLDEST}+",
-        f"{REGISTRY}/sha2-0.10* {REGISTRY}/data-encoding-2*",
         f"[ -d cargo ] || {{ mkdir cargo; [ ! -d {REGISTRY} ] || printf '{SOURCE}' > cargo/config.toml; "
         "cargo init --quiet --name app; }; export CARGO_HOME=$PWD/cargo CARGO_NET_OFFLINE=true",
+        f"{REGISTRY}/sha2-0.10* {REGISTRY}/data-encoding-2*",
     ),
     # the shell does not read blanks that pkg-config escapes, so the root is named from the folder
     "C": Language(
         "cc cmake pkg-config",
-        "/usr/include/openssl/evp.h",
         "export DESTDIR=$PWD/root PKG_CONFIG_{PATH=$PWD/root/usr/local/lib/pkgconfig,SYSROOT_DIR=root}",
+        "/usr/include/openssl/evp.h",
     ),
-    "Rattle": Language("rt", "", "true"),
+    "Rattle": Language("rt", "true"),
 }
 
 
