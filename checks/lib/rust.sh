@@ -3,8 +3,10 @@
 # shellcheck disable=SC2034,SC2154 # what others use, or have set
 package=bindings/rust/multihash
 crates="/usr/share/cargo/registry/serde_json-1.*"
-cargo="cargo rustc=$(sed -n 's/^rust-version = "\(.*\)"/\1/p' $package/Cargo.toml)+ $crates"
-bare="$cargo rustc=$(sed -n 's/.* or \(1\.[0-9]*\) without .*/\1/p' $package/README.md)+" # without std
+# the version of Rust that a line of the manifest states
+oldest() { sed -n "s/^$1 = \"\(.*\)\"/\1/p" $package/Cargo.toml; }
+cargo="cargo rustc=$(oldest rust-version)+ $crates"
+bare="$cargo rustc=$(oldest rust-version-without-std)+"
 
 # Runs a command of Cargo for the package; what is set comes first.
 in_crate() {
