@@ -1,5 +1,5 @@
 #!/usr/bin/env python3
-"""Plants bugs in copies of the crates, and checks that their tests fail, and no others.
+"""Plants bugs in copies of the crates, and checks that their tests fail.
 
 They are in bugs.edits, each with what has to see it:
 
@@ -59,12 +59,14 @@ def plant(folder: Path, bugs: list[Bug]) -> None:
 
 
 def error_of(bugs: list[Bug], log: str) -> str:
-    """Compares the tests that failed, and what they print, with those that see bugs."""
-    wanted = dict(test.partition("=")[::2] for bug in bugs for test in bug.seen_by)
-    shown = re.findall(r"(?m)^test (\S+) \.\.\. FAILED\n((?: .*\n)*)", log)
-    failed = [name if wanted.get(name, "") in text else f"{name} prints {text}" for name, text in shown]
-    is_so = sorted(failed) == sorted(wanted) and "no-answer" not in log
-    return "" if is_so else f"{sorted({*failed} ^ {*wanted})}\n{log[-900:]}"
+    """Returns the tests that have to see bugs and did not fail, or did not print the text."""
+    shown = dict(re.findall(r"(?m)^test (\S+) \.\.\. FAILED\n((?: .*\n)*)", log))
+    unseen = []
+    for test in (test for bug in bugs for test in bug.seen_by):
+        name, _, text = test.partition("=")
+        if name not in shown or text not in shown[name]:
+            unseen.append(test)
+    return f"not seen by {unseen}\n{log[-900:]}" if unseen or "no-answer" in log else ""
 
 
 def run_tests(crate: str, bugs: list[Bug]) -> str:
@@ -85,8 +87,7 @@ def results() -> Iterator[tap.Result]:
     seen = "test a ... FAILED\ntest b ... FAILED\n  (8, 9)\n"
     for what, log, text in (
         ("a bug that a test does not see", seen.replace("a ... FAILED", "a ... ok"), "'a'"),
-        ("another text", seen.replace("8", "9"), "b prints"),
-        ("a test that sees no bug", f"{seen}test c ... FAILED\n", "'c'"),
+        ("another text", seen.replace("8", "9"), "'b=(8,'"),
         ("a test that ends with no result", f"{seen} no-answer\n", "no-answer"),
     ):
         yield tap.planted(what, [error_of(bugs, log)], text)
