@@ -2,6 +2,7 @@
 //! wrong, and the macros call `expect` on that in the test. A check is proved once, while `assert!` is proved
 //! at each call. Each borrow of a local and each branch makes the proof of a test longer: so a note is a
 //! value and no formatted text, and `expect_ok!` replaces `?`.
+ghost use Rattle.std.specs.Prelude.{IsSome};
 ghost use Rattle.multihash.specs.Fault.{IsOwnFault};
 
 use multihash::{Error, no_std_io};
@@ -124,8 +125,10 @@ impl ErrorKind {
     /// The error of this crate's writers.
     pub const DISK_GONE: ErrorKind = ErrorKind::Other("disk gone");
 
-    /// The kind of an error: the first test that applies.
-    pub fn of(e: &Error) -> Option<Self> {
+    /// The kind of an error: the first test that applies. The proof needs that one does.
+    pub fn of(e: &Error) -> Option<Self>
+        ensures { IsSome result }
+    {
         if let Some(error) = e.io() {
             return ErrorKind::of_io(error);
         }
@@ -149,7 +152,9 @@ impl ErrorKind {
     }
 
     /// The kind of a reader's or a writer's error.
-    pub fn of_io(e: &no_std_io::Error) -> Option<Self> {
+    pub fn of_io(e: &no_std_io::Error) -> Option<Self>
+        ensures { IsSome result }
+    {
         if e.is_unexpected_eof() {
             Some(ErrorKind::UnexpectedEof)
         } else if e.is_write_zero() {
