@@ -57,6 +57,8 @@ pub extern "C" fn multihash_from_bytes(bytes: &[u8]) -> Decoded
     if is_short(bytes) {
         return decode_whole(bytes, bytes.len());
     }
+    // The compiler cannot see that `longer` changes nothing: so the registers that later calls need are saved
+    // only for an input that is not short.
     let bytes = longer(bytes);
     decode_whole(bytes, bytes.len())
 }
@@ -152,8 +154,7 @@ fn is_short(bytes: &[u8]) -> bool {
     bytes.len() >= 2 && bytes[0] < 128 && bytes[1] < 128
 }
 
-// Returns the bytes of an input that is not short, unchanged. The compiler cannot see that: so the registers
-// that later calls need are saved only for such an input.
+// Returns the bytes of an input that is not short, unchanged: `multihash_from_bytes` says why.
 #[cold]
 #[inline(never)]
 fn longer(bytes: &[u8]) -> &[u8]
