@@ -31,6 +31,7 @@ tries "ok 1 - a\n1..1\nstatus 0" "try a prints b echo abc"
 tries "not ok 1 - a\n1..1\nstatus 1" "try a prints b sh -c 'echo abc; exit 1'"
 tries "not ok 1 - a\n1..1\nstatus 1" "d() { rejects_edits .ci cmp .ci/run \"\$work/planted/run\"; }
   try a d <<< \$'differ|rm run; echo > run\ndiffer|:'"
+tries "not ok 1 - a\n1..1\nstatus 1" "d() { rejects_edits .ci sh -c 'cat; echo a; false'; }; try a d <<< \$'a|cat\nb|:'"
 # what fails in the middle, where bash by itself goes on
 # shellcheck disable=SC2016 # the check expands it
 while read -r text; do

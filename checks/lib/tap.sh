@@ -73,14 +73,14 @@ ends() {
 }
 
 # Each line of the standard input, 'TEXT|EDIT', is a shell command in a copy of a folder, "$work/planted", after which a
-# command has to fail and print the text.
+# command has to fail and print the text. Neither reads the other lines.
 rejects_edits() {
   local text edit
   while IFS='|' read -r text edit; do
     rm -rf "$work/planted"
     cp -a "$1" "$work/planted"
-    (cd "$work/planted"; eval "$edit")
-    rejects "$text" "${@:2}"
+    (cd "$work/planted"; eval "$edit") < /dev/null
+    rejects "$text" "${@:2}" < /dev/null
   done
 }
 
