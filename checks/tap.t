@@ -58,7 +58,7 @@ ok|s/1/4/,# s/2/5/,s/^1//|true|grep 1 "$1/it"
 red|# none|true|grep 1 "$1/it"
 red|s/1/4/|true|false
 red|s/1/4/|false|grep 1 "$1/it"
-red\nlist:2: not seen: s/2/5/|s/1/4/,s/2/5/|true|grep 1 "$1/it"
+red\nlist:2: not seen: /2/s//5/|s/1/4/,/2/s//5/|true|grep 1 "$1/it"
 red\nlist:1: no file has what it edits: s/3/5/|s/3/5/,s/1/4/|true|grep 1 "$1/it"
 red\nlist:1: not built: s/1/3/|s/1/3/,s/1/4/|sed -n /3/q1 "$1/it"|grep 1 "$1/it"
 END
@@ -83,6 +83,11 @@ report "ok 1 - planted: a\n1..1\nstatus 0" 'tap.planted("a", ["why"], "w", "y")'
 report "ok 1 - a # SKIP no why\nok 2 - b\n1..2\nstatus 0" \
   'tap.left_out("a", tap.missing(["sh", "why", "cpu:fpu"])), ("b", "")'
 report "not ok 1 - a # SKIP no sh\n#   what it needs is there\n1..1\nstatus 1" 'tap.left_out("a", ["sh"])'
+
+expect False "mkdir -p crates/none/out; touch crates/none/out/none
+  python3 -c 'import os, tap; print(os.path.exists(tap.program(\"none\")))'"
+expect "['a', 'b']" "printf 'parts\na\tb\n' > rows
+  python3 -c 'import edits, pathlib; print(*edits.rows(pathlib.Path(\"rows\")))'"
 
 # Runs .ci/run over a check, a text, after another text, and prints its status.
 ran() {
@@ -109,7 +114,7 @@ expect 0 "ran '[ \"\$ALL\" ] && echo ok 1' '' --all"
 expect 2 "ran 'echo ok 1' 'rm checks/rules.yml'"
 expect 2 "ran 'echo ok 1' 'echo \"  - checks/NAME.t\" >> checks/rules.yml'"
 expect "2\n.ci/run\n.ci/run --all" "ran '' '' --wrong; (cd checks; ../.ci/run --wrong) 2>&1 | sed 's/  .*//'"
-expect 0 "ran '[ \"\${BUILT-}\" ] || echo ok 1' 'export BUILT=\"rt ci\"'"
+expect 0 "ran '[ \"\${BUILT-}\${ONLY-}\" ] || echo ok 1' 'export BUILT=\"rt ci\" ONLY=b'"
 # shellcheck disable=SC2016 # the check expands it
 expect 0 "ran 'case \$0:\${BUILT-} in *rt.t: | *lint.t:rt?ci) echo ok 1 ;; esac' 'cp checks/rt.t checks/lint.t'"
 expect "all checks need rt=99+: see docs/ARCHITECTURE.md#tools\n2" \
