@@ -62,6 +62,7 @@ export MYPY_CACHE_DIR=$work/mypy
 # Tries a linter, a command with options, over scripts, and over a planted script, which it has to reject with a text.
 try_linter() {
   local linter=$1 planted=$work/$2 text=$3
+  mkdir -p "${planted%/*}"
   printf '%b\n' "$4" > "$planted"
   # shellcheck disable=SC2086
   try "${linter%% *}" $linter "${@:5}"
@@ -74,7 +75,7 @@ try_linter() {
   try "each script is in a list" are_known
   try "what scripts do after a failure" diff /dev/null <(comm -23 <(echo "$shell") \
     <(printf '%s\n' $ending $others | sort -u))
-  try_linter short long.js "long.js:1" "$(printf '%121s' .)" $shell $python $javascript
+  try_linter short bindings/js/long.js "long.js:1" "$(printf '%121s' .)" $shell $python $javascript
   try_linter are_run unused.sh "unused is not run" "# unused\nunused() { true; }" $shell
   try_linter chains chain.bash chain.bash:3 'set -e\nf() {\n  false && true\n  true\n}' $ending
   needs=shellcheck try_linter "shellcheck -x -o check-set-e-suppressed" cd.sh SC2310 \
