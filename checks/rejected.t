@@ -107,6 +107,8 @@ def shown() -> Iterator[tuple[str, str, str]]:
 
 def results(folder: str) -> Iterator[tap.Result]:
     yield tap.planted("an end of a line", [error_of("digest -", "digest -\n")], "it writes")
+    columns = {f"wrong results, column {column}" for columns in CALLS.values() for column in columns}
+    yield "each column is tried", ", ".join(sorted(columns - {name for name, *_ in lists()}))
     vectors, mh_show = tap.program("vectors"), tap.program("mh_show")
     for name, lines, wanted in lists():
         Path(folder, "verdicts.tsv").write_text("".join(f"{line}\n" for line in lines).replace("|", "\t"), "utf-8")
