@@ -19,6 +19,8 @@ sys.path.append(str(LIB))
 import tap
 
 FAILED = 'error: "an allocation failed"'
+# what a test prints whose allocation failed, and what one prints that passed, with the status
+FORMS = (rf"(.*\n)?{re.escape(FAILED)}\n(.*\n)?101", r"(.*\n)?test result: ok\n(.*\n)?0")
 # how many allocations each test makes
 TESTS = {
     "allocating_forms_at_each_size": 26,
@@ -99,6 +101,8 @@ def results(work: Path) -> Iterator[tap.Result]:
         source = f"#include <stdlib.h>\nint main(void) {{ {text} }}\n"
         error = counted.error_of([str(counted.build(source, "planted"))], number, "1", "0")
         yield tap.planted(f"{number}: {text}", [error], found)
+    for printed, form in zip((f"{FAILED}\n0", "test result: ok\n101"), FORMS):
+        yield tap.planted(f"another status: {printed}", [] if re.fullmatch(form, printed, re.S) else ["it differs"])
     program = tap.program("tests_callers", "test")
     listed = subprocess.run([program, "--list"], stdout=subprocess.PIPE, text=True).stdout
     tests = {path.rpartition("::")[2]: path for path in re.findall(r"(?m)^(\S+): test$", listed)}
@@ -106,8 +110,7 @@ def results(work: Path) -> Iterator[tap.Result]:
     changed = {*tests, "allocating_more"} - {"allocating_push"}
     yield tap.planted("other tests", [others(changed)], "allocating_more", "allocating_push")
     for name, number in TESTS.items():
-        failed, passed = rf"(.*\n)?{re.escape(FAILED)}\n(.*\n)?101", r"(.*\n)?test result: ok\n(.*\n)?0"
-        yield name, counted.error_of([program, tests.get(name, "")], number, failed, passed)
+        yield name, counted.error_of([program, tests.get(name, "")], number, *FORMS)
     show = tap.program("mh_show")
     for text, (number, printed) in SHOWN.items():
         stdin = {"example": tap.CRATES / "mh_show/stdin", "a folder": Path("/")}.get(text, work / "input")
