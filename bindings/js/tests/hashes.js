@@ -2,6 +2,24 @@
 import * as found from '../hashes.js';
 import { hex, same, told, unhex } from './check.js';
 
+/** As many bytes of a digest are read, whichever of them differs. */
+export async function time(module) {
+  const abc = new TextEncoder().encode('abc');
+  const multihash = await found.sha256.digest(abc);
+  const counts = [0, 31].map(async (differing) => {
+    let count = 0;
+    const get = (bytes, name) => {
+      count += /^\d+$/.test(String(name));
+      return bytes[name];
+    };
+    const digest = new Proxy(multihash.digest.map((byte, at) => (at === differing ? byte ^ 1 : byte)), { get });
+    same(await found.verify(Object.assign(module.Multihash.of(0x12, abc), { digest }), abc), false, 'another digest');
+    return count;
+  });
+  same(await counts[0], await counts[1], 'bytes that are read');
+  same((await counts[0]) >= 32, true, 'all bytes are read');
+}
+
 /** Each function has the code and name of a row, and its digest. */
 export async function hashes(module, _, text) {
   const { CODES, NAMES, verify, ...functions } = found;
