@@ -126,10 +126,10 @@ demo() {
   example=$(cat "$top/crates/mh_show/stdin")
   bytes=$(printf '07%.0s' {1..301})
   sed "s|^|$demo_page#|; s/|/\t/g" << END | shows "$1"
-$example|Valid: code 22, digest of 32 bytes.
+$example|Valid: code 22, digest of 32 bytes.|3 to 34|~ #input[aria-invalid=false]|~ .digest [title='Byte 34']
 ${example}00|1 byte follows the multihash.|Byte 35 of 35: 00|The first 34 bytes are a multihash.
 ${example}0000|2 bytes follow|invalid_size: Invalid multihash size 2.
-16|The input ends inside or before a varint.|at least 1 byte.
+16|The input ends inside or before a varint.|at least 1 byte.|~ #input[aria-invalid=true]
 80|No byte: the input ends after 1 byte, and more input can change the result.
 7f80|a varint that is not complete
 1620ab|The input ends inside the digest.|Still needed: 31 bytes.
