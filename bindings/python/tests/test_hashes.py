@@ -4,6 +4,7 @@ import hashlib
 import os
 import unittest
 from pathlib import Path
+from unittest.mock import patch
 
 from verified_multihash import Multihash, MultihashError, hashes
 
@@ -42,6 +43,12 @@ class Hashes(unittest.TestCase):
         self.assertFalse(hashes.verify(Multihash(0x11, right), b"abc"))
         self.assertTrue(all(hashes.verify(bytes.fromhex(text), data) for text, data in THEIRS.items()))
         self.assertFalse(hashes.verify(Multihash(0, b"abc"), bytes(300)))
+
+    def test_time(self):
+        """The function that compares digests takes as long whichever bytes differ."""
+        with patch("hmac.compare_digest", return_value="its result") as compared:
+            self.assertEqual(hashes.verify(Multihash(0, b"abc"), b"abd"), "its result")
+        compared.assert_called_once_with(b"abc", b"abd")
 
     def test_errors(self):
         for code in (0x1E, 1, 0xB200, 0xB241 + 32):
