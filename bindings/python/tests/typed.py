@@ -9,14 +9,18 @@ from typing_extensions import assert_type
 from verified_multihash import Multihash, Status, hashes
 
 DATA = b"\x12\0"
+ARRAY = array("B", DATA)  # a buffer that mypy does not take for bytes
 multihash = vm.decode(DATA)
 assert_type(multihash, Multihash)
 assert_type(vm.decode(memoryview(DATA)), Multihash)
+assert_type((vm.decode(ARRAY), vm.read(ARRAY), vm.head(ARRAY)), Tuple[Multihash, Tuple[Multihash, int], vm.Head])
+assert_type((vm.scale_decode(ARRAY), vm.encode(18, ARRAY)), Tuple[Tuple[Multihash, int], bytes])
+assert_type((vm.scale_encode(18, ARRAY), Multihash(18, ARRAY)), Tuple[bytes, Multihash])
+assert_type((hashes.digest(ARRAY, "sha2-256"), hashes.verify(ARRAY, ARRAY)), Tuple[Multihash, bool])
 vm.decode("1200")  # type: ignore[arg-type]
 assert_type(vm.read(bytearray(DATA), limit=64), Tuple[Multihash, int])
 vm.read("1200")  # type: ignore[arg-type]
 vm.read(DATA, "64")  # type: ignore[arg-type]
-assert_type(vm.head(array("B", DATA)), vm.Head)
 assert_type((vm.head(DATA).code, vm.head(DATA).digest_length, vm.head(DATA).length), Tuple[int, int, int])
 vm.head([18, 0])  # type: ignore[arg-type]
 assert_type(vm.encode(18, DATA), bytes)
