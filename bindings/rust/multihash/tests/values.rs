@@ -29,12 +29,15 @@ const fn code_and_size(it: &Value) -> (u64, u8) {
 }
 
 fn is_value<T: Copy + Default + Eq + Ord + Hash + std::fmt::Debug + Send + Sync + Unpin>() {}
+fn is_plain<T: Clone + Eq + std::fmt::Debug + Send + Sync + Unpin>() {}
 fn is_converted<From: Into<To>, To>() {}
 
 #[test]
 fn implemented() {
     is_value::<Value>();
     is_value::<proved::Multihash<64>>();
+    is_plain::<Head>();
+    is_plain::<multihash::rattle::Vec<u8>>();
     is_converted::<Value, Vec<u8>>();
     is_converted::<Value, proved::Multihash<64>>();
     is_converted::<proved::Multihash<64>, Value>();
