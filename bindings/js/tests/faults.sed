@@ -65,6 +65,7 @@ s/0x13, 'SHA-512'/0x13, 'SHA-384'/
 s/code in algorithms/code >= 0/
 s/^  checkedLength(bytes);$//
 s/digest.length ^ \w*.length/0/
+s/index < wanted.length/& \&\& difference === 0/
 s/0; \(\w*\) < \(\w*\.length; \w*++) \w* |=\)/0; \1 + 1 < \2/
 s/typeof WebAssembly !== 'object'/false/
 s/typeof BigInt !== 'function'/false/

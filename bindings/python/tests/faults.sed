@@ -72,6 +72,7 @@ s/\(int(\w*) \/\/ \)4/\18/
 s/"sha2-224": 0x1013/"sha2-224": 0x1012/
 s/name not in CODES/name is None/
 s/code not in NAMES/code < 0/
+s/hmac.compare_digest(\(\w*.digest\), \(_hashed(.*)\))$/\1 == \2/
 s/compare_digest(\(\w*\.digest\), \(_hashed(.*)\))$/compare_digest(\1[:9], \2[:9])/
 s/, text) :/, text) + 1 :/
 s/return 1$/return 2/
