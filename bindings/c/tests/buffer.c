@@ -5,10 +5,12 @@
 #endif
 #include "check.h"
 
-#if defined(__linux__) && !defined(HEAP)
+#if defined(__linux__)
 #include <sys/mman.h>
 #include <unistd.h>
+#endif
 
+#if defined(__linux__) && !defined(HEAP)
 /* How many buffers can be there at once, and the pages of each, between two that cannot be accessed. */
 #define BUFFERS 4
 #define PAGES 2
@@ -60,4 +62,17 @@ uint8_t *copy_of(const uint8_t *bytes, size_t length)
     uint8_t *copy = buffer(length);
     if (length > 0) memcpy(copy, bytes, length);
     return copy;
+}
+
+/* Zeros, with memory only where they are accessed. Null where no buffer can have that length, or none is known. */
+uint8_t *sparse(uint64_t length)
+{
+#if defined(__linux__) && SIZE_MAX > UINT32_MAX
+    void *bytes = mmap(NULL, length, PROT_READ | PROT_WRITE, MAP_PRIVATE | MAP_ANONYMOUS | MAP_NORESERVE, -1, 0);
+    CHECK(bytes != MAP_FAILED);
+    return (uint8_t *)bytes;
+#else
+    (void)length;
+    return NULL;
+#endif
 }

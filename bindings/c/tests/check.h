@@ -23,6 +23,7 @@ typedef multihash_encoded (*encoder)(uint64_t, const uint8_t *, size_t, uint8_t 
 uint8_t *buffer(size_t length);
 uint8_t *copy_of(const uint8_t *bytes, size_t length);
 void release(uint8_t *bytes);
+uint8_t *sparse(uint64_t length);
 
 /* models.c */
 void check_decodings(const uint8_t *bytes, size_t length, size_t limit);

@@ -53,6 +53,24 @@ static void check_lengths(void)
     check_encodings(0, (const uint8_t *)"", SIZE_MAX, 9); /* rejected without an access */
 }
 
+/* Buffers of more than 2^32 bytes, of which few are accessed. */
+static void check_large(void)
+{
+    static const uint8_t digest[] = {7};
+    uint64_t length = ((uint64_t)1 << 32) + 300;
+    size_t room = (size_t)length;
+    uint8_t *bytes = sparse(length);
+    if (bytes == NULL) return;
+    CHECK(multihash_scale_encode(18, digest, sizeof digest, bytes, room).length == 10);
+    check_decodings(bytes, room, MULTIHASH_DIGEST_MAX);
+    CHECK(multihash_encode(18, digest, sizeof digest, bytes, room).length == 3);
+    check_decodings(bytes, room, MULTIHASH_DIGEST_MAX);
+    CHECK(multihash_put_status_text(MULTIHASH_OK, bytes + 3, room - 3).length == 2);
+    /* the first bytes differ */
+    CHECK(multihash_compare(18, bytes, room - 1, 18, bytes + 1, room - 1) == 1);
+    CHECK(multihash_compare(18, bytes + 1, room - 1, 18, bytes, room - 1) == -1);
+}
+
 static void check_texts(void)
 {
     for (size_t room = 0; room <= 40; room++) {
@@ -92,6 +110,7 @@ static const struct {
     {"cuts", check_cuts},
     {"capacities", check_capacities},
     {"lengths", check_lengths},
+    {"large", check_large},
     {"texts", check_texts},
     {"version", check_version},
     {"vectors", check_vectors},
