@@ -39,6 +39,15 @@ freestanding() {
   done
 }
 
+# For a compiler that is neither GCC nor Clang the source has no name that only these know: with empty headers in place
+# of the C library's, no name that begins with two underscores.
+has_no_extensions() {
+  mkdir -p "$work/empty"
+  touch "$work/empty"/{stdlib,string}.h
+  clang --target=x86_64-pc-windows-msvc -nostdlibinc -I "$work/empty" -E -P "$1/multihash.c" > "$work/preprocessed"
+  tr -c '[:alnum:]_' '\n' < "$work/preprocessed" | sed -n '/^__/p' | sort -u | diff /dev/null -
+}
+
 # An object with each kind of state, and one that needs another function.
 planted_state() {
   local name state
@@ -73,6 +82,10 @@ try "cc, sanitizers" passes "$tree" cc-sanitizers "" cc "${sanitize[@]}"
 needs="--all clang" try clang passes "$tree" clang "" clang -O2
 needs="--all clang $clang_runtime" try "clang, sanitizers" passes "$tree" clang-san "" clang "${sanitize[@]}"
 needs="clang llvm-nm" try "objects without a C library" freestanding
+needs=clang try "other compilers" has_no_extensions "$tree"
+needs=clang try "a name that others do not know" rejects_edits "$tree" has_no_extensions "$work/planted" << 'END'
+> __builtin_clzll|sed -i 's/return zeros - number;/return __builtin_clzll(number);/' multihash.c
+END
 needs="nm objdump" try "what the object needs" keeps_no_state "$work/one.o" abort memcpy memmove
 needs="nm objdump" try "objects with state" planted_state
 try "planted source" planted_source
