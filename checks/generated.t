@@ -12,6 +12,16 @@ prebuilt_archives() {
   tools/generate --check archives | sed 's/^the same.*: //' | sort | diff <(git ls-files bindings/c/prebuilt) -
 }
 
+# What was built in the crate for another use is there afterwards, also if archives differ: here `rt` builds others.
+keeps_built() {
+  local -x PATH=$work/kept:$PATH PROVED=$work/kept STEPS=$work/kept/steps
+  local built=$PROVED/crates/multihash_c/out/libmultihash_c.a
+  install -D /dev/stdin "$built" <<< "built before"
+  install /dev/stdin "$PROVED/rt" <<< $'#!/bin/sh\necho "$*" > out/libmultihash_c.a'
+  rejects "not what tools/generate archives writes" tools/generate --check archives
+  diff "$built" - <<< "built before"
+}
+
 # A copy of the repository in which one byte of the generated file differs, until what was made is written there.
 planted_generated() {
   local -x PROVED=none TMPDIR=$work/left
@@ -59,6 +69,7 @@ has_names() {
 . tools/makers
 tools="wasm2c=$wabt wasm2wat=$wabt wat2wasm=$wabt"
 try "the prebuilt archives" prebuilt_archives
+try "what was built before" keeps_built
 needs=$tools try "the generated file" tools/generate --check source
 needs=$tools try "a wrong byte of it" planted_generated
 needs=$tools try "planted steps" planted_steps
