@@ -6,8 +6,10 @@ crate's constants; c_library.t compiles it as C++ too. A text in no known form i
 checks/lib/header.edits are planted, each of which has to be found as what it is.
 """
 import re
+import shutil
 import subprocess
 import sys
+import tempfile
 from collections.abc import Iterable, Iterator
 from datetime import date
 from pathlib import Path
@@ -84,6 +86,25 @@ def error_of(files: Files) -> str:
     return "\n".join([*binding_errors(files, crate), *header_errors(files[HEADER], crate)])
 
 
+def program_error(number: str, day: str) -> str:
+    """Returns what is wrong with a version of a day that tools/version.py writes, in a copy of its files."""
+    texts = version.read()
+    with tempfile.TemporaryDirectory() as folder:
+        top = Path(folder)
+        for path, text in {**texts, version.CHANGES: version.PENDING + texts[version.CHANGES]}.items():
+            (top / path).parent.mkdir(parents=True, exist_ok=True)
+            (top / path).write_text(text, "utf-8")
+        (top / "tools").mkdir()
+        tool = shutil.copy(version.__file__, top / "tools")
+        commands: list[list[str]] = [[number, day], ["--check"], []]
+        for words in commands:
+            ran = subprocess.run([sys.executable, tool, *words], capture_output=True, text=True)
+            if ran.returncode:
+                return f"{words}: {ran.stderr}"
+        released = f"\n{number} ({day})\n" in (top / version.CHANGES).read_text("utf-8")
+        return "" if released and ran.stdout == number + "\n" else f"not released that day, or not {ran.stdout}"
+
+
 def versions() -> Iterator[tap.Result]:
     """Compares what states the version. Then later ones are written, and each file is planted as it was before."""
     later = version.read()
@@ -92,6 +113,7 @@ def versions() -> Iterator[tap.Result]:
         texts = {**later, version.CHANGES: version.PENDING + later[version.CHANGES]}
         later = version.written(texts, number, day)
         yield f"a later version, {number}", "\n".join(version.errors(later))
+    yield "a version that the program writes", program_error("99.9.0", "2099-01-01")
     for path in later:
         yield tap.planted(f"another version: {path}", version.errors({**later, path: texts[path]}))
 
