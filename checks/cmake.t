@@ -8,7 +8,8 @@ require cc cmake python3 readelf
 . checks/lib/installed.sh
 
 # What a machine gets, by CMake's names and a compiler's options: an archive only on Linux with 64 bits, and a shared
-# library where there are some. For MSVC that exports all, and its .lib is not the static library.
+# library where there are some. For MSVC that exports all, and its .lib is not the static library. A linker of ELF alone
+# reads the map.
 gets() {
   cmake -S . -B "$work/machine.$1-$2$3" -DCMAKE_SYSTEM_NAME="$1" -DCMAKE_SYSTEM_PROCESSOR="$2" -DCMAKE_C_FLAGS="$3" \
     -DCMAKE_TRY_COMPILE_TARGET_TYPE=STATIC_LIBRARY
@@ -27,6 +28,9 @@ machines() {
   gets FreeBSD x86_64 "" OFF ON
   gets Generic aarch64 "" OFF OFF
   CC=clang gets Windows AMD64 --target=x86_64-pc-windows-msvc OFF ON
+  CC=clang gets Darwin arm64 --target=arm64-apple-macos11 OFF ON
+  grep -LF -e --version-script= "$work"/machine.*/CMakeFiles/multihash_c_shared.dir/link.txt | sed 's/-.*//; s/.*\.//' |
+    diff <(printf '%s\n' Darwin Windows) -
   grep -rhoE '\w*multihash_c(_shared)?\.lib|exports\.def' "$work"/machine.Windows*/CMakeFiles | sort -u |
     diff <(printf '%s\n' exports.def multihash_c{,_shared}.lib) -
 }
@@ -84,7 +88,21 @@ with_flags() {
   [ ! -e "$work/no pages/$man" ]
 }
 
+# By a generator of several configurations, each of which has a name of the library.
+has_configurations() {
+  local kind
+  cmake -S "$top" -B "$work/several" -G "Ninja Multi-Config" -DMULTIHASH_C_ARCHIVE=OFF -DBUILD_TESTING=OFF \
+    -DCMAKE_DEBUG_POSTFIX=d
+  for kind in Debug Release; do
+    cmake --build "$work/several" --config $kind
+    cmake --install "$work/several" --config $kind --prefix "$work/several.$kind"
+    PKG_CONFIG_PATH=$work/several.$kind/lib/pkgconfig pkg-config --libs-only-l multihash_c >> "$work/names"
+  done
+  paste -sd ' ' "$work/names" | tr -s ' ' | diff <(echo "-lmultihash_cd -lmultihash_c ") -
+}
+
 try "after edits" after_edits
+needs="ninja pkg-config" try "several configurations" has_configurations
 needs=clang try "other machines" machines
 needs=/lib64/ld-linux-x86-64.so.2 try "x86-64 with 32 bits" gets Linux x86_64 -m32 OFF ON
 try "flags of a distribution" with_flags
