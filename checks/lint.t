@@ -57,6 +57,14 @@ states_words() {
   for script in "$@"; do rejects "$script " timeout 90 "$script" --another < /dev/null; done
 }
 
+# tools/install installs npm where there is none, and nowhere else.
+installs_npm() {
+  mkdir "$work/without"
+  install -D /dev/stdin "$work/with/npm" <<< '#!/bin/sh'
+  comm -3 <(PATH=$work/with "$BASH" tools/install --print | sort) \
+    <(PATH=$work/without "$BASH" tools/install --print | sort) | diff - <(printf '\tnpm\n')
+}
+
 export MYPY_CACHE_DIR=$work/mypy
 
 # Tries a linter, a command with options, over scripts, and over a planted script, which it has to reject with a text.
@@ -87,6 +95,7 @@ try_linter() {
   needs=tsc try_linter names unused.js TS6133 "export {};\nconst number = 1;" $javascript
   echo "export {}; missing();" > "$work/missing.js"
   needs=tsc try "names rejects a name that is not there" rejects TS2304 names "$work/missing.js"
+  try "npm" installs_npm
   try_linter states_words usage.sh "without the text" "#!/bin/sh\nusage" $stating
 }
 finish
