@@ -69,6 +69,21 @@ unit_tests() {
   grep '^Ran [1-9]' "$work/tested"
 }
 
+# What a wheel installs beside the package has the licence of the repository, and states it.
+has_licence() {
+  diff LICENSE "$(find "$1" -name LICENSE)"
+  sed -nE 's/^License(-Expression)?: //p' "$1/METADATA" | diff - <(echo MIT)
+}
+licences() {
+  local installed
+  installed=$(echo "$work"/venv/lib/python3*/site-packages/verified_multihash-*.dist-info)
+  has_licence "$installed"
+  rejects_edits "$installed" has_licence "$work/planted" << 'END'
+No such file|find . -name LICENSE -delete
+< Other|sed -i '/^License/s/MIT/Other/' METADATA
+END
+}
+
 # All tests of the wheel. CPython's debug allocator sees a write after a block.
 all_tests() {
   grep -F .whl "$work"/venv/lib/python*/site-packages/verified_multihash-*/direct_url.json
@@ -202,6 +217,7 @@ ONLY='' try "the sdist and the wheel, built twice" builds
 needs="objcopy ar" try "archives" looks_at_archive
 ONLY='' try "an environment" /usr/bin/python3 -m venv --clear --system-site-packages "$work/venv"
 ONLY='' try "the wheel, installed" imports "$work"/dist/*.whl
+try "its licence" licences
 needs="nm" try "no state" keeps_nothing
 try "the tests" all_tests
 try "drawn inputs" drawn
