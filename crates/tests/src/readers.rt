@@ -166,9 +166,12 @@ fn what_is_truncated_is_read_in_parts(rt: HostRuntime) {
     let mut cuts = Cuts::new(&[0, 2, 9], 1);
     expect_rejected!(rt; &Multihash::<2>::read(&mut cuts), ErrorKind::UnexpectedEof, 3);
     check!(rt; cuts.left.is_empty());
-    let mut cuts = Cuts::new(&[1, 2, 3], 2);
-    check!(rt; is_failed(&cuts.read_exact(&mut [0; 4]), ErrorKind::UnexpectedEof));
-    check!(rt; cuts.left.is_empty());
+    let cuts = Cuts::new(&[1, 2, 3], 2);
+    let mut reader = FailAt::new(cuts, 600, ErrorKind::LINK_DOWN);
+    check!(rt; is_failed(&reader.read_exact(&mut [0; 4]), ErrorKind::UnexpectedEof));
+    check!(rt; reader.cuts.left.is_empty());
+    // The call that meets the end is the last.
+    check_eq!(rt; reader.asked, 3);
 }
 
 fn borrowed_read<R: Read>(r: &mut R, buf: &mut [u8]) -> Result<usize, no_std_io::Error> {
