@@ -59,3 +59,10 @@ pub fn verify<const S: usize>(multihash: &Multihash<S>, content: &[u8]) -> Resul
     }
     Ok(multihash.same_as(&hash_of::<32>(content)))
 }
+
+/// Returns whether [`verify`] knows the multihash's hash function.
+pub fn is_known<const S: usize>(multihash: &Multihash<S>) -> bool
+    ensures { IsTrue result ↔ ((pair_of multihash.now).code ≡ 0x12) }
+{
+    verify(multihash, &[]).is_ok()
+}
