@@ -1,5 +1,6 @@
 //! Callers that read a slice or fill one, and whose contracts state its bytes.
-ghost use Rattle.std.specs.Prelude.{◌≡◌, ◌<◌, ℕ, List, ◌++◌, length, drop, Some, IfOk, IfErr, IsErrAnd, MatchOption};
+ghost use Rattle.std.specs.Prelude.{◌≡◌, ◌<◌, ℕ, List, ◌++◌, length, take, drop, false, Some};
+ghost use Rattle.std.specs.Prelude.{IsTrue, IfOk, IfErr, IsErrAnd, MatchOption};
 ghost use Rattle.multihash.specs.Pair.{digest_limit};
 ghost use Rattle.multihash.specs.Encoding.{IsEncoding};
 ghost use Rattle.multihash.specs.Verdict.{Verdict, BeginsWithSize, HasVerdict, IsIncomplete};
@@ -8,7 +9,7 @@ ghost use Rattle.multihash.specs.Consuming.{ConsumesAtError, ConsumesShortestSet
 ghost use Rattle.multihash.specs.Outcome.{IsResultOf};
 ghost use Rattle.multihash.specs.Multihash.{pair_of};
 
-use multihash::no_std_io::SliceWriter;
+use multihash::no_std_io::{Read, SliceWriter};
 use multihash::{Error, Multihash};
 
 /// Returns the result of `read` for a slice, and what it leaves. If the digest is too long for the capacity,
@@ -28,6 +29,15 @@ pub fn read_slice<const S: usize>(stream: &[u8]) -> (Result<Multihash<S>, Error>
     let mut left = stream;
     let outcome = Multihash::read(&mut left);
     (outcome, left)
+}
+
+/// Fills the buffer with the first bytes. Returns whether there are as many; if not, the buffer is unchanged.
+pub fn fill(bytes: &[u8], buffer: &mut [u8]) -> bool
+    ensures filled { IsTrue result → buffer.new ≡ take (length buffer.old) bytes.now }
+    ensures unchanged { result ≡ false → buffer.new ≡ buffer.old }
+{
+    let mut left = bytes;
+    left.read_exact(buffer).is_ok()
 }
 
 /// Writes the encoding to the front of `buffer` and returns its length; none if it does not fit, and then the

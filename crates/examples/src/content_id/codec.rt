@@ -1,8 +1,9 @@
 //! The kind of content that an identifier names.
-ghost use Rattle.std.specs.Prelude.{◌≡◌, ◌<◌, ◌≤◌, MatchOption};
-ghost use Rattle.multihash.specs.Varint.{varint_limit};
+ghost use Rattle.std.specs.Prelude.{◌≡◌, ◌<◌, ◌≤◌, ℕ, List, length, IfOk, IfErr, MatchOption};
+ghost use Rattle.multihash.specs.Varint.{IsVarint, varint_limit};
+ghost use Rattle.multihash.specs.Refusal.{IsInvalidCode};
 
-use multihash::varint;
+use multihash::{Error, varint};
 
 /// A codec, by its number in the multicodec table: 0x55 for raw bytes, 0x70 for dag-pb, 0x0129 for dag-json.
 /// It has a varint, so it is below 2^63.
@@ -22,5 +23,17 @@ impl Codec {
         } else {
             Some(Codec { number })
         }
+    }
+
+    /// The number of bytes that a codec's number has in an identifier.
+    ///
+    /// # Errors
+    ///
+    /// [`Error::invalid_code`] with the number if it is 2^63 or more.
+    pub fn len(number: u64) -> Result<usize, Error>
+        ensures ok { IfOk result (λ len. (bytes : List ℕ) × IsVarint number bytes × (len ≡ length bytes)) }
+        ensures err { IfErr result (IsInvalidCode number) }
+    {
+        varint::len(number)
     }
 }
