@@ -4,11 +4,8 @@
 . "$(dirname "$0")/lib/tap.sh"
 # shellcheck source=checks/lib/packages.sh
 . checks/lib/packages.sh
-upstream=$(sed -n 's/^version = "\(.*\)"/\1/p' bindings/rust/multihash/Cargo.toml)
 oldest=$(sed -n 's/^rust-version = "\(.*\)"/\1/p' bindings/rust/multihash/Cargo.toml)
 minor=$(sed -n 's/^requires-python = ">=3\.\(.*\)"/\1/p' bindings/python/pyproject.toml)
-# shellcheck source=tools/makers
-. tools/makers
 emulator=(qemu-aarch64 -L /usr/aarch64-linux-gnu)
 require cc cmake python3=3.11+ readelf pkg-config dpkg-buildpackage dh /lib64/ld-linux-x86-64.so.2 \
   aarch64-linux-gnu-gcc qemu-aarch64 cargo "rustc=$oldest+" npm node=20.16+ /usr/include/python3*/Python.h \
@@ -67,33 +64,6 @@ END
     s,.*(aarch64|arm64)\..*,& from bindings/c/prebuilt/aarch64/libmultihash_c.a,p
     s,(multihash_c.*-source|^verified_multihash-[0-9.]*)\.tar.*,& from bindings/c/src/module.h,p' "$work/files" | sort |
     comm -23 - <(sort "$work/listed") | diff /dev/null -
-}
-
-# In the bill of materials the crate depends on what Cargo lists, and a generated file was made by its tools.
-has_relations() {
-  cargo metadata --no-deps --offline --format-version 1 --manifest-path bindings/rust/multihash/Cargo.toml |
-    python3 -c 'import json, sys
-for each in json.load(sys.stdin)["packages"][0]["dependencies"]:
-    kind = "OPTIONAL_" if each["optional"] else {"dev": "TEST_", "build": "BUILD_"}.get(each["kind"], "")
-    print(each["name"], kind + "DEPENDENCY_OF", sys.argv[1])' "multihash-$upstream.crate" > "$work/wanted"
-  printf '%s BUILD_TOOL_OF %s\n' "$kit" bindings/c/prebuilt/aarch64/libmultihash_c.a "$kit" \
-    bindings/c/prebuilt/x86_64/libmultihash_c.a "$kit" bindings/c/src/module.h "$kit" bindings/js/multihash.wasm \
-    wabt bindings/c/src/module.h binaryen bindings/js/multihash.wasm >> "$work/wanted"
-  python3 - "$1/multihash-$version.spdx.json" << 'END' | sort | diff <(sort "$work/wanted") -
-import json, sys
-bill = json.load(open(sys.argv[1]))
-names = {each["SPDXID"]: each["name"] for each in bill["packages"]}
-for each in bill["relationships"]:
-    left, kind, right = names.get(each["spdxElementId"]), each["relationshipType"], names[each["relatedSpdxElement"]]
-    if kind.endswith("DEPENDENCY_OF") or kind == "BUILD_TOOL_OF" and "/" in right:
-        print(left, kind, right)
-END
-}
-planted_relations() {
-  rejects_edits "$work/release" has_relations "$work/planted" << 'END'
-> serde DEPENDENCY_OF|sed -i s/OPTIONAL_// *.json
-> wabt BUILD_TOOL_OF bindings/js/|sed -i 's/"wabt"/"more"/; s/"binaryen"/"wabt"/' *.json
-END
 }
 
 # A release with an archive of another owner, in another order or that differs, and one whose bill of materials lacks a

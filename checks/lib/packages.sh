@@ -3,6 +3,9 @@
 # shellcheck disable=SC2154,SC2164 # tap.sh has set the work folder, and ends at a failure
 # shellcheck source=checks/lib/installed.sh
 . checks/lib/installed.sh
+# shellcheck source=tools/makers
+. tools/makers
+upstream=$(sed -n 's/^version = "\(.*\)"/\1/p' bindings/rust/multihash/Cargo.toml)
 
 # The packages of a folder for an architecture, unpacked together, have what is installed, the licence, and no more.
 has_packages() {
@@ -89,3 +92,29 @@ modules_need() {
   has_segments "$work/wheel.$1/verified_multihash/_core.abi3.so" "${@:2}"
 }
 
+# In the bill of materials the crate depends on what Cargo lists, and a generated file was made by its tools.
+has_relations() {
+  cargo metadata --no-deps --offline --format-version 1 --manifest-path bindings/rust/multihash/Cargo.toml |
+    python3 -c 'import json, sys
+for each in json.load(sys.stdin)["packages"][0]["dependencies"]:
+    kind = "OPTIONAL_" if each["optional"] else {"dev": "TEST_", "build": "BUILD_"}.get(each["kind"], "")
+    print(each["name"], kind + "DEPENDENCY_OF", sys.argv[1])' "multihash-$upstream.crate" > "$work/wanted"
+  printf '%s BUILD_TOOL_OF %s\n' "$kit" bindings/c/prebuilt/aarch64/libmultihash_c.a "$kit" \
+    bindings/c/prebuilt/x86_64/libmultihash_c.a "$kit" bindings/c/src/module.h "$kit" bindings/js/multihash.wasm \
+    wabt bindings/c/src/module.h binaryen bindings/js/multihash.wasm >> "$work/wanted"
+  python3 - "$1/multihash-$version.spdx.json" << 'END' | sort | diff <(sort "$work/wanted") -
+import json, sys
+bill = json.load(open(sys.argv[1]))
+names = {each["SPDXID"]: each["name"] for each in bill["packages"]}
+for each in bill["relationships"]:
+    left, kind, right = names.get(each["spdxElementId"]), each["relationshipType"], names[each["relatedSpdxElement"]]
+    if kind.endswith("DEPENDENCY_OF") or kind == "BUILD_TOOL_OF" and "/" in right:
+        print(left, kind, right)
+END
+}
+planted_relations() {
+  rejects_edits "$work/release" has_relations "$work/planted" << 'END'
+> serde DEPENDENCY_OF|sed -i s/OPTIONAL_// *.json
+> wabt BUILD_TOOL_OF bindings/js/|sed -i 's/"wabt"/"more"/; s/"binaryen"/"wabt"/' *.json
+END
+}
