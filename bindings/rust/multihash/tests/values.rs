@@ -9,19 +9,19 @@ use std::io::{Empty, Sink};
 
 type Value = Multihash<64>;
 
-// The arguments and results are of no other types.
+// The arguments and results are of no other types, and callers can name the parameters.
 const WRAPPED: Result<Value, Error> = Value::wrap(0x12, b"abc");
 const _: fn(u64, &[u8]) -> Result<Value, Error> = Value::wrap;
 const _: fn(&[u8]) -> Result<Value, Error> = Value::from_bytes;
-const _: fn(Empty) -> Result<Value, Error> = Value::read;
-const _: fn(&Value, Sink) -> Result<usize, Error> = Value::write;
+const _: fn(Empty) -> Result<Value, Error> = Value::read::<Empty>;
+const _: fn(&Value, Sink) -> Result<usize, Error> = Value::write::<Sink>;
 const _: fn(&Value) -> u64 = Value::code;
 const _: fn(&Value) -> u8 = Value::size;
 const _: fn(&Value) -> &[u8] = Value::digest;
 const _: fn(&Value) -> usize = Value::encoded_len;
 const _: fn(&Value) -> Vec<u8> = Value::to_bytes;
 const _: fn(&Value, u8) -> Value = Value::truncate;
-const _: fn(&Value) -> Result<Multihash<32>, Error> = Value::resize;
+const _: fn(&Value) -> Result<Multihash<32>, Error> = Value::resize::<32>;
 const _: fn(Value) -> (u64, [u8; 64], u8) = Value::into_inner;
 
 const fn code_and_size(it: &Value) -> (u64, u8) {
