@@ -12,6 +12,7 @@ s/length = (size_t)field(\w*, 2)/& + 1/
 s/== 0 ? 0/== 1 ? 0/
 s/w2c_multihash_version(.*)/& + 1/
 s/status_text(&\w*, RESULT, \w*/& + 1/
+/^multihash_encoded multihash_put_status_text/,/^}/s/encoded(&call)/(multihash_encoded){MULTIHASH_OK, 0, 0}/
 s/from_prefix(&.*, \w*/& + 1/
 s/read_limit(&.*, \w*/& + 1/
 s/> \w*->limit/> 255/
