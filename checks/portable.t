@@ -73,6 +73,15 @@ not so: same(mul|sed -i '/w2c_multihash_from_bytes(/s/bytes_length)/bytes_length
 END
 }
 
+# Draws alone find a wrong result of the longest heads.
+planted_draws() {
+  mkdir "$work/drawn"
+  sed 's/taken = (size_t)field(.*, 3);/& if (result.taken == MULTIHASH_HEAD_MAX \&\& !result.status) result.code++;/' \
+    "$tree/multihash.c" > "$work/drawn/multihash.c"
+  cc -O1 -I "$tree" "$work/drawn/multihash.c" "${tests[@]}" -o "$work/drawn/tests"
+  rejects "head.code" "$work/drawn/tests" "$list" 1 20000 draws
+}
+
 # The tests on a machine, by a compiler and a command that runs its programs.
 on_machine() { needs="$needs $2-gcc $3" try "$1" passes "$tree" "$1" "$3" "$2-gcc" -O2 -static; }
 
@@ -89,6 +98,7 @@ END
 needs="nm objdump" try "what the object needs" keeps_no_state "$work/one.o" abort memcpy memmove
 needs="nm objdump" try "objects with state" planted_state
 try "planted source" planted_source
+try "planted source, draws" planted_draws
 needs="clang $clang_runtime" try "fuzzing" bindings/c/fuzz.sh
 needs=--all on_machine aarch64 aarch64-linux-gnu qemu-aarch64
 needs=--all on_machine riscv64 riscv64-linux-gnu qemu-riscv64
