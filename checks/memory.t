@@ -102,7 +102,8 @@ def results(work: Path) -> Iterator[tap.Result]:
         error = counted.error_of([str(counted.build(source, "planted"))], number, "1", "0")
         yield tap.planted(f"{number}: {text}", [error], found)
     for printed, form in zip((f"{FAILED}\n0", "test result: ok\n101"), FORMS):
-        yield tap.planted(f"another status: {printed}", [] if re.fullmatch(form, printed, re.S) else ["it differs"])
+        error = "" if re.fullmatch(form, printed, re.S) else "it differs"
+        yield tap.planted(f"another status: {printed}", [error], "it differs")
     program = tap.program("tests_callers", "test")
     listed = subprocess.run([program, "--list"], stdout=subprocess.PIPE, text=True).stdout
     tests = {path.rpartition("::")[2]: path for path in re.findall(r"(?m)^(\S+): test$", listed)}

@@ -26,7 +26,7 @@ def results() -> Iterator[tap.Result]:
         yield tap.planted(f"a link of {page}", pages.link_errors({**texts, page: f"{text}[none](none)\n"}), page)
     for name, path, old, new in edits.rows(LIB / "pages.edits"):
         changed = {**texts, path: texts[path].replace(old, new, 1)}
-        yield tap.planted(f"{name}: {path} > {old} > {new}", CHECKS[name](changed))
+        yield tap.planted(f"{name}: {path} > {old} > {new}", CHECKS[name](changed), "")
 
 
 if __name__ == "__main__":

@@ -78,7 +78,7 @@ report "not ok 1 - a\n#   why\nok 2 - b\n1..2\nstatus 1" '("a", "why"), ("b", ""
 report "ok 1 - a b\n1..1\nstatus 0" '("a#\nb", "")'
 report "1..0\nstatus 1" ""
 report "not ok 1 - planted: a\n#   without []: \nnot ok 2 - planted: b\n#   without ['c']: why\n1..2\nstatus 1" \
-  'tap.planted("a", [""]), tap.planted("b", ["why"], "w", "c")'
+  'tap.planted("a", [""], ""), tap.planted("b", ["why"], "w", "c")'
 report "ok 1 - planted: a\n1..1\nstatus 0" 'tap.planted("a", ["why"], "w", "y")'
 report "ok 1 - a # SKIP no why\nok 2 - b\n1..2\nstatus 0" \
   'tap.left_out("a", tap.missing(["sh", "why", "cpu:fpu"])), ("b", "")'

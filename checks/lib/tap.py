@@ -25,10 +25,10 @@ def report(results: Iterable[Result]) -> int:
     return 1 if failed or not number else 0
 
 
-def planted(what: str, found: Iterable[str], *texts: str) -> Result:
+def planted(what: str, found: Iterable[str], text: str, *texts: str) -> Result:
     """Returns the result of a planted difference: something has to be found, with each of these texts."""
     printed = "\n".join(found)
-    lacking = [text for text in texts if text not in printed]
+    lacking = [each for each in (text, *texts) if each not in printed]
     return f"planted: {what}", "" if printed and not lacking else f"without {lacking}: {printed}"
 
 
