@@ -7,6 +7,7 @@ A link that leads nowhere is planted in each page, and for each comparison a dif
 import sys
 from collections.abc import Iterator
 from pathlib import Path
+from unittest import mock
 
 LIB = Path(__file__).with_name("lib")
 sys.path.append(str(LIB))
@@ -24,6 +25,9 @@ def results() -> Iterator[tap.Result]:
         yield name, "\n".join(check(texts))
     for page, text in pages.pages_of(texts).items():
         yield tap.planted(f"a link of {page}", pages.link_errors({**texts, page: f"{text}[none](none)\n"}), page)
+    # a script, which is no page
+    with mock.patch.object(pages, "read", lambda path: "tools/" + "none" if path == ".ci/run" else ""):
+        yield tap.planted("a path that a script names", pages.path_errors(texts), ".ci/run: there is no tools/")
     for name, path, old, new in edits.rows(LIB / "pages.edits"):
         changed = {**texts, path: texts[path].replace(old, new, 1)}
         yield tap.planted(f"{name}: {path} > {old} > {new}", CHECKS[name](changed), "")
