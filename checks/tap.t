@@ -22,7 +22,10 @@ tries() { expect "$1" "(. checks/lib/tap.sh; $2; finish); echo status \$?"; }
 
 [[ $(expect 1 "echo 2" 2> /dev/null) = "not ok"* ]] || exit 2
 tries "not ok 1 - a\nok 2 - b\n1..2\nstatus 1" "try a false; try b true"
-tries "not ok 1 - a\n# why\n1..1\nstatus 1" "try a sh -c 'echo why >&2; exit 1' 2>&1"
+tries "not ok 1 - a\n# why\n# :1: it failed\n1..1\nstatus 1" "try a sh -c 'echo why >&2; exit 1' 2>&1"
+expect "# one.t:3: it failed\n# planted: :\n# one.t:5: it failed" "printf '%s\n' '. checks/lib/tap.sh' 'a() {' \
+  '  rejects \"\" false; rejects a false' '}; try a a' 'try b rejects_edits .ci true <<< \"a|:\"' > one.t
+  bash one.t 2>&1 | grep -v 'ok\|status'"
 tries "not ok 1 - a\n1..1\nstatus 1" "try a rejects a echo a"
 tries "not ok 1 - a\n1..1\nstatus 1" "try a rejects 'a text' false"
 tries "not ok 1 - a\n1..1\nstatus 1" "try a rejects 'a.b' sh -c 'echo axb; exit 1'"

@@ -39,9 +39,23 @@ list() { sed '/^$/d' | paste -sd, | sed 's/,/, /g'; }
 # Runs a command, what it prints goes to a file, and sets `ended` to its status.
 run() {
   local -
-  set +e
+  set +eE
   (set -e; "${@:2}") > "$1" 2>&1
   ended=$?
+}
+
+# Runs a command, and prints which line of a script fails first: of what this file runs, the line that calls it.
+placed() {
+  trap 'place >&2' ERR
+  set -E
+  "$@"
+}
+place() {
+  local at=0
+  [ "${FUNCNAME[1]}" != run ] || return 0
+  trap - ERR
+  while [[ ${BASH_SOURCE[at]-} = */tap.sh ]]; do at=$((at + 1)); done
+  echo "${BASH_SOURCE[at]-}:${BASH_LINENO[at - 1]}: it failed"
 }
 
 try() {
@@ -54,7 +68,7 @@ try() {
     echo "ok $number - $1 # SKIP no $(list <<< "$lack")"
     return
   fi
-  run "$work/log" "${@:2}"
+  run "$work/log" placed "${@:2}"
   [ "$ended" = 0 ] || result="not ok" failed=1
   echo "$result $number - $1"
   [ "$ended" = 0 ] || sed 's/^/# /' "$work/log" >&2
@@ -80,6 +94,7 @@ rejects_edits() {
     rm -rf "$work/planted"
     cp -a "$1" "$work/planted"
     (cd "$work/planted"; eval "$edit") < /dev/null
+    echo "planted: $edit"
     rejects "$text" "${@:2}" < /dev/null
   done
 }
