@@ -27,8 +27,8 @@ def row_errors(readme: str) -> Iterator[str]:
     found = {program.language for program in start.programs(readme)}
     if found != set(LANGUAGES):
         yield f"only a row, or only a program, is there of {sorted(found ^ set(LANGUAGES))}"
-    if f"prints `{SHOWN}`" not in readme:
-        yield f"it does not say that each program prints {SHOWN}"
+    if f"`{SHOWN}`" not in readme:
+        yield f"README.md does not say that each program prints {SHOWN}"
 
 
 def page_results(program: start.Program, project: start.Project) -> Iterator[tap.Result]:
