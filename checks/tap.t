@@ -89,8 +89,10 @@ report "not ok 1 - a # SKIP no sh\n#   what it needs is there\n1..1\nstatus 1" '
 
 expect False "mkdir -p crates/none/out; touch crates/none/out/none
   python3 -c 'import os, tap; print(os.path.exists(tap.program(\"none\")))'"
-expect "['a', 'b']" "printf 'parts\na\tb\n' > rows
-  python3 -c 'import edits, pathlib; print(*edits.rows(pathlib.Path(\"rows\")))'"
+expect "['a', 'rows', 'part', 'b']\nrows:3: rows does not have what this line edits: c\td" \
+  "printf 'parts\na\trows\tpart\tb\nrows\tc\\\\td\t\n' > rows
+  python3 -c 'import edits, pathlib; [*map(print, edits.rows(pathlib.Path(\"rows\")))]' 2>&1 |
+    sed -n 's/^ValueError: //p; /^\[/p'"
 
 # Runs .ci/run over a check, a text, after another text, and prints its status.
 ran() {
