@@ -208,7 +208,7 @@ def results(program: str, names: list[str]) -> Iterator[tap.Result]:
     changed = differences({"a": [10], "b": [1]}, {"a": [10, 10], "c": [1]})
     yield tap.planted("counts", [changed], "a: [10] instructions, stored [10, 10]", "b: it is", "c: it is")
     # with another compiler or C library, and without AVX2, for its copies, the counts differ
-    [(compiler, library)] = re.findall(r"GCC ([\d.]+)\s+and glibc ([\d.]+\d)", page)
+    compiler, library = (re.findall(rf"\b{name}\s+(\d[\d.]*\d)", page)[0] for name in ("GCC", "glibc"))
     if gone := tap.missing(["valgrind", "cpu:avx2", f"cc={compiler}", f"ldd={library}"]):
         yield tap.left_out("the calls", gone)
         return
