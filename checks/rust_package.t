@@ -95,7 +95,7 @@ rust_counts() {
   in_crate "${count[@]}" > "$work/shares"
   grep '^| Call' "$work/shares"
   sed -E '1,2d; /^\|[^|]*(\| 1\.00 to 1\.00 ){2}\|$/d' "$work/shares" | diff /dev/null -
-  sed -i "s/self.0.truncate(size)/self.0.truncate(size - 1)/" "$source"
+  sed -i 's/self.0.truncate(\(\w*\))/self.0.truncate(\1 - 1)/' "$source"
   rejects "truncate 1 20" in_crate "${count[@]}"
   cp bindings/rust/multihash/src/multihash.rs "$source"
 }
