@@ -64,13 +64,13 @@ uint8_t *copy_of(const uint8_t *bytes, size_t length)
     return copy;
 }
 
-/* Zeros, with memory only where they are accessed. Null where no buffer can have that length, or none is known. */
+/* Zeros, with memory only where they are accessed. Null where no buffer can have that length, none is known, or a
+ * limit is below it. */
 uint8_t *sparse(uint64_t length)
 {
 #if defined(__linux__) && SIZE_MAX > UINT32_MAX
     void *bytes = mmap(NULL, length, PROT_READ | PROT_WRITE, MAP_PRIVATE | MAP_ANONYMOUS | MAP_NORESERVE, -1, 0);
-    CHECK(bytes != MAP_FAILED);
-    return (uint8_t *)bytes;
+    return bytes == MAP_FAILED ? NULL : (uint8_t *)bytes;
 #else
     (void)length;
     return NULL;
