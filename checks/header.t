@@ -115,7 +115,9 @@ def versions() -> Iterator[tap.Result]:
         yield f"a later version, {number}", "\n".join(version.errors(later))
     yield "a version that the program writes", program_error("99.9.0", "2099-01-01")
     for path in later:
-        yield tap.planted(f"another version: {path}", version.errors({**later, path: texts[path]}), "")
+        yield tap.planted(
+            f"another version: {path}", version.errors({**later, path: texts[path]}), number.split(".")[1]
+        )
 
 
 def results() -> Iterator[tap.Result]:

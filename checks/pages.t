@@ -30,7 +30,7 @@ def results() -> Iterator[tap.Result]:
         yield tap.planted("a path that a script names", pages.path_errors(texts), ".ci/run: there is no tools/")
     for name, path, old, new in edits.rows(LIB / "pages.edits"):
         changed = {**texts, path: texts[path].replace(old, new, 1)}
-        yield tap.planted(f"{name}: {path} > {old} > {new}", CHECKS[name](changed), "")
+        yield tap.planted(f"{name}: {path} > {old} > {new}", CHECKS[name](changed), path)
 
 
 if __name__ == "__main__":

@@ -67,7 +67,7 @@ def contract_errors(texts: Texts) -> Iterator[str]:
     page = contracts.written_page({path: texts[path] for path in contracts.sources()})
     if texts[CONTRACTS] != page:
         yield "tools/contracts.py writes, if it is meant:"
-        yield from difflib.unified_diff(texts[CONTRACTS].splitlines(), page.splitlines(), lineterm="", n=0)
+        yield from difflib.unified_diff(texts[CONTRACTS].splitlines(), page.splitlines(), CONTRACTS, n=0, lineterm="")
 
 
 def anchors(text: str) -> set[str]:

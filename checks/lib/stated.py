@@ -10,7 +10,7 @@ from start import FENCE, TOP
 sys.path.append(str(TOP / "crates" / "vectors"))
 import verdicts
 
-README, RULES = "README.md", verdicts.RULES
+README, CORE, RULES = "README.md", "bindings/js/core.js", verdicts.RULES
 # a version or a limit as pages state it, and where it is from
 STATED = (
     (r"Rust (\d[\d.]*\d)", f"{RUST}/Cargo.toml", r'rust-version = "(.*)"'),
@@ -30,11 +30,12 @@ STATED = (
 
 def stated_errors(texts: Texts) -> Iterator[str]:
     """Compares versions and limits of pages with where they are from, and the errors in the page for C."""
-    prose = flat("\n".join([*pages_of(texts).values(), read("bindings/js/core.js")]))
+    prose = {path: flat(text) for path, text in (pages_of(texts) | {CORE: read(CORE)}).items()}
     for form, source, origin in STATED:
-        found, wanted = {*re.findall(form, prose)}, {*re.findall(origin, read(source))}
-        if found != wanted or len(wanted) != 1:
-            yield f"pages have {sorted(found)}, {source} has {sorted(wanted)}: {form}"
+        wanted = "".join(re.findall(origin, read(source)))
+        found = {(path, value) for path, text in prose.items() for value in re.findall(form, text)} or {("", "")}
+        for path, value in sorted(found - {(path, wanted) for path in prose}):
+            yield f"{path or 'no page'} has {value!r}, {source} {wanted!r}: {form}"
     said = dict(re.findall(r"case (MULTIHASH_\w+):\s*return \"([^\"]*)\";", read(HEADER)))
     for name, number in re.findall(r"^ +(MULTIHASH_\w+) = (\d+)", read(HEADER), re.M):
         if f"| `{name}` | {number} | {said.get(name)} |" not in texts[C]:
