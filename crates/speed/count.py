@@ -232,17 +232,19 @@ def write(programs: list[str], names: list[str]) -> None:
 
 
 def main() -> int:
-    if sys.argv[1:2] == ["--time"]:
-        print_times([*map(Path, sys.argv[2:])] or C_BUILDS)
-        return 0
-    if sys.argv[1:2] == ["--package"]:
-        print_shares(Path(sys.argv[2]))
-        return 0
-    program = tap.program("speed")
     names = (HOME / "args").read_text("utf-8").splitlines()[1:]
-    if sys.argv[1:2] != ["--write"]:
-        return tap.report(results(program, names))
-    write([program, *sys.argv[2:]], names)
+    match sys.argv[1:]:
+        case []:
+            return tap.report(results(tap.program("speed"), names))
+        case ["--write", *builds]:
+            write([tap.program("speed"), *builds], names)
+        case ["--time", *builds]:
+            print_times([*map(Path, builds)] or C_BUILDS)
+        case ["--package", upstream]:
+            print_shares(Path(upstream))
+        case _:
+            print(__doc__, file=sys.stderr)
+            return 2
     return 0
 
 

@@ -195,12 +195,16 @@ def error_of(stored: str) -> str:
 
 def main() -> int:
     stored = STORED.read_text("utf-8")
-    if sys.argv[1:] == ["--write"]:
-        return STORED.write_text(made_of(stored), "utf-8") == 0
-    if sys.argv[1:2] in (["--draw"], ["--more"]):
-        lists = {"--draw": drawn, "--more": more}
-        sys.stdout.writelines(f"{line}\n" for line in lists[sys.argv[1]](stored, *map(int, sys.argv[2:])))
-        return 0
+    match sys.argv[1:]:
+        case ["--write"]:
+            return STORED.write_text(made_of(stored), "utf-8") == 0
+        case ["--draw" | "--more" as word, seed, lines]:
+            make = drawn if word == "--draw" else more
+            sys.stdout.writelines(f"{line}\n" for line in make(stored, int(seed), int(lines)))
+            return 0
+        case [_, *_]:
+            print(__doc__, file=sys.stderr)
+            return 2
     new = f"{RULES.line(0, bytes(77))}\n"
     results = [("the results of the stored inputs", error_of(stored)), ("an appended input", error_of(stored + new))]
     count = 2000
