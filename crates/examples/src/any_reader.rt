@@ -20,7 +20,11 @@ pub fn read_tight<const S: usize, R: Read>(
     r: &mut R,
     count: usize,
 ) -> Result<Vec<Multihash<S>>, Error>
-    ensures { IfOk result (λ list. vec_capacity list ≡ length list.items) }
+    ensures ok { IfOk result (λ list. (length list.items ≡ count) × (vec_capacity list ≡ length list.items)
+        × ConsumesPairs S (map pair_of list.items) (R.rest r.old) (R.rest r.new)) }
+    ensures err { IfErr result (λ e.
+        (IsOutOfMemory e × (R.failures r.new ≡ R.failures r.old) × (R.rest r.new ≡ R.rest r.old))
+        ⊎ StopsAfterPairs S count e (R.failures r.old) (R.failures r.new) (R.rest r.old) (R.rest r.new)) }
 {
     list::read_list(alloc, r, count)
 }

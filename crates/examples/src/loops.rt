@@ -10,7 +10,7 @@ use std::alloc::Global;
 ///
 /// # Errors
 ///
-/// Those of [`Multihash::read_next`], and out of memory.
+/// Those of [`Multihash::read_next`] for a capacity of 64 bytes, and out of memory.
 pub fn codes(alloc: Global, bytes: &[u8]) -> Result<Vec<u64>, Error>
     ensures { IfOk result (λ codes. (pairs : List Pair) × AreConcatenated pairs bytes.now
         × (codes.items ≡ map (λ p. p.code) pairs)) }

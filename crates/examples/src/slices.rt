@@ -1,5 +1,5 @@
 //! Callers that read a slice or fill one, and whose contracts state its bytes.
-ghost use Rattle.std.specs.Prelude.{◌≡◌, ◌<◌, ℕ, List, ◌++◌, length, take, drop, false, Some};
+ghost use Rattle.std.specs.Prelude.{◌≡◌, ◌<◌, ◌≤◌, ◌↔◌, ℕ, List, ◌++◌, length, take, drop, false, Some};
 ghost use Rattle.std.specs.Prelude.{IsTrue, IfOk, IfErr, IsErrAnd, MatchOption};
 ghost use Rattle.multihash.specs.Pair.{digest_limit};
 ghost use Rattle.multihash.specs.Encoding.{IsEncoding};
@@ -33,6 +33,7 @@ pub fn read_slice<const S: usize>(stream: &[u8]) -> (Result<Multihash<S>, Error>
 
 /// Fills the buffer with the first bytes. Returns whether there are as many; if not, the buffer is unchanged.
 pub fn fill(bytes: &[u8], buffer: &mut [u8]) -> bool
+    ensures enough { IsTrue result ↔ (length buffer.old ≤ length bytes.now) }
     ensures filled { IsTrue result → buffer.new ≡ take (length buffer.old) bytes.now }
     ensures unchanged { result ≡ false → buffer.new ≡ buffer.old }
 {

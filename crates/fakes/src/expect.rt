@@ -125,7 +125,7 @@ impl ErrorKind {
     /// The error of this crate's writers.
     pub const DISK_GONE: ErrorKind = ErrorKind::Other("disk gone");
 
-    /// The kind of an error: the first test that applies. The proof needs that one does.
+    /// The kind of an error: the first test that applies.
     pub fn of(e: &Error) -> Option<Self>
         ensures { IsSome result }
     {

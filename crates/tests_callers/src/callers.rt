@@ -13,7 +13,7 @@ use multihash::no_std_io::{Read, Write};
 use multihash::{Error, Multihash};
 use std::alloc::Global;
 use std::process::Abort;
-use storage::content::{UnknownCode, hash_of, verify};
+use storage::content::{UnknownCode, hash_of, is_damaged, verify};
 use storage::log::{EntryError, read_entry, valid_prefix, write_entry};
 
 // The identifier of `aaaa` as raw bytes, with its SHA-256 from another implementation.
@@ -351,4 +351,5 @@ fn a_known_content_is_verified(rt: HostRuntime) {
     check_eq!(&rt; verify(&one, b"two"), Ok(false));
     let other = expect_ok!(&rt; Multihash::<64>::wrap(0x13, one.digest()));
     check_eq!(&rt; verify(&other, b"one"), Err(UnknownCode { code: 0x13 }));
+    check!(&rt; is_damaged(&one, b"two") && !is_damaged(&one, b"one") && !is_damaged(&other, b"two"));
 }

@@ -32,7 +32,7 @@ impl Codec {
     /// [`Error::invalid_code`] with the number if it is 2^63 or more.
     pub fn len(number: u64) -> Result<usize, Error>
         ensures ok { IfOk result (λ len. (bytes : List ℕ) × IsVarint number bytes × (len ≡ length bytes)) }
-        ensures err { IfErr result (IsInvalidCode number) }
+        ensures err { IfErr result (λ e. IsInvalidCode number e × (varint_limit ≤ number)) }
     {
         varint::len(number)
     }
