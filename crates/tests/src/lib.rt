@@ -1,4 +1,4 @@
-//! Tests of what no contract states, by subject. What a contract states can only fail if its proof does.
+//! Tests of what no contract states, by subject.
 #![tactic(auto)]
 
 #[cfg(test)]

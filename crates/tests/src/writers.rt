@@ -201,6 +201,10 @@ fn expect_errors<const S: usize>(rt: &impl Abort, alloc: Global, sample: &Sample
             }
         }
     }
+    // It would fail at the next call.
+    let len = sample.bytes.len();
+    let mut writer = failing_writer::<false>(rt, alloc, len, ErrorKind::DISK_GONE);
+    check_eq!(rt; sample.writes(&mut writer, false).ok(), Some(len), sample.form);
 }
 
 fn expect_each_error<const S: usize>(rt: &impl Abort, alloc: Global, from: usize)

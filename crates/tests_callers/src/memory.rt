@@ -16,6 +16,7 @@ use multihash::no_std_io::Write;
 use multihash::{Error, Multihash};
 use serde_json::Value;
 use std::alloc::Global;
+use std::hash::{DefaultHasher, Hash};
 use std::process::Abort;
 use std::test::Fail;
 use storage::content;
@@ -154,13 +155,16 @@ fn allocating_forms_of_usual_digests(rt: HostRuntime) -> Result<(), Fail> {
     unless_failed(made)
 }
 
-// The capacity is the one allocation: the input ends after one pair.
+// The capacity is the one allocation: the input ends after one pair. If it fails, nothing was read.
 fn reserves_lists<const S: usize>(rt: &impl Abort, alloc: Global, counts: &[usize]) -> bool
     requires { S < 2 ^ 16 }
 {
     for count in counts {
-        let outcome = read_list::<S, _>(alloc, &mut [0u8, 0].as_slice(), *count);
-        if !(is_rejected(&outcome, ErrorKind::Insufficient) || succeeded(rt, &outcome)) {
+        let input = [0u8; 2];
+        let mut left = input.as_slice();
+        let outcome = read_list::<S, _>(alloc, &mut left, *count);
+        if !is_rejected(&outcome, ErrorKind::Insufficient) && !succeeded(rt, &outcome) {
+            check_eq!(rt; left.len(), 2);
             return false;
         }
     }
@@ -182,11 +186,15 @@ fn allocating_writes(rt: HostRuntime) -> Result<(), Fail> {
     let rt = &rt;
     let long = expect_ok!(rt; Multihash::<200>::wrap(300, &[65; 200]));
     let (mut binary, mut scale, mut list) = (Vec::new(alloc), Vec::new(alloc), Vec::new(alloc));
-    unless_failed(
-        succeeded(rt, &long.write(&mut binary))
-            && succeeded(rt, &long.scale_encode(&mut scale))
-            && succeeded(rt, &write_list(&[long, long], &mut list)),
-    )
+    let made = succeeded(rt, &long.write(&mut binary))
+        && succeeded(rt, &long.scale_encode(&mut scale))
+        && succeeded(rt, &write_list(&[long, long], &mut list));
+    let (mut whole, mut scale_whole) = ([0u8; 408], [0u8; 209]);
+    expect_ok!(rt; write_list(&[long, long], &mut whole.as_mut_slice()));
+    expect_ok!(rt; long.scale_encode(&mut scale_whole.as_mut_slice()));
+    check!(rt; whole.starts_with(&binary) && whole.starts_with(&list));
+    check!(rt; scale_whole.starts_with(&scale));
+    unless_failed(made)
 }
 
 fn append_forms(held: &mut Vec<u8>, m: &Multihash<255>) -> Result<(), Error> {
@@ -213,12 +221,12 @@ fn allocating_capacity_alone(rt: HostRuntime) -> Result<(), Fail> {
 // A vector whose allocation fails is unchanged.
 #[test]
 fn allocating_write_of_a_vector(rt: HostRuntime) -> Result<(), Fail> {
-    let mut held = Vec::new(rt.alloc());
-    let outcome = held.write(&[1, 2, 3]);
-    if outcome.is_err() {
-        check!(&rt; held.is_empty() && held.capacity() == 0);
-    }
-    unless_failed(outcome.is_ok())
+    let (mut held, mut whole) = (Vec::new(rt.alloc()), Vec::new(rt.alloc()));
+    let is_written = held.write(&[1, 2, 3]).is_ok();
+    check!(&rt; is_written || held.is_empty() && held.capacity() == 0);
+    let is_whole = whole.write_all(&[1, 2, 3]).is_ok();
+    check!(&rt; is_whole || whole.is_empty() && whole.capacity() == 0);
+    unless_failed(is_written && is_whole)
 }
 
 // So is one after a push, and what was not pushed is freed.
@@ -302,6 +310,9 @@ fn expect_without_memory<const S: usize>(rt: &impl Abort, alloc: Global, code: u
     check!(rt; expect_ok!(rt; Multihash::<S>::scale_decode(&mut scale.as_slice())) == m);
     check!(rt; expect_ok!(rt; m.resize::<32>()).truncate(4) < m.resize::<32>().unwrap_or_default());
     check!(rt; expect_ok!(rt; read_list::<S, _>(alloc, &mut bytes.as_slice(), 0)).is_empty());
+    check!(rt; m.code() == code && m.size() == 32 && m.digest().len() == 32);
+    check!(rt; m != Multihash::default() && m.into_inner().2 == 32);
+    m.hash(&mut DefaultHasher::new());
 }
 
 #[test]
