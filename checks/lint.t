@@ -14,7 +14,8 @@ javascript=$(listed '*.js' '*.ts')
 # those that end at the first command that fails; the others say that they do not, or are one command
 ending=$(scripts '^(set -euo pipefail$|\. .*/tap\.sh"$|# Sourced after tap\.sh)')
 others=$(scripts '^(set -u|exec )')
-stating=$(git grep --no-color -lE '^(#  |   ) (\.ci|bindings|crates|tools)/[^ ]+ ' .ci 'bindings/*.sh' 'crates/*.py' tools)
+stating=$(git grep --no-color -lE '^(#  |   ) (\.ci|bindings|crates|tools)/[^ ]+ ' .ci 'bindings/*.sh' 'crates/*.py' \
+  tools)
 # All but the tests of the package for Python have types.
 typed=$(grep -v '^bindings/python/tests/' <<< "$python")
 
