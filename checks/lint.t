@@ -68,17 +68,6 @@ installs_npm() {
 
 export MYPY_CACHE_DIR=$work/mypy
 
-# Tries a linter, a command with options, over scripts, and over a planted script, which it has to reject with a text.
-try_linter() {
-  local linter=$1 planted=$work/$2 text=$3
-  mkdir -p "${planted%/*}"
-  printf '%b\n' "$4" > "$planted"
-  # shellcheck disable=SC2086
-  try "${linter%% *}" $linter "${@:5}"
-  # shellcheck disable=SC2086
-  try "${linter%% *} rejects a planted script" rejects "$text" $linter "$5" "$planted"
-}
-
 # shellcheck disable=SC2086 # no path has a blank
 {
   try "each script is in a list" are_known

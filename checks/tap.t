@@ -24,17 +24,24 @@ tries() { expect "$1" "(. checks/lib/tap.sh; $2; finish); echo status \$?"; }
 tries "not ok 1 - a\nok 2 - b\n1..2\nstatus 1" "try a false; try b true"
 tries "not ok 1 - a\n# why\n# :1: it failed\n1..1\nstatus 1" "try a sh -c 'echo why >&2; exit 1' 2>&1"
 expect "# one.t:3: it failed\n# planted: :\n# one.t:5: it failed" "printf '%s\n' '. checks/lib/tap.sh' 'a() {' \
-  '  rejects \"\" false; rejects a false' '}; try a a' 'try b rejects_edits .ci true <<< \"a|:\"' > one.t
+  '  rejects a ls a; rejects a false' '}; try a a' 'try b rejects_edits .ci true <<< \"a|:\"' > one.t
   bash one.t 2>&1 | grep -v 'ok\|status'"
 tries "not ok 1 - a\n1..1\nstatus 1" "try a rejects a echo a"
 tries "not ok 1 - a\n1..1\nstatus 1" "try a rejects 'a text' false"
 tries "not ok 1 - a\n1..1\nstatus 1" "try a rejects 'a.b' sh -c 'echo axb; exit 1'"
 tries "ok 1 - a\n1..1\nstatus 0" "try a rejects b sh -c 'echo abc; exit 1'"
+tries "not ok 1 - a\n1..1\nstatus 1" "try a rejects '' sh -c 'echo abc; exit 1'"
 tries "ok 1 - a\n1..1\nstatus 0" "try a prints b echo abc"
 tries "not ok 1 - a\n1..1\nstatus 1" "try a prints b sh -c 'echo abc; exit 1'"
 tries "not ok 1 - a\n1..1\nstatus 1" "d() { rejects_edits .ci cmp .ci/run \"\$work/planted/run\"; }
   try a d <<< \$'differ|rm run; echo > run\ndiffer|:'"
-tries "not ok 1 - a\n1..1\nstatus 1" "d() { rejects_edits .ci sh -c 'cat; echo a; false'; }; try a d <<< \$'a|cat\nb|:'"
+tries "not ok 1 - a\n1..1\nstatus 1" "c() { cat; ls \"\$work/planted/run\"; }; d() { rejects_edits .ci c; }
+  try a d <<< \$'No such|cat; rm run\na text|rm run'"
+tries "not ok 1 - a\n1..1\nstatus 1" "try a rejects_edits .ci ls a <<< 'No such|:'"
+lint="lint() { ! grep bad \"\$@\"; }; try_linter lint a/b bad 'a\nbad' /dev/null"
+tries "ok 1 - lint\nok 2 - lint rejects a planted file\n1..2\nstatus 0" "$lint .ci/run"
+tries "not ok 1 - lint\nok 2 - lint rejects a planted file\n1..2\nstatus 1" "$lint checks/tap.t"
+tries "ok 1 - ls\nnot ok 2 - ls rejects a planted file\n1..2\nstatus 1" "try_linter 'ls -d' a a bad /dev/null"
 # what fails in the middle, where bash by itself goes on
 # shellcheck disable=SC2016 # the check expands it
 while read -r text; do
@@ -57,13 +64,14 @@ while IFS='|' read -r wanted faults build test; do
     has_1() { $test; }; (. checks/lib/tap.sh; try a sees_faults list of it build has_1; finish) 2>&1 |
     sed -n 's/^# > //p; s/^ok.*/ok/p; s/^not ok.*/red/p'"
 done << 'END'
-ok|s/1/4/,# s/2/5/,s/^1//|true|grep 1 "$1/it"
-red|# none|true|grep 1 "$1/it"
-red|s/1/4/|true|false
+ok|s/1/4/,# s/2/5/,s/^1//|! grep } "$1/it"|grep 1 "$1/it"
+red|# none|! grep } "$1/it"|grep 1 "$1/it"
+red|s/1/4/|true|grep 1 "$1/it"
+red|s/1/4/|! grep } "$1/it"|false
 red|s/1/4/|false|grep 1 "$1/it"
-red\nlist:2: not seen: /2/s//5/|s/1/4/,/2/s//5/|true|grep 1 "$1/it"
-red\nlist:1: no file has what it edits: s/3/5/|s/3/5/,s/1/4/|true|grep 1 "$1/it"
-red\nlist:1: not built: s/1/3/|s/1/3/,s/1/4/|sed -n /3/q1 "$1/it"|grep 1 "$1/it"
+red\nlist:2: not seen: /2/s//5/|s/1/4/,/2/s//5/|! grep } "$1/it"|grep 1 "$1/it"
+red\nlist:1: no file has what it edits: s/3/5/|s/3/5/,s/1/4/|! grep } "$1/it"|grep 1 "$1/it"
+red\nlist:1: not built: s/1/3/\n3|s/1/3/,s/1/4/|! grep [}3] "$1/it"|grep 1 "$1/it"
 END
 tries "1..0\nstatus 1" true
 tries "a\nb\n1..0\nstatus 1" "block_of <(printf '\`\`\`%s\n' \$'c\nx' '' \$'js\na\nb' '' js) js"
@@ -80,7 +88,7 @@ report() { expect "$1" "python3 -c 'import sys, tap; sys.exit(tap.report([$2]))'
 report "not ok 1 - a\n#   why\nok 2 - b\n1..2\nstatus 1" '("a", "why"), ("b", "")'
 report "ok 1 - a b\n1..1\nstatus 0" '("a#\nb", "")'
 report "1..0\nstatus 1" ""
-report "not ok 1 - planted: a\n#   without []: \nnot ok 2 - planted: b\n#   without ['c']: why\n1..2\nstatus 1" \
+report "not ok 1 - planted: a\n#   without ['']: \nnot ok 2 - planted: b\n#   without ['c']: why\n1..2\nstatus 1" \
   'tap.planted("a", [""], ""), tap.planted("b", ["why"], "w", "c")'
 report "ok 1 - planted: a\n1..1\nstatus 0" 'tap.planted("a", ["why"], "w", "y")'
 report "ok 1 - a # SKIP no why\nok 2 - b\n1..2\nstatus 0" \

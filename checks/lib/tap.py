@@ -28,8 +28,8 @@ def report(results: Iterable[Result]) -> int:
 def planted(what: str, found: Iterable[str], text: str, *texts: str) -> Result:
     """Returns the result of a planted difference: something has to be found, with each of these texts."""
     printed = "\n".join(found)
-    lacking = [each for each in (text, *texts) if each not in printed]
-    return f"planted: {what}", "" if printed and not lacking else f"without {lacking}: {printed}"
+    lacking = [each for each in (text, *texts) if not each or each not in printed]
+    return f"planted: {what}", "" if not lacking else f"without {lacking}: {printed}"
 
 
 def missing(tools: Iterable[str]) -> list[str]:

@@ -80,27 +80,42 @@ ends() {
   local ended printed
   printed=$(mktemp -p "$work")
   run "$printed" "${@:3}"
-  if [ $((ended != 0)) = "$1" ] && grep -qF -- "$2" "$printed"; then return; fi
+  if [ $((ended != 0)) = "$1" ] && [ "$2" ] && grep -qF -- "$2" "$printed"; then return; fi
   echo "status $ended, or without the text: $2"
   cat "$printed"
   return 1
 }
 
-# Each line of the standard input, 'TEXT|EDIT', is a shell command in a copy of a folder, "$work/planted", after which a
-# command has to fail and print the text. Neither reads the other lines.
+# A command passes over a copy of a folder, "$work/planted". Each line of the standard input, 'TEXT|EDIT', is a shell
+# command in the copy, after which the command has to fail and print the text. Neither reads the other lines.
 rejects_edits() {
   local text edit
+  plant "$1" true
+  "${@:2}" < /dev/null
   while IFS='|' read -r text edit; do
-    rm -rf "$work/planted"
-    cp -a "$1" "$work/planted"
-    (cd "$work/planted"; eval "$edit") < /dev/null
+    plant "$1" "$edit"
     echo "planted: $edit"
     rejects "$text" "${@:2}" < /dev/null
   done
 }
 
+plant() {
+  rm -rf "$work/planted"
+  cp -a "$1" "$work/planted"
+  (cd "$work/planted"; eval "$2") < /dev/null
+}
+
+# Tries a linter, a command with options, over files, and over a planted file of some lines, which it has to reject.
+#   try_linter LINTER PLANTED TEXT LINES FILE..
+# shellcheck disable=SC2086 # words
+try_linter() {
+  install -D /dev/stdin "$work/$2" <<< "$(printf %b "$4")"
+  try "${1%% *}" $1 "${@:5}"
+  try "${1%% *} rejects a planted file" rejects "$3" $1 "$5" "$work/$2"
+}
+
 # A copy of a folder, "$work/faults", is built, and its tests pass. With each line of a list, an edit of sed, alone, it
-# is built, and its tests fail.
+# is built, and its tests fail. Files that end with a brace more are not built.
 #   sees_faults LIST FOLDER "FILE.." BUILD TEST    these files are edited; the two commands get the path of the copy
 sees_faults() {
   local at edit edits ended file is_edited tried=0 copy=$work/faults
@@ -108,6 +123,8 @@ sees_faults() {
   cp -r "$2" "$copy"
   "$4" "$copy"
   "$5" "$copy"
+  for file in $3; do echo "}" >> "$copy/$file"; done
+  rejects "}" "$4" "$copy"
   mapfile -t edits < "$1"
   for at in "${!edits[@]}"; do
     edit=${edits[at]}
