@@ -26,14 +26,6 @@ exports_exactly() {
   nm --extern-only --defined-only -j "$1" | awk 'NF && !/:$/' | sort -u | diff <(exported) -
 }
 
-# An archive with a function more.
-planted_archive() {
-  cp "$library" "$work/planted.a"
-  echo 'int multihash_more(void) { return 0; }' | cc -xc -c - -o "$work/more.o"
-  ar r "$work/planted.a" "$work/more.o"
-  rejects "> multihash_more" exports_exactly "$work/planted.a"
-}
-
 # Under valgrind, which sees each access to a buffer's neighbours: the program `$1` of the tests and the other words.
 under_valgrind() { build_and_run "$1" "$valgrind" cc "${c_flags[@]}" "${heap[@]}" "${tests[@]}" "${@:2}"; }
 
@@ -83,13 +75,16 @@ by_hand() {
 }
 
 try "static library" build_library
-needs="nm" try exports exports_exactly "$library"
+needs="nm ar" try exports rejects_edits "${library%/*}" exports_exactly "$work/planted/${library##*/}" << 'END'
+> multihash_more|echo 'int multihash_more(void) { return 0; }' | cc -xc -c - -o more.o; ar r *.a more.o
+END
 needs="nm objdump" try "what it needs" keeps_no_state "$library" memcpy memmove
-needs="nm ar" try "a planted archive" planted_archive
 # a test in C calls each function that the header declares
 try "tests of the exports" diff /dev/null <(exported |
   comm -23 - <(grep -ohw 'multihash_[a-z_]*' "$c"/tests/{test,models}.c | sort))
 test_compilers
+try "a warning" rejects "[-Werror=conversion]" cc "${c_flags[@]}" -fsyntax-only -xc - \
+  <<< 'int planted(long a) { return a; }'
 try "a read after an input" rejects heap-buffer-overflow overread build_and_run overread "" cc "${sanitize[@]}" \
   "${tests[@]}"
 # each access of the library, which the compilers' sanitizers do not see

@@ -16,18 +16,17 @@ example_in() {
   "$work/example" | diff <(echo "code 0, digest hello") -
 }
 
-build_stream() {
+# The reader of a stream of a folder, over pipes that are cut at each byte.
+reads_stream() {
   cc "${c_flags[@]}" "${sanitize[@]}" -I "$c/include" -I "$1" "$c/tests/stream.c" "$library" -o "$work/stream"
+  "$work/stream"
 }
 
-# The reader of a stream that is installed, over pipes that are cut at each byte; the program reads SHA2-512 too.
-# Sanitizers see a smaller buffer.
+# The one that is installed. Sanitizers see a smaller buffer. The program reads SHA2-512 too.
 stream_example() {
-  build_stream "$c/examples"
-  "$work/stream"
-  sed 's/bytes\[MULTIHASH_LENGTH_MAX/bytes[MULTIHASH_DIGEST_MAX/' "$c/examples/stream.c" > "$work/stream.c"
-  build_stream "$work"
-  rejects "buffer-overflow" "$work/stream"
+  rejects_edits "$c/examples" reads_stream "$work/planted" << 'END'
+buffer-overflow|sed -i 's/bytes\[MULTIHASH_LENGTH_MAX/bytes[MULTIHASH_DIGEST_MAX/' stream.c
+END
   cc "${c_flags[@]}" -I "$c/include" "$c/examples/stream.c" "$library" -o "$work/stream"
   prints "size 64" "$work/stream" < <(printf '\x13\x40%064d' 0)
 }

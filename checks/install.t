@@ -78,6 +78,8 @@ planted_prefix() {
 /multihash.h|chmod 755 include/multihash.h
 diff -r|echo >> share/doc/multihash_c/examples/show.c
 EOF on CHANGES|echo >> share/doc/multihash_c/changelog
+EOF on LICENSE|echo >> share/doc/multihash_c/copyright
+EOF on bindings/c/README.md|echo >> share/doc/multihash_c/README.md
 > -L|sed -i 's,^libdir=.*,&/..,' lib/pkgconfig/multihash_c.pc
 < BIND_NOW|cc -shared -xc /dev/null -o lib/libmultihash_c.so.?.*
 > more|cc -shared -Wl,--no-as-needed,-z,now,-soname=libmultihash_c.so.$major -xc - -o lib/libm*.so.?.* <<< 'int more;'
@@ -101,6 +103,7 @@ END
 # Each page of a function is that of the library, which has the sentences of the header's comments, its functions, and
 # the date of the version. Literal blocks alone have ` or *.
 man_pages() {
+  cd "$work/planted"
   mandoc -T lint man3/multihash.3 "$top/crates/mh_show/mh_show.1"
   grep -Lx '.so man3/multihash.3' man3/* | diff <(echo man3/multihash.3) -
   sed -n 's/^\.Nm \(\S*\).*/\1.3/p' man3/multihash.3 | sort | diff <(ls man3) -
@@ -117,12 +120,15 @@ man_pages() {
 
 # Debian's packages have the pages, so Python is there when they are built.
 pages() {
-  cd "$prefix/share/man"
-  man_pages
   grep -wE '^Build-Depends:.* python3' "$c/debian/control"
-  cd "$work"
-  python3 <(sed 's/(words)/&[9:]/' "$c/man.py") "$header" "$top/CHANGES" man3
-  rejects "> " man_pages
+  rejects_edits "$prefix/share/man" man_pages << END
+> |python3 <(sed 's/(words)/&[9:]/' "$c/man.py") "$header" "$top/CHANGES" man3
+unknown macro|echo .Zz >> man3/multihash.3
+> man3/multihash_read.3|echo > man3/multihash_read.3
+> multihash_read.3|rm man3/multihash_read.3
+> \`|echo '\`' >> man3/multihash.3
+> multihash_read(|sed -i '/^\.Fn multihash_read /s/const/a/; /^\.F[ao] /s/const/a/' man3/multihash.3
+END
 }
 
 ONLY='' try "building" build built -DCMAKE_INSTALL_PREFIX="$prefix"

@@ -91,8 +91,7 @@ try "cc, sanitizers" passes "$tree" cc-sanitizers "" cc "${sanitize[@]}"
 needs="--all clang" try clang passes "$tree" clang "" clang -O2
 needs="--all clang $clang_runtime" try "clang, sanitizers" passes "$tree" clang-san "" clang "${sanitize[@]}"
 needs="clang llvm-nm" try "objects without a C library" freestanding
-needs=clang try "other compilers" has_no_extensions "$tree"
-needs=clang try "a name that others do not know" rejects_edits "$tree" has_no_extensions "$work/planted" << 'END'
+needs=clang try "other compilers" rejects_edits "$tree" has_no_extensions "$work/planted" << 'END'
 > __builtin_clzll|sed -i 's/return zeros - number;/return __builtin_clzll(number);/' multihash.c
 END
 needs="nm objdump" try "what the object needs" keeps_no_state "$work/one.o" abort memcpy memmove

@@ -66,12 +66,14 @@ END
     comm -23 - <(sort "$work/listed") | diff /dev/null -
 }
 
-# A release with an archive of another owner, in another order or that differs, and one whose bill of materials lacks a
-# machine's library.
+# A release with an archive of another owner, in another order or that differs, with a file more, and one whose bill of
+# materials lacks a machine's library.
 planted_release() {
   rejects_edits "$work/release" has_files "$work/planted" << END
 -rw-r--r-- 0/1|echo > a; tar --owner=0 --group=1 --mode=644 -czf a.tar.gz a
 disorder|mkdir a b; tar --owner=0 --group=0 --mode=755 -czf a.tar.gz b a
+> more|touch more
+> more|touch more; sha256sum more >> SHA256SUMS
 multihash-$upstream.crate: FAILED|echo >> multihash-$upstream.crate
 from bindings/c/prebuilt/aarch64|sed -i 's/\(Element": ".*\)aarch64/\1x86-64/' *.json; sha256sum [^S]* > SHA256SUMS
 END
@@ -82,7 +84,8 @@ is_source() {
   mkdir "$work"/{source,unpacked}
   git archive HEAD | tar -x -C "$work/source"
   tar -xf "$work/release/multihash-$version.tar.gz" -C "$work/unpacked"
-  diff -r -I '^Maintainer:' -I '^Homepage:' -I '^ -- ' -I repository "$work/source" "$work/unpacked/multihash-$version"
+  rejects_edits "$work/unpacked/multihash-$version" diff -r -I '^Maintainer:' -I '^Homepage:' -I '^ -- ' -I repository \
+    "$work/source" "$work/planted" <<< "/README.md|echo >> README.md"
 }
 
 # What an owner states is in the packages.
@@ -119,10 +122,8 @@ failed_release() {
 
 ONLY='' try "a release, made twice" make_releases
 try "releases with the zone" planted_releases
-try "its files" has_files "$work/release"
-try "planted files" planted_release
-try "its relations" has_relations "$work/release"
-try "planted relations" planted_relations
+try "its files" planted_release
+try "its relations" planted_relations
 try "its source" is_source
 try "its owner" has_owner
 try "a release that fails" failed_release

@@ -27,8 +27,6 @@ rust_erased() {
   local copy=$work/erase module=bindings/rust/multihash/src/proved source=crates/multihash/src line
   mkdir "$copy"
   tar -c tools/erase tools/rt_source.py $source $module | tar -x -C "$copy"
-  "$copy/tools/erase" --check
-  only_removed "$copy"
   line=$(sed -n '/item.write(w)/=' $source/list.rt)
   rejects_edits "$copy" "$work/planted/tools/erase" --check << END
 $source/list.rt:$line: no Rust: prove!(true)|sed -i '${line}i\\    prove!(true);' $source/list.rt
@@ -40,7 +38,7 @@ writes: $module/new.rs|echo '// new' > $source/new.rt
 writes: $module/old.rs|echo > $module/old.rs
 writes: $module/head.rs|echo >> $module/head.rs
 END
-  rejects "head.rs has what" only_removed "$work/planted"
+  rejects_edits "$copy" only_removed "$work/planted" <<< "head.rs has what|echo >> $module/head.rs"
 }
 
 # A command of Cargo prints this and nothing else, but for versions.

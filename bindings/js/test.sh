@@ -19,13 +19,13 @@ npm_test() { (cd "$1"; ulimit -t 600; npm test -- "${@:2}"); }
 
 # Inputs that are drawn have the results that verdicts.py computes. A wrong result is found.
 drawn() {
-  local -x MULTIHASH_VERDICTS=$work/drawn/verdicts.tsv
+  local -x MULTIHASH_VERDICTS=$work/planted/verdicts.tsv
   mkdir "$work/drawn"
   cp "$vectors/hashes.tsv" "$work/drawn"
-  crates/vectors/verdicts.py --draw 1 3000 > "$MULTIHASH_VERDICTS"
-  npm_test "$here" --test-name-pattern=vectors tests/index.test.js
-  printf '4\t1200\tpair 18 aa\t2\tpair 18 aa\tunexpected_eof\t-\n' >> "$MULTIHASH_VERDICTS"
-  rejects "head: 18 0 2, wanted 18 1 1" npm_test "$here" --test-name-pattern=vectors tests/index.test.js
+  crates/vectors/verdicts.py --draw 1 3000 > "$work/drawn/verdicts.tsv"
+  rejects_edits "$work/drawn" npm_test "$here" --test-name-pattern=vectors tests/index.test.js << 'END'
+head: 18 0 2, wanted 18 1 1|printf '4\t1200\tpair 18 aa\t2\tpair 18 aa\tunexpected_eof\t-\n' >> verdicts.tsv
+END
 }
 
 # The tests see each fault of a list.
@@ -172,8 +172,7 @@ needs="$node npm" try "drawn inputs" drawn
 sed '/^# With --all/,$d' "$here/tests/faults.sed" > "$work/faults.sed"
 needs="$node npm" try "faults" sees "$work/faults.sed"
 needs="--all $node npm" try "all faults" sees "$here/tests/faults.sed"
-needs=$node try "plain JavaScript gives the same results" node "$here/beside_plain.js"
-needs=$node try "other results" rejects_edits "$here" node "$work/planted/beside_plain.js" << 'END'
+needs=$node try "the results of plain JavaScript" rejects_edits "$here" node "$work/planted/beside_plain.js" << 'END'
 of 34 bytes: |sed -i "s/'0')/'1')/" beside_plain.js
 END
 ONLY='' needs="$node npm" try "the packed package's script" packed_script
