@@ -27,6 +27,7 @@ machines() {
   gets Linux aarch64_be "" OFF ON
   gets FreeBSD x86_64 "" OFF ON
   gets Generic aarch64 "" OFF OFF
+  rejects "< ON" has machine.Generic-aarch64 OFF ON
   CC=clang gets Windows AMD64 --target=x86_64-pc-windows-msvc OFF ON
   CC=clang gets Darwin arm64 --target=arm64-apple-macos11 OFF ON
   grep -LF -e --version-script= "$work"/machine.*/CMakeFiles/multihash_c_shared.dir/link.txt | sed 's/-.*//; s/.*\.//' |
@@ -46,7 +47,7 @@ builds_for_windows() {
   local -x WINEPREFIX=$work/wine WINEDEBUG=-all
   build windows -DCMAKE_SYSTEM_NAME=Windows -DCMAKE_C_COMPILER=x86_64-w64-mingw32-gcc -DCMAKE_C_FLAGS="${c_flags[*]}" \
     -DCMAKE_CROSSCOMPILING_EMULATOR=wine
-  wineserver -k || true
+  { wineserver -k || true; }
 }
 
 # What a file is read for is made anew once it was edited: here with one more line, for which that fails. The archive of

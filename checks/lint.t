@@ -19,10 +19,25 @@ stating=$(git grep --no-color -lE '^(#  |   ) (\.ci|bindings|crates|tools)/[^ ]+
 # All but the tests of the package for Python have types.
 typed=$(grep -v '^bindings/python/tests/' <<< "$python")
 
-# Each file that can be executed is among these; Debian's rules are a makefile.
+# Each file that can be executed, or has the name of a script, is among these; Debian's rules are a makefile.
+named=$(git ls-files -s | sed -n 's/^100755 .*\t//p; s/.*\t\(.*\.\(js\|py\|sh\|ts\)\)$/\1/p')
 are_known() {
-  git ls-files -s | awk '$1 == 100755 { print $4 }' | grep -vx bindings/c/debian/rules | sort |
-    comm -23 - <(printf '%s\n' "$shell" "$python" | sort) | diff /dev/null -
+  printf '%s\n' "$@" | sort |
+    comm -23 - <(printf '%s\n' "$shell" "$python" "$javascript" bindings/c/debian/rules | sort) | diff /dev/null -
+}
+
+# Each shell script says what it does after a failure.
+are_ending() {
+  printf '%s\n' "$@" | sort | comm -23 - <(printf '%s\n' "$ending" "$others" | sort) | diff /dev/null -
+}
+
+# Each command that a check needs is in another line too: one of a wrong name would always leave the check out.
+are_commands() {
+  local name
+  grep -hoE '(needs=|require )("[^"]*"|[^ ]+)' "$@" | tr -s '" =' '\n' | grep -xE '[A-Za-z][A-Za-z0-9_+-]*' | sort -u |
+    while read -r name; do
+      [ "$(git grep --untracked -hwe "$name" | wc -l)" -gt 1 ] || echo "$name"
+    done | diff /dev/null -
 }
 
 # No line is longer than 120 columns, but of bytes.js, which build.sh makes.
@@ -36,6 +51,12 @@ chains() {
   awk '{ text = $0; gsub(/\047[^\047]*\047|\[\[[^]]* \]\]/, "", text) }
     text ~ /^ *([A-Za-z_=]+ |[(["{!])[^#]*&&( |$)/ && text !~ /^ *(if|elif|while) / { print FILENAME ":" FNR ": &&" }' \
     "$@" | diff /dev/null -
+}
+
+# No command does nothing, and no condition is constant. What may fail, before '|| true', is a part of a line.
+idle() {
+  awk '/^ *(true|:)$|\|\| (true|:)( [^)}]|$)|^ *((el)?if|while) (! )?(true [&|]|false)|^ *for [a-z]+ in ?;/ {
+    print FILENAME ":" FNR ": it does nothing" }' "$@" | diff /dev/null -
 }
 
 # Each function of a shell script is named in another line of one.
@@ -70,18 +91,21 @@ export MYPY_CACHE_DIR=$work/mypy
 
 # shellcheck disable=SC2086 # no path has a blank
 {
-  try "each script is in a list" are_known
-  try "what scripts do after a failure" diff /dev/null <(comm -23 <(echo "$shell") \
-    <(printf '%s\n' $ending $others | sort -u))
+  try_linter are_known unknown "> " "" $named
+  try_linter are_ending going_on.sh going_on.sh "" $shell
+  try_linter are_commands unnamed.sh "> gcd" "needs\x3dgcd try a true" $shell
+  try "those without types are tests" diff <(comm -23 <(echo "$python") <(echo "$typed") | sed 's,[^/]*$,,' | sort -u) \
+    <(echo bindings/python/tests/)
   try_linter short bindings/js/long.js "long.js:1" "$(printf '%121s' .)" $shell $python $javascript
   try_linter are_run unused.sh "unused is not run" "# unused\nunused() { true; }" $shell
   try_linter chains chain.bash chain.bash:3 'set -e\nf() {\n  false && true\n  true\n}' $ending
+  try_linter idle idle.sh idle.sh:1 "false || true" $shell
   needs=shellcheck try_linter "shellcheck -x -o check-set-e-suppressed" cd.sh SC2310 \
     "#!/bin/bash\nset -e\nf() { cd /tmp; }\nf || exit" $shell
   needs=black try_linter "black --check --line-length 120" layout.py "would reformat" "number  =  1" $python
   needs=pyflakes3 try_linter pyflakes3 unused.py "imported but unused" "import os" $python
-  needs=mypy try_linter "mypy --strict --scripts-are-modules --ignore-missing-imports" untyped.py \
-    "missing a type annotation" "def same(number): return number" $typed
+  needs=mypy try_linter "mypy --strict --warn-unreachable --scripts-are-modules --ignore-missing-imports" \
+    untyped.py "missing a type annotation" "def same(number): return number" $typed
   needs=tsc try_linter names unused.js TS6133 "export {};\nconst number = 1;" $javascript
   echo "export {}; missing();" > "$work/missing.js"
   needs=tsc try "names rejects a name that is not there" rejects TS2304 names "$work/missing.js"
