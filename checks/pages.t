@@ -29,7 +29,7 @@ def results() -> Iterator[tap.Result]:
     with mock.patch.object(pages, "read", lambda path: "tools/" + "none" if path == ".ci/run" else ""):
         yield tap.planted("a path that a script names", pages.path_errors(texts), ".ci/run: there is no tools/")
     for name, path, old, new in edits.rows(LIB / "pages.edits"):
-        changed = {**texts, path: texts[path].replace(old, new, 1)}
+        changed = {**texts, path: texts[path].replace(old, new)}
         yield tap.planted(f"{name}: {path} > {old} > {new}", CHECKS[name](changed), path)
 
 
