@@ -86,8 +86,9 @@ def error_of(files: Files) -> str:
     return "\n".join([*binding_errors(files, crate), *header_errors(files[HEADER], crate)])
 
 
-def program_error(number: str, day: str) -> str:
-    """Returns what is wrong with a version of a day that tools/version.py writes, in a copy of its files."""
+def program_error(number: str, day: str, wanted: str) -> str:
+    """Returns what is wrong with a version of a day that tools/version.py writes, in a copy of its files: it has to be
+    released as it is wanted."""
     texts = version.read()
     with tempfile.TemporaryDirectory() as folder:
         top = Path(folder)
@@ -98,11 +99,9 @@ def program_error(number: str, day: str) -> str:
         tool = shutil.copy(version.__file__, top / "tools")
         commands: list[list[str]] = [[number, day], ["--check"], []]
         for words in commands:
-            ran = subprocess.run([sys.executable, tool, *words], capture_output=True, text=True)
-            if ran.returncode:
-                return f"{words}: {ran.stderr}"
-        released = f"\n{number} ({day})\n" in (top / version.CHANGES).read_text("utf-8")
-        return "" if released and ran.stdout == number + "\n" else f"not released that day, or not {ran.stdout}"
+            printed = subprocess.check_output([sys.executable, tool, *words], text=True)
+        released = f"\n{wanted}\n" in (top / version.CHANGES).read_text("utf-8")
+        return "" if released and printed == number + "\n" else f"not released that day, or not {printed}"
 
 
 def versions() -> Iterator[tap.Result]:
@@ -113,7 +112,9 @@ def versions() -> Iterator[tap.Result]:
         texts = {**later, version.CHANGES: version.PENDING + later[version.CHANGES]}
         later = version.written(texts, number, day)
         yield f"a later version, {number}", "\n".join(version.errors(later))
-    yield "a version that the program writes", program_error("99.9.0", "2099-01-01")
+    words = ("99.9.0", "2099-01-01")
+    yield "a version that the program writes", program_error(*words, "99.9.0 (2099-01-01)")
+    yield tap.planted("another day", [program_error(*words, "99.9.0 (2099-01-02)")], "not released")
     for path in later:
         yield tap.planted(
             f"another version: {path}", version.errors({**later, path: texts[path]}), number.split(".")[1]

@@ -98,9 +98,9 @@ def shown() -> Iterator[tuple[str, str, str]]:
     yield "1603aAbBCc\n", "", "code 22\nsize 3\ndigest aabbcc\n0"
     yield "0000", "", "code 0\nsize 0\ndigest -\n0"
     # texts that mh_show rejects, which Python's tests read too
-    for line in (LIB / "not_shown.txt").read_text("utf-8").splitlines()[1:]:
-        text, _, reason = line.replace("\\n", "\n").replace("\\r", "\r").partition("|")
-        yield text, "", f"mh_show: {reason}\n1"
+    lines = (LIB / "not_shown.txt").read_text("utf-8").splitlines()[1:]
+    rows = (line.replace("\\n", "\n").replace("\\r", "\r").partition("|") for line in lines)
+    yield from ((text, "", f"mh_show: {reason}\n1") for text, _, reason in rows)
     yield 65536 * "0", "", "mh_show: Invalid multihash size 32766.\n1"
     yield from STREAMS
 
@@ -109,7 +109,8 @@ def results(folder: str) -> Iterator[tap.Result]:
     yield tap.planted("an end of a line", [error_of("digest -", "digest -\n")], "it writes")
     columns = {f"wrong results, column {column}" for columns in CALLS.values() for column in columns}
     yield "each column is tried", ", ".join(sorted(columns - {name for name, *_ in lists()}))
-    vectors, mh_show = tap.program("vectors"), tap.program("mh_show")
+    vectors = tap.program("vectors")
+    mh_show = tap.program("mh_show")
     for name, lines, wanted in lists():
         Path(folder, "verdicts.tsv").write_text("".join(f"{line}\n" for line in lines).replace("|", "\t"), "utf-8")
         yield f"vectors: {name}", error_of(written(vectors, "", "", folder), wanted)
