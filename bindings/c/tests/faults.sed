@@ -13,7 +13,7 @@ s/== 0 ? 0/== 1 ? 0/
 s/w2c_multihash_version(.*)/& + 1/
 s/status_text(&\w*, RESULT, \w*/& + 1/
 /^multihash_encoded multihash_put_status_text/,/^}/s/encoded(&call)/(multihash_encoded){MULTIHASH_OK, 0, 0}/
-/^multihash_encoded multihash_encode/,/^}/s/return encoded(&call);/multihash_encoded made = encoded(\&call); if (made.length < out_length) out[made.length] = 0; return made;/
+/^multihash_encoded multihash_encode(/,/^}/s/return encoded(&call);/multihash_encoded made = encoded(\&call); if (made.length < out_length) out[made.length] = 0; return made;/
 s/from_prefix(&.*, \w*/& + 1/
 s/read_limit(&.*, \w*/& + 1/
 s/> \w*->limit/> 255/
