@@ -17,7 +17,7 @@ function hasher(name, code, algorithm) {
 
 async function digestOf(algorithm, bytes) {
   checkedLength(bytes);
-  return algorithm === '' ? bytes : new Uint8Array(await crypto.subtle.digest(algorithm, bytes));
+  return algorithm === '' ? new Uint8Array(bytes) : new Uint8Array(await crypto.subtle.digest(algorithm, bytes));
 }
 
 export const identity = hasher('identity', 0, '');
@@ -32,7 +32,8 @@ Object.freeze(NAMES);
  * depend on their bytes.
  */
 export async function verify(multihash, bytes) {
-  const { code, digest } = multihash instanceof Multihash ? multihash : decode(multihash);
+  const isMultihash = multihash instanceof Multihash;
+  const { code, digest } = isMultihash ? Multihash.of(multihash.code, multihash.digest) : decode(multihash);
   if (!(code in algorithms)) throw new RangeError(`no function here has the code 0x${code.toString(16)}`);
   const wanted = await digestOf(algorithms[code], bytes);
   let difference = digest.length ^ wanted.length;
