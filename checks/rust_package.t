@@ -75,7 +75,7 @@ rust_serde() {
   local example=$work/rust/multihash/examples
   mkdir "$example"
   cp bindings/rust/tests/bytes.rs "$example"
-  prints "got a byte array" in_crate cargo run --features serde --example bytes
+  prints "got a byte array" in_crate cargo run --features serde-codec --example bytes
   rm -r "$example"
   prints_all "multihash" cargo tree -e no-dev,features --no-default-features
   prints_all "multihash\n└── serde" cargo tree -e normal,features --features serde-codec

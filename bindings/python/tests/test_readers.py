@@ -99,6 +99,7 @@ class Readers(unittest.TestCase):
 
     def test_failing_files(self):
         """After an error of a file, which loses bytes if it is buffered, nothing more is read from it."""
+        self.assertRaises(TimeoutError, vm.read_from, turns(b"\1\3", TimeoutError))
         for kind in self.readers:
             for last, error in ((TimeoutError, TimeoutError), (b"ab", ValueError), ("a", TypeError)):
                 reader = kind(turns(b"\1\3", b"ab", last))
