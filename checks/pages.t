@@ -1,6 +1,6 @@
 #!/usr/bin/env python3
 """Compares the pages with the sources: docs/CONTRACTS.md, links, paths, names, codes, versions and limits, what blocks
-and tables show. What a page says in its own words is not compared.
+and tables show, and packages with one another. What a page says in its own words is not compared.
 
 A link that leads nowhere is planted in each page, and for each comparison a difference of pages.edits.
 """
@@ -29,7 +29,7 @@ def results() -> Iterator[tap.Result]:
     with mock.patch.object(pages, "read", lambda path: "tools/" + "none" if path == ".ci/run" else ""):
         yield tap.planted("a path that a script names", pages.path_errors(texts), ".ci/run: there is no tools/")
     for name, path, old, new in edits.rows(LIB / "pages.edits"):
-        changed = {**texts, path: texts[path].replace(old, new)}
+        changed = {**texts, path: (texts.get(path) or pages.read(path)).replace(old, new)}
         yield tap.planted(f"{name}: {path} > {old} > {new}", CHECKS[name](changed), path)
 
 

@@ -10,14 +10,15 @@ from start import FENCE, TOP
 sys.path.append(str(TOP / "crates" / "vectors"))
 import verdicts
 
+CARGO, NPM = f"{RUST}/Cargo.toml", "bindings/js/package.json"
 README, CORE, RULES = "README.md", "bindings/js/core.js", verdicts.RULES
 # a version or a limit as pages state it, and where it is from
 STATED = (
-    (r"Rust (\d[\d.]*\d)", f"{RUST}/Cargo.toml", r'rust-version = "(.*)"'),
+    (r"Rust (\d[\d.]*\d)", CARGO, r'rust-version = "(.*)"'),
     (r"CMake (\d[\d.]*\d)", "CMakeLists.txt", r"cmake_minimum_required\(VERSION (.*)\)"),
     (r"(?<!In )CPython (\d\.\d+)", "bindings/python/pyproject.toml", r'requires-python = ">=(.*)"'),
-    (r"Node\.js (\d+\.\d+)", "bindings/js/package.json", r'"node": ">=(.*)"'),
-    (r"`multihash` (\d[\d.]*\d)", f"{RUST}/Cargo.toml", r'\nversion = "(.*)"'),
+    (r"Node\.js (\d+\.\d+)", NPM, r'"node": ">=(.*)"'),
+    (r"`multihash` (\d[\d.]*\d)", CARGO, r'\nversion = "(.*)"'),
     (r"`(rattle-kit-[^`]*)`", "tools/makers", r"(?m)^kit=(.*)"),
     (r"logic `([^`]*)`", "tools/makers", r"(?m)^logic=(.*)"),
     (r"WABT (\d[\d.]*\d)", "tools/makers", r"(?m)^wabt=(.*)"),
@@ -26,6 +27,23 @@ STATED = (
     (r"\| both varints together \| 2 to (\d+)", HEADER, r"MULTIHASH_HEAD_MAX (\d+)"),
     (r"\| a SCALE encoding \| 9 to (\d+)", HEADER, r"MULTIHASH_SCALE_LENGTH_MAX (\d+)"),
 )
+
+# what packages state as the first file does: the licence, its owner, the address
+ALIKE = (
+    (r'(?:^|license\w*\W+)(\w+)(?: License$|")', "LICENSE", CARGO, NPM, "bindings/python/setup.py", "tools/sbom.py"),
+    (r'(?:Copyright .*\d{4} |author.*[:=] ")([^"\n]*)', "LICENSE", NPM, "bindings/python/pyproject.toml"),
+    (r"^(?:URL|Homepage): (.*)", "bindings/c/multihash_c.pc.in", "bindings/c/debian/control"),
+)
+
+
+def package_errors(texts: Texts) -> Iterator[str]:
+    """Compares what packages state of themselves."""
+    for form, first, *others in ALIKE:
+        [wanted, *_] = re.findall(form, read(first), re.M)
+        for path in others:
+            lines = enumerate((texts.get(path) or read(path)).splitlines(), 1)
+            found = [(at, value) for at, line in lines for value in re.findall(form, line)] or [(1, "")]
+            yield from (f"{path}:{at}: {value!r}, {first} has {wanted!r}" for at, value in found if value != wanted)
 
 
 def stated_errors(texts: Texts) -> Iterator[str]:
