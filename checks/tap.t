@@ -42,6 +42,8 @@ lint="lint() { ! grep bad \"\$@\"; }; try_linter lint a/b bad 'a\nbad' /dev/null
 tries "ok 1 - lint\nok 2 - lint rejects a planted file\n1..2\nstatus 0" "$lint .ci/run"
 tries "not ok 1 - lint\nok 2 - lint rejects a planted file\n1..2\nstatus 1" "$lint checks/tap.t"
 tries "ok 1 - ls\nnot ok 2 - ls rejects a planted file\n1..2\nstatus 1" "try_linter 'ls -d' a a bad /dev/null"
+tries "ok 1 - a\nnot ok 2 - b\nnot ok 3 - c\n1..3\nstatus 1" "cp -r .ci got; try a has_all_but none .ci got
+  try b has_all_but run .ci got; try c has_all_but none .ci checks"
 # what fails in the middle, where bash by itself goes on
 # shellcheck disable=SC2016 # the check expands it
 while read -r text; do

@@ -80,6 +80,7 @@ packed_script() {
   cd "$at"
   node script.mjs > out 2> err
   cmp "$top/LICENSE" node_modules/verified-multihash/LICENSE
+  has_all_but '^tests/|\.sh$|^beside_plain' "$here" node_modules/verified-multihash
   diff out "$top/crates/mh_show/stdout"
   grep -x 'invalid_size 34' err
   node --no-warnings --input-type=commonjs -e "

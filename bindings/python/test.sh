@@ -69,7 +69,7 @@ unit_tests() {
   grep '^Ran [1-9]' "$work/tested"
 }
 
-# What a wheel installs beside the package has the licence of the repository, and states it.
+# A wheel installs the package and, beside it, the licence of the repository, which it states.
 has_licence() {
   diff LICENSE "$(find "$1" -name LICENSE)"
   sed -nE 's/^License(-Expression)?: //p' "$1/METADATA" | diff - <(echo MIT)
@@ -77,6 +77,8 @@ has_licence() {
 licences() {
   local installed
   installed=$(echo "$work"/venv/lib/python3*/site-packages/verified_multihash-*.dist-info)
+  has_all_but '\.[ch]$' "$here/src" "${installed%/*}"
+  awk -F, '$1 !~ /^verified_multihash[/-]/' "$installed/RECORD" | diff /dev/null - # no file elsewhere
   rejects_edits "$installed" has_licence "$work/planted" << 'END'
 No such file|find . -name LICENSE -delete
 < Other|sed -i '/^License/s/MIT/Other/' METADATA
@@ -116,6 +118,7 @@ sdist() {
   touch "$work/above/folder/c/prebuilt/$(uname -m)/libmultihash_c.a" "$work/above/LICENSE"
   imports "$work/above/folder/sdist"
   cmp "$here/../../LICENSE" "$work/sdist/LICENSE"
+  has_all_but '\.sh$|^beside_plain' "$here" "$work/sdist"
   unit_tests "$work/sdist/tests" -u MULTIHASH_VERDICTS
 }
 

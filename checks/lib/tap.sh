@@ -144,5 +144,11 @@ sees_faults() {
   [ $tried = 1 ]
 }
 
+# Of the files that Git has in a folder, another one has all but those whose paths match.
+has_all_but() {
+  git -C "$2" ls-files | sort > "$work/listed"
+  find "$3" -type f -printf '%P\n' | sort | comm -12 "$work/listed" - | diff <(grep -vE "$1" "$work/listed") -
+}
+
 # The first block of a page in a language.
 block_of() { awk -v fence="\`\`\`$2" '$0 == fence { on = 1; next } on && /^```/ { exit } on' "$1"; }
