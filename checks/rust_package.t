@@ -52,6 +52,8 @@ rust_packed() {
   mkdir "$packed"
   tar xf "$work"/target/package/multihash-*.crate -C "$packed" --strip-components 1
   cmp LICENSE "$packed/LICENSE"
+  has_all_but '^$' bindings/rust/multihash "$packed"
+  rejects "cannot be published" in_crate cargo publish --dry-run # under the name of upstream's
   [ ! -e "$packed/src/old.rs" ]
   echo '[workspace]' >> "$packed/Cargo.toml"
   tests cargo test --manifest-path "$packed/Cargo.toml"
@@ -78,6 +80,7 @@ rust_serde() {
   prints "got a byte array" in_crate cargo run --features serde-codec --example bytes
   rm -r "$example"
   prints_all "multihash" cargo tree -e no-dev,features --no-default-features
+  prints_all "multihash" cargo tree -e no-dev
   prints_all "multihash\n└── serde" cargo tree -e normal,features --features serde-codec
   in_crate cargo build --no-default-features --features serde-codec
 }
