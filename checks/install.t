@@ -49,7 +49,8 @@ debug_build() {
 # The package works where it was unpacked: also of another archive, which was changed after a build, and with other
 # folders of each kind. Paths on the command line may be relative ones.
 packs() {
-  local name archive=$work/own.a
+  local name archive=$work/own.a packed
+  packed=multihash_c-$version-$(uname -m).tar.gz
   cp "$prefix/lib/libmultihash_c.a" "$archive"
   cp "$(type -P true)" "$work/program"
   (cd "$work"; build other -DMULTIHASH_C_ARCHIVE=own.a -DBUILD_SHARED_LIBS=ON -DMULTIHASH_C_PROGRAM=program \
@@ -60,7 +61,8 @@ packs() {
   for name in built other; do
     mkdir "$work/un packed $name"
     (cd "$work/$name"; cpack -B "$work/$name/packed")
-    tar xf "$work/$name/packed/multihash_c-$version-$(uname -m).tar.gz" -C "$work/un packed $name" --strip-components=1
+    find "$work/$name/packed" -maxdepth 1 -type f -printf '%f\n' | diff - <(echo "$packed")
+    tar xf "$work/$name/packed/$packed" -C "$work/un packed $name" --strip-components=1
   done
   mv "$prefix" "$work/moved"
   works "$work/un packed built" lib
@@ -118,9 +120,7 @@ man_pages() {
     awk 'NR == FNR { page = $0; next } !index(page, $0)' <(tr -s ' \n' ' ' < "$work/page") - | diff /dev/null -
 }
 
-# Debian's packages have the pages, so Python is there when they are built.
 pages() {
-  grep -wE '^Build-Depends:.* python3' "$c/debian/control"
   rejects_edits "$prefix/share/man" man_pages << END
 > |python3 <(sed 's/(words)/&[9:]/' "$c/man.py") "$header" "$top/CHANGES" man3
 unknown macro|echo .Zz >> man3/multihash.3

@@ -25,8 +25,10 @@ has_packages() {
   dpkg-deb -f "$file" Depends | diff - <(echo "libmultihash-c$major (= $version-1)")
   has_modes "$root"
   has_shared_library "$root/usr/$lib/libmultihash_c.so"
+  ar t "$root/usr/$lib/libmultihash_c.a" | diff - <(ar t "bindings/c/prebuilt/${3%%-*}/libmultihash_c.a")
   dpkg-deb -I "${file/-dev/$major}" symbols | sed '/^ MULTIHASH_C/d' |
     diff - <(echo "libmultihash_c.so.$major libmultihash-c$major #MINVER#"
+      echo "* Build-Depends-Package: libmultihash-c-dev"
       sed -E 's/(.*)@@MULTIHASH_C_(.*)/ \1@MULTIHASH_C_\2 \2.0/' "$work/versions")
 }
 
