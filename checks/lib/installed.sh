@@ -11,6 +11,7 @@ expected=$top/crates/mh_show/stdout
 include=include document=share/doc/multihash_c man=share/man
 umask 022
 unset "${!CMAKE_@}"
+export CXX=none # CMake needs no compiler for C++
 
 # Builds in a folder of that name, with options of CMake. All tests pass, of both libraries.
 build() {
