@@ -79,13 +79,16 @@ from bindings/c/prebuilt/aarch64|sed -i 's/\(Element": ".*\)aarch64/\1x86-64/' *
 END
 }
 
-# The source is the last commit, but for what tools/owner states.
+# The source is the last commit, but for what tools/owner states, of which nothing is empty.
 is_source() {
-  mkdir "$work"/{source,unpacked}
-  git archive HEAD | tar -x -C "$work/source"
+  mkdir "$work/unpacked"
+  git clone -q . "$work/source"
   tar -xf "$work/release/multihash-$version.tar.gz" -C "$work/unpacked"
-  rejects_edits "$work/unpacked/multihash-$version" diff -r -I '^Maintainer:' -I '^Homepage:' -I '^ -- ' -I repository \
-    "$work/source" "$work/planted" <<< "/README.md|echo >> README.md"
+  rejects_edits "$work/unpacked/multihash-$version" diff -r -x .git -I '^\(Maintainer\|Homepage\|URL\): .' \
+    -I '^ -- .* <' -I 'repository"\? \?[:=] ".\+"' "$work/source" "$work/planted" << 'END'
+/README.md|echo >> README.md
+> repository = ""|sed -i 's/^license = .*/&\nrepository = ""/' bindings/rust/multihash/Cargo.toml
+END
 }
 
 # What an owner states is in the packages.
@@ -103,6 +106,8 @@ has_owner() {
   dpkg-deb --fsys-tarfile "libmultihash-c${major}_$version-1_amd64.deb" |
     tar -xO "./usr/share/doc/libmultihash-c$major/changelog.Debian.gz" | zcat |
     grep '^ -- A Tester <tester@forge.example>  '
+  tar -xOf "multihash_c-$version-x86_64.tar.gz" "multihash_c-$version-x86_64/lib/pkgconfig/multihash_c.pc" |
+    grep '^URL: https://forge.example/'
   tar -xOf "verified-multihash-$version.tgz" package/package.json |
     grep '"repository": "https://forge.example/multihash"'
   tar -xOf "multihash-$upstream.crate" "multihash-$upstream/Cargo.toml" |
