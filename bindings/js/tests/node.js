@@ -95,7 +95,9 @@ function declared(module, which) {
     same(`${Object.keys(found).sort()}`, `${[...names, ...more].sort()}`, `the names that ${file} has`);
     for (const [, name, value] of stated) if (value) same(found[name], Number(value), name);
   }
-  const { version, sideEffects } = JSON.parse(bytesOf('package.json'));
+  const { version, sideEffects, exports } = JSON.parse(bytesOf('package.json'));
+  for (const { types, default: code } of Object.values(exports))
+    same(types, code?.replace(/js$/, 'd.ts'), 'types in package.json');
   same(module.version, version, 'the version');
   same(sideEffects.includes(`./${which}.js`), which !== 'module', `sideEffects: ${which}.js`);
 }
