@@ -144,14 +144,16 @@ other_version() {
 }
 
 # The folder of an earlier build takes the archive of its machine, but not on other systems, which have other options,
-# or with 32 bits. One that differs, or is another machine's, is not installed.
+# or with 32 bits. One that differs, or is another machine's, is not installed. The ABI is that of the oldest CPython.
 altered_archive() {
-  local system bits options
+  local system bits options abi
   cd "$clone/bindings/python"
+  abi=$(sed -n 's/^requires-python = ">=3\.\(.*\)"/\1/p' pyproject.toml | xargs printf %02x)
   while read -r system bits options; do
     CC=echo LDSHARED=echo _PYTHON_HOST_PLATFORM=$system "$python" -c "import sys; sys.maxsize >>= 64 - $bits
 sys.argv[1:] = ['build_ext']; exec(open('setup.py').read())" |
-      sed -nE '/^echo .*(multihash\.o|_c\.a)/s/.*(multihash\.o|abi3\.so)//p' | xargs | diff - <(echo "$options")
+      sed -nE -e "/^echo .* -c .*core\.c/{/ -DPy_LIMITED_API=0x03${abi}0000 /!p}" \
+        -e '/^echo .*(multihash\.o|_c\.a)/s/.*(multihash\.o|abi3\.so)//p' | xargs | diff - <(echo "$options")
   done << END
 win-amd64 64 /std:c11
 other-$(uname -m) 64 -std=c11 -fvisibility=hidden
