@@ -47,7 +47,7 @@ debug_build() {
 }
 
 # The package works where it was unpacked: also of another archive, which was changed after a build, and with other
-# folders of each kind. Paths on the command line may be relative ones.
+# folders of each kind. No other file is made. Paths on the command line may be relative ones.
 packs() {
   local name archive=$work/own.a packed
   packed=multihash_c-$version-$(uname -m).tar.gz
@@ -89,7 +89,7 @@ END
 }
 
 # The test of what pkg-config finds, without it, and of a copy whose library is gone while the linker finds another,
-# or whose header does not fit it.
+# whose examples print something else, or whose header does not fit it.
 planted_test() {
   local -x LIBRARY_PATH=$prefix/lib
   local test=$prefix/$document/examples/test.sh
@@ -98,6 +98,8 @@ planted_test() {
   PKG_CONFIG=none rejects '0 passed' "$test" "$prefix"
   rejects_edits "$work/un packed built" "$work/planted/$document/examples/test.sh" "$work/planted" << 'END'
 failed: static: show.c builds|rm lib/libmultihash_c.a
+failed: static: the example is decoded|sed -i 's/printf("/&+/' $document/examples/show.c
+failed: static: two multihashes are read|sed -i 's/printf("/&+/' $document/examples/stream.c
 failed: static: a non-minimal varint|sed -i 's/MULTIHASH_NOT_MINIMAL = 3/MULTIHASH_NOT_MINIMAL = 9/' include/multihash.h
 END
 }
