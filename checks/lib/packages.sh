@@ -101,22 +101,26 @@ has_relations() {
 for each in json.load(sys.stdin)["packages"][0]["dependencies"]:
     kind = "OPTIONAL_" if each["optional"] else {"dev": "TEST_", "build": "BUILD_"}.get(each["kind"], "")
     print(each["name"], kind + "DEPENDENCY_OF", sys.argv[1])' "multihash-$upstream.crate" > "$work/wanted"
-  printf '%s BUILD_TOOL_OF %s\n' "$kit" bindings/c/prebuilt/aarch64/libmultihash_c.a "$kit" \
-    bindings/c/prebuilt/x86_64/libmultihash_c.a "$kit" bindings/c/src/module.h "$kit" bindings/js/multihash.wasm \
-    wabt bindings/c/src/module.h binaryen bindings/js/multihash.wasm >> "$work/wanted"
+  printf '%s BUILD_TOOL_OF %s\n' "$kit $logic" bindings/c/prebuilt/aarch64/libmultihash_c.a "$kit $logic" \
+    bindings/c/prebuilt/x86_64/libmultihash_c.a "$kit $logic" bindings/c/src/module.h "$kit $logic" \
+    bindings/js/multihash.wasm "wabt $wabt" bindings/c/src/module.h "binaryen $binaryen" bindings/js/multihash.wasm \
+    >> "$work/wanted"
   python3 - "$1/multihash-$version.spdx.json" << 'END' | sort | diff <(sort "$work/wanted") -
 import json, sys
 bill = json.load(open(sys.argv[1]))
 names = {each["SPDXID"]: each["name"] for each in bill["packages"]}
+versions = {each["name"]: each["versionInfo"] for each in bill["packages"]}
 for each in bill["relationships"]:
     left, kind, right = names.get(each["spdxElementId"]), each["relationshipType"], names[each["relatedSpdxElement"]]
-    if kind.endswith("DEPENDENCY_OF") or kind == "BUILD_TOOL_OF" and "/" in right:
+    if kind.endswith("DEPENDENCY_OF"):
         print(left, kind, right)
+    elif kind == "BUILD_TOOL_OF" and "/" in right:
+        print(left, versions[left], kind, right)
 END
 }
 planted_relations() {
-  rejects_edits "$work/release" has_relations "$work/planted" << 'END'
+  rejects_edits "$work/release" has_relations "$work/planted" << END
 > serde DEPENDENCY_OF|sed -i s/OPTIONAL_// *.json
-> wabt BUILD_TOOL_OF bindings/js/|sed -i 's/"wabt"/"more"/; s/"binaryen"/"wabt"/' *.json
+> wabt $binaryen BUILD_TOOL_OF bindings/js/|sed -i 's/"wabt"/"more"/; s/"binaryen"/"wabt"/' *.json
 END
 }
