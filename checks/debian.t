@@ -29,7 +29,7 @@ END
 }
 
 ONLY='' try "building packages" build_packages
-try "warnings of them" lintian --allow-root --display-info --fail-on info \
+try "warnings of them" lintian --allow-root --fail-on warning \
   --suppress-tags initial-upload-closes-no-bugs "$work"/debian/*.changes
 ONLY='' try "packages for amd64" packages
 needs=qemu-x86_64 try "a program by the packages for amd64" try_packages amd64 x86_64-linux-gnu cc qemu-x86_64
