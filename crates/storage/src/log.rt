@@ -1,12 +1,14 @@
 //! A log of blocks: each entry is a multihash, the varint of the block's length, and the block.
-ghost use Rattle.std.specs.Prelude.{◌≡◌, ◌≤◌, ℕ, List, ◌++◌, Some, length, IfOk, IfErr, OnOk, OnErr, MatchResult, IfSome, IfNone};
+ghost use Rattle.std.specs.Prelude.{◌≡◌, ◌≤◌, ℕ, List, ◌++◌, Some, length, IfOk, IfErr, OnOk, OnErr, MatchResult};
+ghost use Rattle.std.specs.Prelude.{IfSome, IfNone, IsSomeAnd};
 ghost use Rattle.multihash.specs.Pair.{Pair, FitsBuffer};
 ghost use Rattle.multihash.specs.Multihash.{pair_of};
-ghost use Rattle.multihash.specs.Reading.{Consumes};
+ghost use Rattle.multihash.specs.Reading.{Consumes, EndsInNone};
+ghost use Rattle.multihash.specs.Consuming.{ConsumesSome};
 ghost use Rattle.multihash.specs.Writing.{AppendsPrefix, CountsWriterFailures};
 ghost use Rattle.multihash.specs.Refusal.{IsIo, IsOutOfMemory};
 ghost use Rattle.storage.specs.Log.{IsEntry, EntryFails, HasEntry, IsValidPrefix};
-ghost use Rattle.frame.specs.Frame.{IsFailed};
+ghost use Rattle.frame.specs.Frame.{IsFramed, IsFailed, FrameFails};
 ghost use Rattle.storage.specs.Content.{content_pair};
 
 use crate::content::hash_of;
@@ -80,6 +82,35 @@ pub fn read_entry<const S: usize, R: Read>(
     let hash = Multihash::read(r)?;
     let block = frame::read(alloc, r, limit)?;
     Ok(Entry { hash, block })
+}
+
+/// Reads a block that has no multihash before it, and returns its multihash, or `None` if the input ended
+/// before the block.
+///
+/// # Errors
+///
+/// Those of [`frame::read_next`], with what it consumed.
+pub fn hash_next<R: Read>(
+    alloc: Global,
+    r: &mut R,
+    limit: usize,
+) -> Result<Option<Multihash<32>>, EntryError>
+    ensures ok { IfOk result (λ next. IfSome next (λ hash. (block : List ℕ) × (length block ≤ limit)
+        × (pair_of hash ≡ content_pair block)
+        × ConsumesSome (IsFramed block) (R.rest r.old) (R.rest r.new))) }
+    ensures unfailed { OnOk result (R.failures r.new ≡ R.failures r.old) }
+    ensures end { EndsInNone (R.rest r.old) (R.rest r.new) (R.failures r.old) (R.failures r.new) result }
+    ensures err { IfErr result (λ e. FrameFails limit (R.failures r.old) (R.failures r.new) e
+        (R.rest r.old) (R.rest r.new)) }
+    ensures found { (block bytes more : List ℕ) → IsFramed block bytes → length block ≤ limit →
+        R.rest r.old ≡ Some (bytes ++ more) → R.failures r.new ≡ R.failures r.old → MatchResult result
+        (λ next. IsSomeAnd next (λ hash. pair_of hash ≡ content_pair block) × (R.rest r.new ≡ Some more))
+        (IsFailed IsOutOfMemory) }
+{
+    match frame::read_next(alloc, r, limit)? {
+        Some(block) => Ok(Some(hash_of(block.as_slice()))),
+        None => Ok(None),
+    }
 }
 
 // The bytes after the entry at the front, if there is one whose multihash is its block's.
