@@ -1,5 +1,5 @@
 //! Callers over any reader, which conclude how often it failed and what it has left.
-ghost use Rattle.std.specs.Prelude.{◌≡◌, ◌<◌, ◌≤◌, ◌⊎◌, List, length, map, vec_capacity, IfOk, IfErr};
+ghost use Rattle.std.specs.Prelude.{◌≡◌, ◌<◌, ◌≤◌, ◌⊎◌, List, length, map, vec_capacity, IfOk, IfErr, IsOk};
 ghost use Rattle.std.specs.Io.KnownBytes.{IsAtEnd};
 ghost use Rattle.multihash.specs.Pair.{Pair};
 ghost use Rattle.multihash.specs.Refusal.{IsOutOfMemory};
@@ -14,7 +14,7 @@ use std::alloc::Global;
 ///
 /// # Errors
 ///
-/// Those of [`list::read_list`].
+/// Those of [`list::read_list`]; none for a `count` of 0.
 pub fn read_tight<const S: usize, R: Read>(
     alloc: Global,
     r: &mut R,
@@ -22,6 +22,7 @@ pub fn read_tight<const S: usize, R: Read>(
 ) -> Result<Vec<Multihash<S>>, Error>
     ensures ok { IfOk result (λ list. (length list.items ≡ count) × (vec_capacity list ≡ length list.items)
         × ConsumesPairs S (map pair_of list.items) (R.rest r.old) (R.rest r.new)) }
+    ensures none { count ≡ 0 → IsOk result }
     ensures err { IfErr result (λ e.
         (IsOutOfMemory e × (R.failures r.new ≡ R.failures r.old) × (R.rest r.new ≡ R.rest r.old))
         ⊎ StopsAfterPairs S count e (R.failures r.old) (R.failures r.new) (R.rest r.old) (R.rest r.new)) }

@@ -3,6 +3,7 @@
 
 pub mod any_reader;
 pub mod byte_count;
+pub mod capacities;
 pub mod code_table;
 pub mod content_id;
 pub mod forms;
