@@ -29,11 +29,12 @@ passes() { build_and_run "$2" "$3" "${@:4}" "${c_flags[@]}" -I "$1" "$1/multihas
 # they need are two functions, and what linkers make. Generated code has two warnings, which only that mode does not
 # leave out by itself.
 freestanding() {
-  local target
-  for target in arm64-apple-macos11 x86_64-pc-windows-msvc wasm32-unknown-unknown thumbv7em-none-eabi \
-    riscv32-unknown-elf; do
-    clang --target=$target -ffreestanding -nostdlibinc "${c_flags[@]}" -Wno-conversion -Wno-unused-parameter \
-      -O2 -c "$tree/multihash.c" -o "$work/free.o"
+  local target flags
+  for target in arm64-apple-macos11 wasm32-unknown-unknown thumbv7em-none-eabi riscv32-unknown-elf \
+    x86_64-pc-windows-msvc; do
+    flags=("${c_flags[@]}")
+    [[ $target != *-msvc ]] || flags+=(-Wno-conversion -Wno-unused-parameter)
+    clang --target=$target -ffreestanding -nostdlibinc "${flags[@]}" -O2 -c "$tree/multihash.c" -o "$work/free.o"
     llvm-nm --undefined-only -j "$work/free.o" | sed -E 's/^_*//; /^stack_(chk_fail|chk_guard|pointer)$/d' | sort |
       diff <(printf '%s\n' memcpy memmove) -
   done
