@@ -32,8 +32,7 @@ Object.freeze(NAMES);
  * depend on their bytes.
  */
 export async function verify(multihash, bytes) {
-  const isMultihash = multihash instanceof Multihash;
-  const { code, digest } = isMultihash ? Multihash.of(multihash.code, multihash.digest) : decode(multihash);
+  const { code, digest } = multihash instanceof Multihash ? multihash : decode(multihash);
   if (!(code in algorithms)) throw new RangeError(`no function here has the code 0x${code.toString(16)}`);
   const wanted = await digestOf(algorithms[code], bytes);
   let difference = digest.length ^ wanted.length;
