@@ -38,22 +38,29 @@ static unsigned hash_stream(FILE *from, const EVP_MD *function, uint8_t *digest)
     return is_good ? length : 0;
 }
 
-int main(int count, char **words)
+/* Compares the content, on standard input, with a multihash. Returns the status of the program. */
+static int verify(const uint8_t *bytes, size_t length)
 {
-    long length = 0;
-    uint8_t *bytes = count == 2 ? OPENSSL_hexstr2buf(words[1], &length) : NULL;
-    if (bytes == NULL) return fprintf(stderr, "usage: verify HEX < CONTENT\n"), 2;
-    multihash_decoded found = multihash_from_bytes(bytes, (size_t)length);
+    multihash_decoded found = multihash_from_bytes(bytes, length);
     if (found.status != MULTIHASH_OK) return fprintf(stderr, "%s\n", multihash_status_text(found.status)), 2;
     EVP_MD *function = function_of(found.code);
     if (function == NULL) return fprintf(stderr, "no hash function has that code\n"), 2;
     uint8_t digest[EVP_MAX_MD_SIZE];
     unsigned size = hash_stream(stdin, function, digest);
+    EVP_MD_free(function);
     if (size == 0) return fprintf(stderr, "the content cannot be hashed\n"), 2;
     /* a truncated digest is not that of the content */
     int is_same = size == found.digest_length && CRYPTO_memcmp(digest, bytes + found.digest_offset, size) == 0;
-    EVP_MD_free(function);
-    OPENSSL_free(bytes);
     puts(is_same ? "the same" : "another content");
     return !is_same;
+}
+
+int main(int count, char **words)
+{
+    long length = 0;
+    uint8_t *bytes = count == 2 ? OPENSSL_hexstr2buf(words[1], &length) : NULL;
+    if (bytes == NULL) return fprintf(stderr, "usage: verify HEX < CONTENT\n"), 2;
+    int status = verify(bytes, (size_t)length);
+    OPENSSL_free(bytes);
+    return status;
 }
