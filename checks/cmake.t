@@ -40,6 +40,7 @@ machines() {
 builds_for_aarch64() {
   build arm -DCMAKE_TOOLCHAIN_FILE=bindings/c/aarch64.cmake
   has arm bindings/c/prebuilt/aarch64/libmultihash_c.a ON
+  prints "multihash_c-$version-aarch64.tar.gz generated" cpack --config "$work/arm/CPackConfig.cmake" -B "$work/packed"
 }
 
 # Wine keeps its files below the folder of this test; its server ends with it.

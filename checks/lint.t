@@ -34,7 +34,7 @@ are_ending() {
 # Each command that a check needs is in another line too: one of a wrong name would always leave the check out.
 are_commands() {
   local name
-  grep -hoE '(needs=|require )("[^"]*"|[^ ]+)' "$@" | tr -s '" =' '\n' | grep -xE '[A-Za-z][A-Za-z0-9_+-]*' | sort -u |
+  grep -hoE 'needs=("[^"]*"|[^ ]+)|require .*' "$@" | tr -s '" =' '\n' | grep -xE '[A-Za-z][A-Za-z0-9_+-]*' | sort -u |
     while read -r name; do
       [ "$(git grep --untracked -hwe "$name" | wc -l)" -gt 1 ] || echo "$name"
     done | diff /dev/null -

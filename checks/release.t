@@ -70,8 +70,9 @@ END
 # materials lacks a machine's library.
 planted_release() {
   rejects_edits "$work/release" has_files "$work/planted" << END
--rw-r--r-- 0/1|echo > a; tar --owner=0 --group=1 --mode=644 -czf a.tar.gz a
-disorder|mkdir a b; tar --owner=0 --group=0 --mode=755 -czf a.tar.gz b a
+-rw-r--r-- 0/1|echo > a; tar --owner=0 --group=1 --numeric-owner --mode=644 -czf a.tar.gz a
+-rw-r--r-- root/root|echo > a; tar --owner=root --group=root --mode=644 -czf a.tar.gz a
+disorder|mkdir a b; tar --owner=0 --group=0 --numeric-owner --mode=755 -czf a.tar.gz b a
 > more|touch more
 > more|touch more; sha256sum more >> SHA256SUMS
 multihash-$upstream.crate: FAILED|echo >> multihash-$upstream.crate

@@ -46,11 +46,11 @@ try_packages() {
   diff "$work/needed-$1" <(echo "-O2 libmultihash_c.so.$major")
 }
 
-# Archives have files of root, which all may read, in the order of their names.
+# Archives have files of the owner 0, without a name, which all may read, in the order of their names.
 are_plain() {
   local name
   for name in *.tar.gz; do
-    tar --numeric-owner -tvzf "$name" | awk '$1 !~ /^(-rw-r--r--|[dl-]rwxr-xr-x)$/ || $2 != "0/0"' | diff /dev/null -
+    tar -tvzf "$name" | awk '$1 !~ /^(-rw-r--r--|[dl-]rwxr-xr-x)$/ || $2 != "0/0"' | diff /dev/null -
     tar -tf "$name" | tr / '\1' | sort -c
   done
 }
