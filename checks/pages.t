@@ -27,10 +27,10 @@ def results() -> Iterator[tap.Result]:
         yield tap.planted(f"a link of {page}", pages.link_errors({**texts, page: f"{text}[none](none)\n"}), page)
     # a script, which is no page
     with mock.patch.object(pages, "read", lambda path: "tools/" + "none" if path == ".ci/run" else ""):
-        yield tap.planted("a path that a script names", pages.path_errors(texts), ".ci/run: there is no tools/")
-    for name, path, old, new in edits.rows(LIB / "pages.edits"):
+        yield tap.planted("a path that a script names", pages.path_errors(texts), ".ci/run:1: there is no tools/")
+    for at, (name, path, old, new) in enumerate(edits.rows(LIB / "pages.edits"), 2):
         changed = {**texts, path: (texts.get(path) or pages.read(path)).replace(old, new)}
-        yield tap.planted(f"{name}: {path} > {old} > {new}", CHECKS[name](changed), path)
+        yield tap.planted(f"pages.edits:{at}: {name}: {path} > {old} > {new}", CHECKS[name](changed), path)
 
 
 if __name__ == "__main__":

@@ -33,8 +33,7 @@ Texts = dict[str, str]
 @cache
 def paths() -> list[str]:
     """Returns the paths of the repository's files."""
-    command = ["git", "ls-files", "-co", "--exclude-standard"]
-    names = subprocess.run(command, cwd=TOP, capture_output=True, text=True, check=True).stdout
+    names = subprocess.check_output(["git", "ls-files", "-co", "--exclude-standard"], cwd=TOP, text=True)
     return [name for name in names.splitlines() if (TOP / name).exists()]
 
 
@@ -51,6 +50,11 @@ def sources() -> str:
 
 def flat(text: str) -> str:
     return " ".join(text.split())
+
+
+def placed(path: str, text: str, part: str) -> str:
+    """Returns a path, and the number of the first line of its text that has a part."""
+    return f"{path}:{text[: text.find(part)].count(chr(10)) + 1}"
 
 
 def read_texts() -> Texts:
@@ -86,15 +90,13 @@ def link_errors(texts: Texts) -> Iterator[str]:
         text = FENCE.sub("", texts[page])
         if "```" in text:
             yield f"{page}: a block has no end"
-        for link in re.findall(r"\[[^\]]*\](?:\(<?|: +)([^\s)>]+)", text):
+        for link in re.findall(r"\[[^\]]*\](?:\(<?|: +)(?!<?[a-z]+:)([^\s)>]+)", text):
             target, _, anchor = link.partition("#")
-            if re.match(r"[a-z]+:", target):
-                continue
             to = os.path.normpath(os.path.join(os.path.dirname(page), target)) if target else page
             if page == C and target:
                 yield f"{page}: it is installed without {target}"
             if not (TOP / to).exists() or anchor and anchor not in anchors(texts.get(to, "")):
-                yield f"{page}: a link leads nowhere: {link}"
+                yield f"{placed(page, texts[page], link)}: a link leads nowhere: {link}"
 
 
 def path_errors(texts: Texts) -> Iterator[str]:
@@ -103,7 +105,7 @@ def path_errors(texts: Texts) -> Iterator[str]:
     for path in paths():
         for name in {*form.findall(texts.get(path) or read(path))} if not path.endswith(".edits") else ():
             if "NAME" not in name and not (TOP / name).exists():
-                yield f"{path}: there is no {name}"
+                yield f"{placed(path, texts.get(path) or read(path), name)}: there is no {name}"
 
 
 def name_errors(texts: Texts) -> Iterator[str]:
@@ -115,8 +117,9 @@ def name_errors(texts: Texts) -> Iterator[str]:
         for quote in [*re.findall(r"`([^`]+)`", FENCE.sub("", text)), *blocks]:
             names = {*re.findall(r"(?<![.\w])[A-Za-z]\w+\(|[A-Za-z]\w*(?:_|[a-z][A-Z])\w+", quote)}
             names = {name[1:] if f"-{name}" in quote and name[1:] in known else name for name in names}  # CMake's -D
+            names -= {*re.findall(r"\b(?:const|let|function|class) (\w+)", quote)}
             if page.startswith(("bindings/", "crates/", "docs/")) and not names <= known:
-                yield f"{page}: no source has {names - known}"
+                yield f"{placed(page, texts[page], min(names - known))}: no source has {names - known}"
 
 
 def declared_errors(texts: Texts) -> Iterator[str]:

@@ -4,20 +4,21 @@ import re
 import sys
 from collections.abc import Iterator
 
-from pages import C, CALLING, FORMAT, HEADER, MAN, RUST, Texts, flat, pages_of, paths, read, sources
+from pages import C, CALLING, FORMAT, HEADER, MAN, RUST, Texts, flat, pages_of, paths, placed, read, sources
 from start import FENCE, TOP
 
 sys.path.append(str(TOP / "crates" / "vectors"))
 import verdicts
 
-CARGO, NPM = f"{RUST}/Cargo.toml", "bindings/js/package.json"
-README, CORE, RULES = "README.md", "bindings/js/core.js", verdicts.RULES
-# a version or a limit as pages state it, and where it is from
+CARGO, NPM, JS = f"{RUST}/Cargo.toml", "bindings/js/package.json", "bindings/js/LICENSE"
+README, RULES = "README.md", verdicts.RULES
+MORE = ("bindings/js/core.js", "bindings/js/test.sh", "checks/lib/start.py", "checks/release.t", "tools/install")
+# a version or a limit as pages and these state it, and where it is from
 STATED = (
     (r"Rust (\d[\d.]*\d)", CARGO, r'rust-version = "(.*)"'),
     (r"CMake (\d[\d.]*\d)", "CMakeLists.txt", r"cmake_minimum_required\(VERSION (.*)\)"),
     (r"(?<!In )CPython (\d\.\d+)", "bindings/python/pyproject.toml", r'requires-python = ">=(.*)"'),
-    (r"Node\.js (\d+\.\d+)", NPM, r'"node": ">=(.*)"'),
+    (r"[Nn]ode(?:\.js |=)(\d+\.\d+)", NPM, r'"node": ">=(.*)"'),
     (r"`multihash` (\d[\d.]*\d)", CARGO, r'\nversion = "(.*)"'),
     (r"`(rattle-kit-[^`]*)`", "tools/makers", r"(?m)^kit=(.*)"),
     (r"logic `([^`]*)`", "tools/makers", r"(?m)^logic=(.*)"),
@@ -31,7 +32,7 @@ STATED = (
 # what packages state as the first file does: the licence, its owner, the address
 ALIKE = (
     (r'(?:^|license\w*\W+)(\w+)(?: License$|")', "LICENSE", CARGO, NPM, "bindings/python/setup.py", "tools/sbom.py"),
-    (r'(?:Copyright .*\d{4} |author.*[:=] ")([^"\n]*)', "LICENSE", NPM, "bindings/python/pyproject.toml"),
+    (r'(?:Copyright .*\d{4} |author.*[:=] ")([^"\n]*)', "LICENSE", JS, NPM, "bindings/python/pyproject.toml"),
     (r"^(?:URL|Homepage): (.*)", "bindings/c/multihash_c.pc.in", "bindings/c/debian/control"),
 )
 
@@ -48,12 +49,16 @@ def package_errors(texts: Texts) -> Iterator[str]:
 
 def stated_errors(texts: Texts) -> Iterator[str]:
     """Compares versions and limits of pages with where they are from, and the errors in the page for C."""
-    prose = {path: flat(text) for path, text in (pages_of(texts) | {CORE: read(CORE)}).items()}
+    prose = {path: flat(text) for path, text in (pages_of(texts) | {path: read(path) for path in MORE}).items()}
     for form, source, origin in STATED:
         wanted = "".join(re.findall(origin, read(source)))
-        found = {(path, value) for path, text in prose.items() for value in re.findall(form, text)} or {("", "")}
-        for path, value in sorted(found - {(path, wanted) for path in prose}):
-            yield f"{path or 'no page'} has {value!r}, {source} {wanted!r}: {form}"
+        found = {path: values for path, text in prose.items() if (values := re.findall(form, text))}
+        if not found:
+            yield f"{source}: no page has what it states: {form}"
+        for path, values in found.items():
+            if wanted not in values:
+                at = placed(path, texts.get(path) or read(path), values[0])
+                yield f"{at}: {values}, {source} has {wanted!r}: {form}"
     said = dict(re.findall(r"case (MULTIHASH_\w+):\s*return \"([^\"]*)\";", read(HEADER)))
     for name, number in re.findall(r"^ +(MULTIHASH_\w+) = (\d+)", read(HEADER), re.M):
         if f"| `{name}` | {number} | {said.get(name)} |" not in texts[C]:
