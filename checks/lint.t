@@ -12,7 +12,7 @@ shell=$(scripts '^(#! ?/.*\b(ba)?sh|# shellcheck shell=bash)$')
 python=$({ listed '*.py'; scripts '^#!.*python'; } | sort -u)
 javascript=$(listed '*.js' '*.ts')
 # those that end at the first command that fails; the others say that they do not, or are one command
-ending=$(scripts '^(set -euo pipefail$|\. .*/tap\.sh"$|# Sourced after tap\.sh)')
+ending=$(scripts '^(set -E?eu(o pipefail)?$|\. .*/tap\.sh"$|# Sourced after tap\.sh)')
 others=$(scripts '^(set -u|exec )')
 stating=$(git grep --no-color -lE '^(#  |   ) (\.ci|bindings|crates|tools)/[^ ]+ ' .ci 'bindings/*.sh' 'crates/*.py' \
   tools)
@@ -28,15 +28,17 @@ are_known() {
 
 # Each shell script says what it does after a failure.
 are_ending() {
-  printf '%s\n' "$@" | sort | comm -23 - <(printf '%s\n' "$ending" "$others" | sort) | diff /dev/null -
+  printf '%s\n' "$@" | sort | comm -23 - <(printf '%s\n' "$ending" "$others" | sort) |
+    sed 's/$/:1: without set -euo pipefail, set -u or exec/' | diff /dev/null -
 }
 
-# Each command that a check needs is in another line too: one of a wrong name would always leave the check out.
+# Each command that a check needs is named twice: one of a wrong name would always leave the check out.
 are_commands() {
   local name
-  grep -hoE 'needs=("[^"]*"|[^ ]+)|require .*' "$@" | tr -s '" =' '\n' | grep -xE '[A-Za-z][A-Za-z0-9_+-]*' | sort -u |
+  grep -hoE 'needs=("[^"]*"|[^ ]+)|^ *require .*' "$@" | tr -s '" =' '\n' |
+    grep -xE '[A-Za-z][A-Za-z0-9_+-]*' | sort -u |
     while read -r name; do
-      [ "$(git grep --untracked -hwe "$name" | wc -l)" -gt 1 ] || echo "$name"
+      [ "$(git grep --untracked -ohwe "$name" | wc -l)" -gt 1 ] || git grep --no-color --untracked -nwe "$name"
     done | diff /dev/null -
 }
 
@@ -55,15 +57,16 @@ chains() {
 
 # No command does nothing, and no condition is constant. What may fail, before '|| true', is a part of a line.
 idle() {
-  awk '/^ *(true|:)$|\|\| (true|:)( [^)}]|$)|^ *((el)?if|while) (! )?(true [&|]|false)|^ *for [a-z]+ in ?;/ {
+  awk '/^ +(true|:)$|\|\| (true|:)( [^)}]|$)|^ *((el)?if|while) (! )?(true [&|]|false)|^ *for [a-z]+ in ?;/ {
     print FILENAME ":" FNR ": it does nothing" }' "$@" | diff /dev/null -
 }
 
 # Each function of a shell script is named in another line of one.
 are_run() {
-  awk '/^ *#/ { next } { own = /^[a-z_]+\(\) / ? substr($1, 1, length($1) - 2) : "" } own { file[own] = FILENAME }
+  awk '/^ *#/ { next } { own = /^[a-z_]+\(\) / ? substr($1, 1, length($1) - 2) : "" }
+    own { place[own] = FILENAME ":" FNR }
     { for (at = split($0, words, /[^a-z_]+/); at; at--) if (words[at] != own) named[words[at]] }
-    END { for (own in file) if (!(own in named)) print file[own] ": " own " is not run" }' "$@" | diff /dev/null -
+    END { for (own in place) if (!(own in named)) print place[own] ": " own " is not run" }' "$@" | diff /dev/null -
 }
 
 # Errors of syntax, of names that are unknown or not used, and of code that is not reached: JavaScript states no types.
