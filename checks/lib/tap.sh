@@ -20,10 +20,7 @@ cd "$(dirname "${BASH_SOURCE[0]}")/../.."
 export LC_ALL=C.UTF-8
 number=0 failed=0 is_finished=0 without="" needs=""
 work=$(mktemp -d)
-finish() {
-  echo "1..$number"
-  is_finished=1
-}
+finish() { is_finished=1; echo "1..$number"; }
 end() {
   local ended=$?
   rm -rf "$work"
@@ -64,10 +61,7 @@ try() {
   number=$((number + 1))
   # shellcheck disable=SC2086 # words
   lack=$without$'\n'$(missing $needs)
-  if [ "$lack" != $'\n' ]; then
-    echo "ok $number - $1 # SKIP no $(list <<< "$lack")"
-    return
-  fi
+  [ "$lack" = $'\n' ] || { echo "ok $number - $1 # SKIP no $(list <<< "$lack")"; return; }
   run "$work/log" placed "${@:2}"
   [ "$ended" = 0 ] || result="not ok" failed=1
   echo "$result $number - $1"
@@ -134,11 +128,11 @@ sees_faults() {
       sed "$edit" "$2/$file" > "$copy/$file"
       cmp -s "$2/$file" "$copy/$file" || is_edited=1
     done
-    [ $is_edited = 1 ] || { echo "$1:$((at + 1)): no file has what it edits: $edit"; continue; }
+    [ $is_edited = 1 ] || { echo "${1#"$work"/}:$((at + 1)): no file has what it edits: $edit"; continue; }
     run "$work/tested" "$4" "$copy"
-    [ "$ended" = 0 ] || { echo "$1:$((at + 1)): not built: $edit"; tail "$work/tested"; }
+    [ "$ended" = 0 ] || { echo "${1#"$work"/}:$((at + 1)): not built: $edit"; tail "$work/tested"; }
     run "$work/tested" "$5" "$copy"
-    [ "$ended" != 0 ] || echo "$1:$((at + 1)): not seen: $edit"
+    [ "$ended" != 0 ] || echo "${1#"$work"/}:$((at + 1)): not seen: $edit"
   done > "$work/unseen"
   diff /dev/null "$work/unseen"
   [ $tried = 1 ]
