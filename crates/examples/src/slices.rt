@@ -77,7 +77,8 @@ pub fn next_number(buffer: &[u8]) -> Result<Option<(u64, &[u8])>, Error>
 {
     match varint::read_front(buffer) {
         Ok(found) => Ok(Some(found)),
-        Err(e) => { if e.is_incomplete() { Ok(None) } else { Err(e) } }
+        Err(e) if e.is_incomplete() => Ok(None),
+        Err(e) => Err(e),
     }
 }
 
