@@ -112,6 +112,8 @@ def versions() -> Iterator[tap.Result]:
         texts = {**later, version.CHANGES: version.PENDING + later[version.CHANGES]}
         later = version.written(texts, number, day)
         yield f"a later version, {number}", "\n".join(version.errors(later))
+    line = "#define MULTIHASH_VERSION_NUMBER 991000\n"
+    yield "its number", "" if line in later[HEADER] else f"{HEADER} does not have {line}"
     words = ("99.9.0", "2099-01-01")
     yield "a version that the program writes", program_error(*words, "99.9.0 (2099-01-01)")
     yield tap.planted("another day", [program_error(*words, "99.9.0 (2099-01-02)")], "not released")
