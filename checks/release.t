@@ -94,6 +94,15 @@ END
 
 # What an owner states is in the packages.
 has_owner() {
+  local package="libmultihash-c${major}_$version-1_amd64.deb" packed=multihash_c-$version-x86_64
+  cat > "$work/wanted" << 'END'
+Maintainer: A Tester <tester@forge.example>
+Homepage: https://forge.example/
+ -- A Tester <tester@forge.example>
+URL: https://forge.example/
+  "repository": "https://forge.example/multihash",
+repository = "https://forge.example/multihash"
+END
   cp -r "$work/clone" "$work/owned"
   cd "$work/owned"
   printf '%s\n' 'maintainer=A Tester <tester@forge.example>' homepage=https://forge.example/ \
@@ -102,17 +111,13 @@ has_owner() {
   git -c user.name=tester -c user.email=tester commit -q -m owned tools/owner
   tools/release "$work/of_owner"
   cd "$work/of_owner"
-  dpkg-deb -f "libmultihash-c${major}_$version-1_amd64.deb" Maintainer Homepage |
-    diff - <(printf '%s\n' 'Maintainer: A Tester <tester@forge.example>' 'Homepage: https://forge.example/')
-  dpkg-deb --fsys-tarfile "libmultihash-c${major}_$version-1_amd64.deb" |
-    tar -xO "./usr/share/doc/libmultihash-c$major/changelog.Debian.gz" | zcat |
-    grep '^ -- A Tester <tester@forge.example>  '
-  tar -xOf "multihash_c-$version-x86_64.tar.gz" "multihash_c-$version-x86_64/lib/pkgconfig/multihash_c.pc" |
-    grep '^URL: https://forge.example/'
-  tar -xOf "verified-multihash-$version.tgz" package/package.json |
-    grep '"repository": "https://forge.example/multihash"'
-  tar -xOf "multihash-$upstream.crate" "multihash-$upstream/Cargo.toml" |
-    grep '^repository = "https://forge.example/multihash"'
+  {
+    dpkg-deb -f "$package" Maintainer Homepage
+    dpkg-deb --fsys-tarfile "$package" | tar -xO --wildcards '*/changelog.Debian.gz' | zcat | sed -n 's/>  .*/>/p'
+    tar -xOf "$packed.tar.gz" "$packed/lib/pkgconfig/multihash_c.pc" | grep ^URL
+    tar -xOf "verified-multihash-$version.tgz" package/package.json | grep '"repository"'
+    tar -xOf "multihash-$upstream.crate" "multihash-$upstream/Cargo.toml" | grep '^repository'
+  } | diff - "$work/wanted"
 }
 
 # A release of another archive than the listed one fails, and leaves nothing.

@@ -62,12 +62,11 @@ has_library() {
   cmp {bindings/c/prebuilt/"$1","$work/multihash_c-$version-$1/lib"}/libmultihash_c.a
 }
 
-# The portable source of a release, compiled with an example.
+# The portable source of a release, which portable.t tests.
 has_portable_source() {
   tar -xf "$work/release/multihash_c-$version-source.tar.gz" -C "$work"
-  cd "$work/multihash_c-$version-source"
-  cc -std=c11 -I . "$top/bindings/c/examples/show.c" multihash.c -o show
-  ./show | diff - "$expected"
+  tools/portable_c "$work/portable"
+  diff -r "$work/portable" "$work/multihash_c-$version-source"
 }
 
 # The package for JavaScript is installed, and decodes.
