@@ -29,13 +29,6 @@ exports_exactly() {
 # Under valgrind, which sees each access to a buffer's neighbours: the program `$1` of the tests and the other words.
 under_valgrind() { build_and_run "$1" "$valgrind" cc "${c_flags[@]}" "${heap[@]}" "${tests[@]}" "${@:2}"; }
 
-# C by hand that reads a byte after an input, built and run by a command.
-overread() {
-  sed "s/multihash_front front = {0};/& volatile int most = length ? bytes[length] : 0; (void)most;/" \
-    "$top/crates/speed/from_c/plain.c" > "$work/overread.c"
-  "$@" "$work/overread.c"
-}
-
 test_compilers() {
   local name needs compile
   for name in cc c++ clang clang++; do
@@ -58,16 +51,6 @@ old_processor() {
     cc "${c_flags[@]}" -O2 -static "${tests[@]}" "$library"
 }
 
-# The tests of a folder's portable source, and of its reader of a stream, which is installed.
-build_source() {
-  cc -O1 -I "$c/include" "$1/src/multihash.c" "${tests[@]}" -o "$work/of_source"
-  cc -I "$c/include" -I "$1/examples" "$c/tests/stream.c" "$1/src/multihash.c" -o "$work/of_stream"
-}
-test_source() {
-  "$work/of_source" "$list" 1 2000
-  "$work/of_stream"
-}
-
 # C by hand, with a later header.
 by_hand() {
   sed -E 's/(_VERSION ).*/\1"12.34.56"/; s/(_NUMBER )[0-9]+$/\1123456/' "$c/include/multihash.h" > "$work/multihash.h"
@@ -75,18 +58,12 @@ by_hand() {
 }
 
 try "static library" build_library
-needs="nm ar" try exports rejects_edits "${library%/*}" exports_exactly "$work/planted/${library##*/}" << 'END'
-> multihash_more|echo 'int multihash_more(void) { return 0; }' | cc -xc -c - -o more.o; ar r *.a more.o
-END
+needs="nm" try exports exports_exactly "$library"
 needs="nm objdump" try "what it needs" keeps_no_state "$library" memcpy memmove
 # a test in C calls each function that the header declares
 try "tests of the exports" diff /dev/null <(exported |
   comm -23 - <(grep -ohw 'multihash_[a-z_]*' "$c"/tests/{test,models}.c | sort))
 test_compilers
-try "a warning" rejects "[-Werror=conversion]" cc "${c_flags[@]}" -fsyntax-only -xc - \
-  <<< 'int planted(long a) { return a; }'
-try "a read after an input" rejects heap-buffer-overflow overread build_and_run overread "" cc "${sanitize[@]}" \
-  "${tests[@]}"
 # each access of the library, which the compilers' sanitizers do not see
 needs=valgrind try valgrind under_valgrind valgrind "$library"
 needs=valgrind try "a read that valgrind sees" rejects "0 bytes after a block of size" overread \
@@ -95,5 +72,4 @@ needs=qemu-x86_64 try "a processor of the baseline" old_processor
 # what is counted beside the library
 try "C by hand" by_hand plain
 try "fast C by hand" by_hand fast
-try "faults" sees_faults "$c/tests/faults.sed" "$c" "src/multihash.c examples/stream.c" build_source test_source
 finish

@@ -22,11 +22,9 @@ reads_stream() {
   "$work/stream"
 }
 
-# The one that is installed. Sanitizers see a smaller buffer. The program reads SHA2-512 too.
+# The one that is installed. The program reads SHA2-512 too.
 stream_example() {
-  rejects_edits "$c/examples" reads_stream "$work/planted" << 'END'
-buffer-overflow|sed -i 's/bytes\[MULTIHASH_LENGTH_MAX/bytes[MULTIHASH_DIGEST_MAX/' stream.c
-END
+  reads_stream "$c/examples"
   cc "${c_flags[@]}" -I "$c/include" "$c/examples/stream.c" "$library" -o "$work/stream"
   prints "size 64" "$work/stream" < <(printf '\x13\x40%064d' 0)
 }
@@ -35,8 +33,7 @@ build_verify() {
   cc "${c_flags[@]}" "${sanitize[@]}" -I "$c/include" "$1" "$library" -lcrypto -o "$work/verify"
 }
 
-# The example that hashes, over each row of hashes.tsv: for some codes it has no function. Sanitizers see an edit that
-# reads after its table.
+# The example that hashes, over each row of hashes.tsv: for some codes it has no function.
 verify_example() {
   local code name digest hex
   build_verify "$c/examples/verify.c"
@@ -53,9 +50,6 @@ verify_example() {
   done < <(sed 1d "$top/crates/vectors/data/hashes.tsv")
   rejects "another content" "$work/verify" 1201ba < <(printf abc)
   rejects "the content cannot be hashed" "$work/verify" 1201ba < "$work"
-  sed 's/i < sizeof/i <= sizeof/' "$c/examples/verify.c" > "$work/verify.c"
-  build_verify "$work/verify.c"
-  rejects "runtime error: index" "$work/verify" 000161 < /dev/null
 }
 
 # In another folder than CMake was told.

@@ -27,7 +27,6 @@ machines() {
   gets Linux aarch64_be "" OFF ON
   gets FreeBSD x86_64 "" OFF ON
   gets Generic aarch64 "" OFF OFF
-  rejects "< ON" has machine.Generic-aarch64 OFF ON
   CC=clang gets Windows AMD64 --target=x86_64-pc-windows-msvc OFF ON
   CC=clang gets Darwin arm64 --target=arm64-apple-macos11 OFF ON
   grep -LF -e --version-script= "$work"/machine.*/CMakeFiles/multihash_c_shared.dir/link.txt | sed 's/-.*//; s/.*\.//' |

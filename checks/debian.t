@@ -17,20 +17,9 @@ build_packages() {
   (cd "$from"; prints '100% tests passed, 0 tests failed out of ' dpkg-buildpackage -b -us -uc)
 }
 
-# They have what they should have. In others there is a file more, another text, no Multi-Arch, or other symbols.
-packages() {
-  local from='dpkg-deb -R *-c1_*.deb more; cd more' to='dpkg-deb -b --root-owner-group . ../*-c1_*.deb'
-  rejects_edits "$work/debian" has_packages "$work/planted" amd64 x86_64-linux-gnu << END
-> root/root ./share/doc/libmultihash-c1/LICENSE|$from; cp ../source/LICENSE usr/share/doc/*; $to
-EOF on LICENSE|$from; echo >> usr/share/doc/libmultihash-c1/copyright; $to
-> same|$from; sed -i /^Multi-Arch/d DEBIAN/control; $to
-< libmultihash_c.so|$from; sed -i 's/#MINVER#/none/' DEBIAN/symbols; $to
-END
-}
-
 ONLY='' try "building packages" build_packages
 try "warnings of them" lintian --allow-root --fail-on warning \
   --suppress-tags initial-upload-closes-no-bugs "$work"/debian/*.changes
-ONLY='' try "packages for amd64" packages
+ONLY='' try "packages for amd64" has_packages "$work/debian" amd64 x86_64-linux-gnu
 needs=qemu-x86_64 try "a program by the packages for amd64" try_packages amd64 x86_64-linux-gnu cc qemu-x86_64
 finish

@@ -6,17 +6,13 @@ crate's constants; c_library.t compiles it as C++ too. A text in no known form i
 checks/lib/header.edits are planted, each of which has to be found as what it is.
 """
 import re
-import shutil
 import subprocess
 import sys
-import tempfile
 from collections.abc import Iterable, Iterator
-from datetime import date
 from pathlib import Path
 
 LIB = Path(__file__).with_name("lib")
 sys.path += [str(LIB), str(LIB.parents[1] / "tools")]
-import edits
 import tap
 import version
 from crate import Declared, Files, flat, of_crate, read_files
@@ -86,50 +82,11 @@ def error_of(files: Files) -> str:
     return "\n".join([*binding_errors(files, crate), *header_errors(files[HEADER], crate)])
 
 
-def program_error(number: str, day: str, wanted: str) -> str:
-    """Returns what is wrong with a version of a day that tools/version.py writes, in a copy of its files: it has to be
-    released as it is wanted."""
-    texts = version.read()
-    with tempfile.TemporaryDirectory() as folder:
-        top = Path(folder)
-        for path, text in {**texts, version.CHANGES: version.PENDING + texts[version.CHANGES]}.items():
-            (top / path).parent.mkdir(parents=True, exist_ok=True)
-            (top / path).write_text(text, "utf-8")
-        (top / "tools").mkdir()
-        tool = shutil.copy(version.__file__, top / "tools")
-        commands: list[list[str]] = [[number, day], ["--check"], []]
-        for words in commands:
-            printed = subprocess.check_output([sys.executable, tool, *words], text=True)
-        released = f"\n{wanted}\n" in (top / version.CHANGES).read_text("utf-8")
-        return "" if released and printed == number + "\n" else f"not released that day, or not {printed}"
-
-
-def versions() -> Iterator[tap.Result]:
-    """Compares what states the version. Then later ones are written, and each file is planted as it was before."""
-    later = version.read()
-    yield "the version", "\n".join(version.errors(later))
-    for number, day in (("99.9.0", date(2099, 1, 1)), ("99.10.0", date(2099, 1, 2))):
-        texts = {**later, version.CHANGES: version.PENDING + later[version.CHANGES]}
-        later = version.written(texts, number, day)
-        yield f"a later version, {number}", "\n".join(version.errors(later))
-    line = "#define MULTIHASH_VERSION_NUMBER 991000\n"
-    yield "its number", "" if line in later[HEADER] else f"{HEADER} does not have {line}"
-    words = ("99.9.0", "2099-01-01")
-    yield "a version that the program writes", program_error(*words, "99.9.0 (2099-01-01)")
-    yield tap.planted("another day", [program_error(*words, "99.9.0 (2099-01-02)")], "not released")
-    for path in later:
-        yield tap.planted(
-            f"another version: {path}", version.errors({**later, path: texts[path]}), number.split(".")[1]
-        )
-
-
 def results() -> Iterator[tap.Result]:
-    yield from versions()
+    yield "the version", "
+".join(version.errors(version.read()))
     files = read_files(HEADER, MAP, f"{PYTHON}/**/*.py", f"{JS}/core.js", f"{JS}/index.d.ts")
     yield "the header and the bindings", error_of(files)
-    for name, *edit in edits.rows(LIB / "header.edits"):
-        changed = edits.apply(files, [edits.Edit(*edit)])
-        yield tap.planted(name, [error_of({**files, **changed})], name)
 
 
 if __name__ == "__main__":

@@ -72,42 +72,10 @@ packs() {
   mv "$work/moved" "$prefix"
 }
 
-# A difference of an installation for each comparison.
-planted_prefix() {
-  rejects_edits "$work/un packed built" is_installed "$work/planted" lib << END
-> ./more|touch more
-/lib/libmultihash_c.so|ln -sf none lib/libmultihash_c.so
-/multihash.h|chmod 755 include/multihash.h
-diff -r|echo >> share/doc/multihash_c/examples/show.c
-EOF on CHANGES|echo >> share/doc/multihash_c/changelog
-EOF on LICENSE|echo >> share/doc/multihash_c/copyright
-EOF on bindings/c/README.md|echo >> share/doc/multihash_c/README.md
-> -L|sed -i 's,^libdir=.*,&/..,' lib/pkgconfig/multihash_c.pc
-< BIND_NOW|cc -shared -xc /dev/null -o lib/libmultihash_c.so.?.*
-> more|cc -shared -Wl,--no-as-needed,-z,now,-soname=libmultihash_c.so.$major -xc - -o lib/libm*.so.?.* <<< 'int more;'
-END
-}
-
-# The test of what pkg-config finds, without it, and of a copy whose library is gone while the linker finds another,
-# whose examples print something else, or whose header does not fit it.
-planted_test() {
-  local -x LIBRARY_PATH=$prefix/lib
-  local test=$prefix/$document/examples/test.sh
-  (cd "$prefix/$document"
-    CDPATH=. PKG_CONFIG_PATH=$prefix/lib/pkgconfig LD_LIBRARY_PATH=$prefix/lib examples/test.sh)
-  PKG_CONFIG=none rejects '0 passed' "$test" "$prefix"
-  rejects_edits "$work/un packed built" "$work/planted/$document/examples/test.sh" "$work/planted" << 'END'
-failed: static: show.c builds|rm lib/libmultihash_c.a
-failed: static: the example is decoded|sed -i 's/printf("/&+/' $document/examples/show.c
-failed: static: two multihashes are read|sed -i 's/printf("/&+/' $document/examples/stream.c
-failed: static: a non-minimal varint|sed -i 's/MULTIHASH_NOT_MINIMAL = 3/MULTIHASH_NOT_MINIMAL = 9/' include/multihash.h
-END
-}
-
 # Each page of a function is that of the library, which has the sentences of the header's comments, its functions, and
 # the date of the version. Literal blocks alone have ` or *.
 man_pages() {
-  cd "$work/planted"
+  cd "$prefix/share/man"
   mandoc -T lint man3/multihash.3 "$top/crates/mh_show/mh_show.1"
   grep -Lx '.so man3/multihash.3' man3/* | diff <(echo man3/multihash.3) -
   sed -n 's/^\.Nm \(\S*\).*/\1.3/p' man3/multihash.3 | sort | diff <(ls man3) -
@@ -122,25 +90,12 @@ man_pages() {
     awk 'NR == FNR { page = $0; next } !index(page, $0)' <(tr -s ' \n' ' ' < "$work/page") - | diff /dev/null -
 }
 
-pages() {
-  rejects_edits "$prefix/share/man" man_pages << END
-> |python3 <(sed 's/(words)/&[9:]/' "$c/man.py") "$header" "$top/CHANGES" man3
-unknown macro|echo .Zz >> man3/multihash.3
-> man3/multihash_read.3|echo > man3/multihash_read.3
-> multihash_read.3|rm man3/multihash_read.3
-> \`|echo '\`' >> man3/multihash.3
-> multihash_read(|sed -i '/^\.Fn multihash_read /s/const/a/; /^\.F[ao] /s/const/a/' man3/multihash.3
-END
-}
-
 ONLY='' try "building" build built -DCMAKE_INSTALL_PREFIX="$prefix"
 ONLY='' try "installing" installs
-needs="mandoc" try "man pages" pages
+needs="mandoc" try "man pages" man_pages
 try "installing below a folder" installs_below
 ONLY='' try "the portable source" from_source
 try "a build for debugging" debug_build
 ONLY='' try "packing" packs
-try "planted differences" planted_prefix
-try "the installed test of planted files" planted_test
 try "the installed test of nothing" rejects "no multihash_c.pc" bindings/c/examples/test.sh "$work/none"
 finish

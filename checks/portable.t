@@ -49,40 +49,6 @@ has_no_extensions() {
   tr -c '[:alnum:]_' '\n' < "$work/preprocessed" | sed -n '/^__/p' | sort -u | diff /dev/null -
 }
 
-# An object with each kind of state, and one that needs another function.
-planted_state() {
-  local name state
-  while read -r name state; do
-    printf 'int next(void) { %s return count++; }\n' "$state" | cc -O2 -xc -c - -o "$work/state.o"
-    rejects "> $name" keeps_no_state "$work/state.o"
-  done << 'END'
-.bss static int count;
-.tdata static _Thread_local int count = 1;
-another int another(void); int count = another();
-END
-}
-
-# The tests over a copy that was edited: an access after each block, unchecked ones before an input and after it, a mask
-# of digits, and a wrong result of inputs that only draws are as long as.
-planted_source() {
-  rejects_edits "$tree" passes "$work/planted" planted/built "" cc -O1 << 'END'
-Aborted|sed -i 's/\(w2c_multihash_head(.*bytes_length\))/\1 + 1)/' multihash.c
-Segm|sed -i '/ multihash_from_bytes/,/^}/s/= ANY_INPUT/= bytes_length \&\& bytes[-1] == 1/' multihash.c
-Segm|sed -i '/ multihash_from_bytes/,/^}/s/= ANY_INPUT/= bytes_length \&\& bytes[bytes_length] == 1/' multihash.c
-not so: |sed -i 's/35747867511423103ull/35747867511423102ull/' multihash.c
-not so: same(mul|sed -i '/w2c_multihash_from_bytes(/s/bytes_length)/bytes_length - (bytes_length > 281))/' multihash.c
-END
-}
-
-# Draws alone find a wrong result of the longest heads.
-planted_draws() {
-  mkdir "$work/drawn"
-  sed 's/taken = (size_t)field(.*, 3);/& if (result.taken == MULTIHASH_HEAD_MAX \&\& !result.status) result.code++;/' \
-    "$tree/multihash.c" > "$work/drawn/multihash.c"
-  cc -O1 -I "$tree" "$work/drawn/multihash.c" "${tests[@]}" -o "$work/drawn/tests"
-  rejects "head.code" "$work/drawn/tests" "$list" 1 20000 draws
-}
-
 # The tests on a machine, by a compiler and a command that runs its programs.
 on_machine() { needs="$needs $2-gcc $3" try "$1" passes "$tree" "$1" "$3" "$2-gcc" -O2 -static; }
 
@@ -92,13 +58,8 @@ try "cc, sanitizers" passes "$tree" cc-sanitizers "" cc "${sanitize[@]}"
 needs="--all clang" try clang passes "$tree" clang "" clang -O2
 needs="--all clang $clang_runtime" try "clang, sanitizers" passes "$tree" clang-san "" clang "${sanitize[@]}"
 needs="clang llvm-nm" try "objects without a C library" freestanding
-needs=clang try "other compilers" rejects_edits "$tree" has_no_extensions "$work/planted" << 'END'
-> __builtin_clzll|sed -i 's/return zeros - number;/return __builtin_clzll(number);/' multihash.c
-END
+needs=clang try "other compilers" has_no_extensions "$tree"
 needs="nm objdump" try "what the object needs" keeps_no_state "$work/one.o" abort memcpy memmove
-needs="nm objdump" try "objects with state" planted_state
-try "planted source" planted_source
-try "planted source, draws" planted_draws
 needs="clang $clang_runtime" try "fuzzing" bindings/c/fuzz.sh
 needs=--all on_machine aarch64 aarch64-linux-gnu qemu-aarch64
 needs=--all on_machine riscv64 riscv64-linux-gnu qemu-riscv64

@@ -39,24 +39,14 @@ def page_results(program: start.Program, project: start.Project) -> Iterator[tap
         yield tap.left_out(name, gone)
         return
     yield name, "\n".join(start.page_errors(project, page))
-    for old, new, text in (
-        (r"[\w.]*verify\(", "True or (", "wanted 'False"),
-        (r"True\n```", "true\n```", "wanted 'true"),
-        (r"\$CID", "CID", "no program verifies"),
-    ):
-        if program.language == "Python":
-            yield tap.planted(f"{name}: {new}", start.page_errors(project, re.sub(old, new, page)), text)
 
 
 def results(work: Path) -> Iterator[tap.Result]:
     """Installs each package and runs its programs. Plants a command and programs that fail or print another text."""
     readme = (TOP / "README.md").read_text("utf-8")
     yield "the rows of the programs", "\n".join(row_errors(readme))
-    yield tap.planted("a row less", row_errors(start.ROW.sub("", readme, count=1)), "only a row")
     start.copy_repository(copy := work / "copy")
     yield "the commands", "\n".join(command_errors(readme, copy))
-    failing = "```sh\ncat crates/mh_show/stdout; false\n```\n"
-    yield tap.planted("a command that fails", command_errors(failing, copy), "status 1")
     for program in start.programs(readme):
         name = f"README.md, {program.language}"
         if gone := tap.missing(LANGUAGES[program.language].needs.split()):
@@ -66,9 +56,6 @@ def results(work: Path) -> Iterator[tap.Result]:
         yield name, error
         if program.language != "Rattle":
             yield from page_results(program, project)
-    for command, text in (("false", "status 1"), ("echo code 1, digest hello", "it printed 'code 1")):
-        other = program._replace(install="true", command=command)
-        yield tap.planted(command, [start.run(other, copy, work / command)[1]], text)
 
 
 if __name__ == "__main__":

@@ -14,10 +14,10 @@ runs_all() {
   grep -rc '#\[test\]' crates/*/src | sed 's,crates/\([^/]*\)/.*:,\1 ,' |
     awk '{ tests[$1] += $2 } END { for (it in tests) if (tests[it]) print it, tests[it] }' | sort > "$work/written"
   awk '/^test result: ok\. / { tests = $4 } /^rt: [a-z_]+: its tests passed$/ { sub(/:/, "", $2); print $2, tests }' \
-    "$work/planted/out" | sort > "$work/run"
+    "$work/ran/out" | sort > "$work/run"
   diff "$work/written" "$work/run"
   all=$(cat <(grep '^[a-z]' crates.txt) <(ls crates/*/must-fail/*.edit) | wc -l)
-  tail -n 1 "$work/planted/out" | diff - <(echo "$all passed, 0 failed")
+  tail -n 1 "$work/ran/out" | diff - <(echo "$all passed, 0 failed")
 }
 
 # The kit is the one that tools/makers states.
@@ -29,8 +29,5 @@ is_stated() {
 
 try "rt ci" passes
 try "the kit" is_stated
-try "all crates and tests" rejects_edits "$work/ran" runs_all << 'END'
-< tests|sed -i '/^rt: tests: its tests passed/d' out
- passed, 0 failed|sed -i '$s/^/1/' out
-END
+try "all crates and tests" runs_all
 finish

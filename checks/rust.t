@@ -29,9 +29,6 @@ beside_c() {
   prints "$(sed 1d "$work/list" | wc -l) lines" "$work/c" "$work/list" 0 0 vectors
   tests MULTIHASH_VERDICTS="$work/list" cargo test --test vectors
   tests MULTIHASH_VERDICTS="$work/list" cargo test --test vectors --release
-  printf 'order\t1\t-\t1\t-\t1\n' | cat "$work/list" - > "$work/wrong"
-  rejects "not so: multihash_compare" "$work/c" "$work/wrong" 0 0 vectors
-  rejects "assertion" in_crate MULTIHASH_VERDICTS="$work/wrong" cargo test --test vectors
 }
 
 # The list and the other tests on a target with another byte order or word: by an emulator.
@@ -79,18 +76,6 @@ in_node() {
     "$work/vectors"
 }
 
-# The tests over the sources of a folder, as words after 'cargo test'.
-test_sources() {
-  in_crate RUSTFLAGS= cargo test --features serde --tests "${@:2}"
-  in_crate RUSTFLAGS= cargo test --no-default-features --tests "${@:2}"
-}
-build_sources() {
-  local file
-  in_crate true
-  for file in $sources; do cmp -s "$1/$file" "$work/rust/$file" || cp "$1/$file" "$work/rust/$file"; done
-  test_sources "$1" --no-run
-}
-
 test_targets() {
   local target system
   for target in armv7-unknown-linux-gnueabihf s390x-unknown-linux-gnu; do
@@ -119,6 +104,4 @@ needs="/usr/bin/cargo /usr/bin/rustc $crates" try "the tests with Debian's Rust"
   tests PATH=/usr/bin:/bin CARGO_TARGET_DIR="$work/debian" cargo test --features serde
 needs="$cargo cc" try "drawn inputs, beside the library for C" beside_c
 test_targets
-sources=$(cd bindings/rust; find multihash/src -name '*.rs' | paste -sd ' ')
-needs=$bare try "faults" sees_faults bindings/rust/tests/faults.sed bindings/rust "$sources" build_sources test_sources
 finish

@@ -1,5 +1,5 @@
 #!/usr/bin/env bash
-# Fuzzes the portable source, by Clang: libFuzzer finds nothing, and a planted bug, which the test vectors do not find.
+# Fuzzes the portable source, by Clang: libFuzzer finds nothing.
 #
 #   bindings/c/fuzz.sh
 #   OUT=FOLDER bindings/c/fuzz.sh   builds the target, FOLDER/multihash_fuzzer, and its seeds, and runs nothing
@@ -50,19 +50,5 @@ fuzz() {
   } | tee "$work/log" || return 0
 }
 
-# The test allocates its inputs, and the library is built with both sanitizers.
-nm -u "$work/plain/objects/buffer.o" | grep -w calloc
-nm -u "$work/plain/objects/multihash.o" | grep __asan_report_load
-nm -u "$work/plain/objects/multihash.o" | grep '__ubsan_handle.*_abort'
-python3 -m zipfile -l "$work/plain/multihash_fuzzer_seed_corpus.zip" | sed 1d | wc -l |
-  diff - <(sed 1d "$here/../../crates/vectors/data/verdicts.tsv" | wc -l)
 fuzz plain 20000
 grep -x 'Done 20000 runs in .*' "$work/log"
-
-cp -r "$here/src" "$work/source"
-sed -i '/w2c_multihash_from_bytes(/s/bytes_length)/bytes_length - (bytes_length > 281))/' "$work/source/multihash.c"
-build "$work/source" "$work/planted"
-fuzz planted 0
-grep -x 'Done .* runs in .*' "$work/log"
-fuzz planted 20000
-grep -F -m 1 "not so: same(multihash_from_bytes(bytes, length), " "$work/log"

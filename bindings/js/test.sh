@@ -11,53 +11,16 @@ node=node=20.16+ # that of package.json
 demo_page=node_modules/verified-multihash/demo.html # packed
 export MULTIHASH_VERDICTS=$vectors/verdicts.tsv
 
-# The module of a folder is imported.
-imported() { node --no-warnings "$1/index.js"; }
-
 # All tests of a folder, or those that other words choose. No process may take more than that CPU time.
 npm_test() { (cd "$1"; ulimit -t 600; npm test -- "${@:2}"); }
 
-# Inputs that are drawn have the results that verdicts.py computes. A wrong result is found.
+# Inputs that are drawn have the results that verdicts.py computes..
 drawn() {
-  local -x MULTIHASH_VERDICTS=$work/planted/verdicts.tsv
+  local -x MULTIHASH_VERDICTS=$work/drawn/verdicts.tsv
   mkdir "$work/drawn"
   cp "$vectors/hashes.tsv" "$work/drawn"
   crates/vectors/verdicts.py --draw 1 3000 > "$work/drawn/verdicts.tsv"
-  rejects_edits "$work/drawn" npm_test "$here" --test-name-pattern=vectors tests/index.test.js << 'END'
-head: 18 0 2, wanted 18 1 1|printf '4\t1200\tpair 18 aa\t2\tpair 18 aa\tunexpected_eof\t-\n' >> verdicts.tsv
-END
-}
-
-# The tests see each fault of a list.
-sees() { sees_faults "$1" "$here" "core.js api.js index.js inline.js module.js hashes.js" imported npm_test; }
-
-# Edits of what wasm-opt made are found, no file is left, and a folder without the crates is an error.
-# shellcheck disable=SC2317 # build.sh runs them
-built_anew() {
-  local -x text edit
-  "$here/build.sh" --check
-  mkdir -p "$work/anew/bindings"
-  cp -r "$here" "$work/anew/bindings"
-  ln -s "$top/tools" "$work/anew"
-  (cd "$work/anew/bindings/js"; sed -i "s/atob('[^']*/&more/" demo.html; rm bytes.js multihash.wasm; ./build.sh)
-  diff -r "$here" "$work/anew/bindings/js"
-  PROVED=$work/none rejects "No such file" tools/link_wasm "$work/none.wasm"
-  env() { :; } # no build
-  wasm-opt() {
-    command wasm-opt "$@"
-    wasm2wat "${!#}" | sed "$edit" | wat2wasm - -o "${!#}"
-  }
-  export -f env wasm-opt
-  mkdir "$work/left"
-  while IFS='|' read -r text edit; do
-    TMPDIR=$work/left rejects "$text" "$here/build.sh" --check
-  done << 'END'
-> local.tee|/(type [0-9]*) (param\( i64\)\{6\}) (result i32)/,${/(local i64 i32)/,${/l\./y/56/65/}}
-1c1|0,/unreachable$/s//& i32.wrap_i64 &/
-> memory|/(memory/s/17/18/
-bytes.js:|
-END
-  rmdir "$work/left"
+  npm_test "$here" --test-name-pattern=vectors tests/index.test.js
 }
 
 # The module has the instructions of WebAssembly's first version and bulk memory operations, and no others.
@@ -66,7 +29,6 @@ old_module() {
   local later
   later=$(wasm-validate --help | sed -n 's/.* \(--disable-[a-z-]*\) .*/\1/p')
   wasm-validate ${later/--disable-bulk-memory/} "$here/multihash.wasm"
-  rejects "invalid section code: 12" wasm-validate $later "$here/multihash.wasm"
 }
 
 # What is packed, unpacked elsewhere, runs the script of README.md, and is imported from CommonJS.
@@ -153,10 +115,6 @@ ffffffffffffffff7fff01${bytes::508}|9223372036854775807|! following|Still needed
 END
 }
 
-another_text() {
-  printf '%s\n' 'Not valid' '! Valid' '~ .following' | sed "s|^|$demo_page#1200\t|" | shows "$1" 20
-}
-
 test_browser() {
   local name=$1 tools="$node $2"
   needs=$tools try "in $name" node "$here/tests/browser.js" "$name" tests/page.html "$here" "$vectors"
@@ -166,20 +124,14 @@ test_browser() {
 
 # shellcheck source=tools/makers
 . tools/makers
-needs="rt wasm-opt=$binaryen wasm2wat=$wabt" try "the WebAssembly built anew" built_anew
+needs="rt wasm-opt=$binaryen wasm2wat=$wabt" try "the WebAssembly built anew" "$here/build.sh" --check
 needs=wasm-validate try "the WebAssembly for old engines" old_module
 needs="$node npm" try "in Node.js" npm_test "$here"
 needs="$node npm" try "drawn inputs" drawn
-sed '/^# With --all/,$d' "$here/tests/faults.sed" > "$work/faults.sed"
-needs="$node npm" try "faults" sees "$work/faults.sed"
-needs="--all $node npm" try "all faults" sees "$here/tests/faults.sed"
-needs=$node try "the results of plain JavaScript" rejects_edits "$here" node "$work/planted/beside_plain.js" << 'END'
-of 34 bytes: |sed -i "s/'0')/'1')/" beside_plain.js
-END
+needs=$node try "the results of plain JavaScript" node "$here/beside_plain.js"
 ONLY='' needs="$node npm" try "the packed package's script" packed_script
 needs="$node npm tsc" try "the packed package's types" packed_types
 test_browser chromium chromium
-needs="$node chromium" try "another text than the demo page's" rejects "1 passed, 3 failed" another_text chromium
 test_browser firefox firefox-esr
 test_browser webkit "WebKitWebDriver xvfb-run"
 finish

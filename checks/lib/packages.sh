@@ -117,9 +117,3 @@ for each in bill["relationships"]:
         print(left, versions[left], kind, right)
 END
 }
-planted_relations() {
-  rejects_edits "$work/release" has_relations "$work/planted" << END
-> serde DEPENDENCY_OF|sed -i s/OPTIONAL_// *.json
-> wabt $binaryen BUILD_TOOL_OF bindings/js/|sed -i 's/"wabt"/"more"/; s/"binaryen"/"wabt"/' *.json
-END
-}

@@ -25,13 +25,6 @@ def report(results: Iterable[Result]) -> int:
     return 1 if failed or not number else 0
 
 
-def planted(what: str, found: Iterable[str], text: str, *texts: str) -> Result:
-    """Returns the result of a planted difference: something has to be found, with each of these texts."""
-    printed = "\n".join(found)
-    lacking = [each for each in (text, *texts) if not each or each not in printed]
-    return f"planted: {what}", "" if not lacking else f"without {lacking}: {printed}"
-
-
 def missing(tools: Iterable[str]) -> list[str]:
     """Returns those tools that are not there, in the forms of is_there.sh."""
     words = ["bash", str(Path(__file__).with_name("is_there.sh")), *tools]

@@ -80,64 +80,6 @@ ends() {
   return 1
 }
 
-# A command passes over a copy of a folder, "$work/planted". Each line of the standard input, 'TEXT|EDIT', is a shell
-# command in the copy, after which the command has to fail and print the text. Neither reads the other lines.
-rejects_edits() {
-  local text edit
-  plant "$1" true
-  "${@:2}" < /dev/null
-  while IFS='|' read -r text edit; do
-    plant "$1" "$edit"
-    echo "planted: $edit"
-    rejects "$text" "${@:2}" < /dev/null
-  done
-}
-
-plant() {
-  rm -rf "$work/planted"
-  cp -a "$1" "$work/planted"
-  (cd "$work/planted"; eval "$2") < /dev/null
-}
-
-# Tries a linter, a command with options, over files, and over a planted file of some lines, which it has to reject.
-#   try_linter LINTER PLANTED TEXT LINES FILE..
-# shellcheck disable=SC2086 # words
-try_linter() {
-  install -D /dev/stdin "$work/$2" <<< "$(printf %b "$4")"
-  try "${1%% *}" $1 "${@:5}"
-  try "${1%% *} rejects a planted file" rejects "$3" $1 "$5" "$work/$2"
-}
-
-# A copy of a folder, "$work/faults", is built, and its tests pass. With each line of a list, an edit of sed, alone, it
-# is built, and its tests fail. Files that end with a brace more are not built.
-#   sees_faults LIST FOLDER "FILE.." BUILD TEST    these files are edited; the two commands get the path of the copy
-sees_faults() {
-  local at edit edits ended file is_edited tried=0 copy=$work/faults
-  rm -rf "$copy"
-  cp -r "$2" "$copy"
-  "$4" "$copy"
-  "$5" "$copy"
-  for file in $3; do echo "}" >> "$copy/$file"; done
-  rejects "}" "$4" "$copy"
-  mapfile -t edits < "$1"
-  for at in "${!edits[@]}"; do
-    edit=${edits[at]}
-    [[ $edit != "#"* ]] || continue
-    tried=1 is_edited=0
-    for file in $3; do
-      sed "$edit" "$2/$file" > "$copy/$file"
-      cmp -s "$2/$file" "$copy/$file" || is_edited=1
-    done
-    [ $is_edited = 1 ] || { echo "${1#"$work"/}:$((at + 1)): no file has what it edits: $edit"; continue; }
-    run "$work/tested" "$4" "$copy"
-    [ "$ended" = 0 ] || { echo "${1#"$work"/}:$((at + 1)): not built: $edit"; tail "$work/tested"; }
-    run "$work/tested" "$5" "$copy"
-    [ "$ended" != 0 ] || echo "${1#"$work"/}:$((at + 1)): not seen: $edit"
-  done > "$work/unseen"
-  diff /dev/null "$work/unseen"
-  [ $tried = 1 ]
-}
-
 # Of the files that Git has in a folder, another one has all but those whose paths match.
 has_all_but() {
   git -C "$2" ls-files | sort > "$work/listed"

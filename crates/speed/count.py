@@ -202,11 +202,6 @@ def results(program: str, names: list[str]) -> Iterator[tap.Result]:
     """Compares the counts with those of the page."""
     page = PAGE.read_text("utf-8")
     yield "docs/SPEED.md", "\n".join(text_errors(page, names))
-    other = re.sub(r"\d\.\d\d \|", "9.99 |", page, count=1).replace("| `hash` | ", "| `none` | ")
-    found = text_errors(other, names[:-1])
-    yield tap.planted("a row, a share, a cause", found, "other rows", "not what --write", "above 1.05")
-    changed = differences({"a": [10], "b": [1]}, {"a": [10, 10], "c": [1]})
-    yield tap.planted("counts", [changed], "a: [10] instructions, stored [10, 10]", "b: it is", "c: it is")
     # with another compiler or C library, and without AVX2, for its copies, the counts differ
     compiler, library = (re.findall(rf"\b{name}\s+(\d[\d.]*\d)", page)[0] for name in ("GCC", "glibc"))
     if gone := tap.missing(["valgrind", "cpu:avx2", f"cc={compiler}", f"ldd={library}"]):

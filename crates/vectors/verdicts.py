@@ -16,7 +16,6 @@ Of the first inputs 3000 came from outside. None is there twice with one capacit
 import difflib
 import hashlib
 import itertools
-import operator
 import random
 import re
 import sys
@@ -205,23 +204,7 @@ def main() -> int:
         case [_, *_]:
             print(__doc__, file=sys.stderr)
             return 2
-    new = f"{RULES.line(0, bytes(77))}\n"
-    results = [("the results of the stored inputs", error_of(stored)), ("an appended input", error_of(stored + new))]
-    count = 2000
-    made = "\n".join(drawn(stored, 1, count))
-    words = ({*re.findall(r"\t(\w*[g-z]\w*)", text)} for text in (stored, made))
-    results.append(("drawn inputs have each result", " ".join(operator.xor(*words))))
-    orders = {line.rpartition("\t")[2] for line in pairs(stored, 1, 99) if line.startswith("order")}
-    results.append(("pairs compare in each way", " ".join({"-1", "0", "1"} ^ orders)))
-    new_inputs = {*inputs_of(made)} - {*inputs_of(stored)}
-    results.append(("most drawn inputs are new", "" if len(new_inputs) > count // 2 else f"{len(new_inputs)} are"))
-    others = f"the first {FIRST} inputs are others"
-    for what, text, error in (
-        ("a wrong result", stored.replace("invalid_size 3", "invalid_size 4", 1), "@@ -2 +2 @@"),
-        ("another capacity", stored.replace("\n1\t88f5bac6a53b03", "\n2\t88f5bac6a53b03", 1), others),
-        ("an input twice", stored + new + new, "an input is there twice with one capacity"),
-    ):
-        results.append(tap.planted(what, [error_of(text)], error))
+    results = [("the results of the stored inputs", error_of(stored))]
     return tap.report(results)
 
 

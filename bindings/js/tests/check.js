@@ -13,12 +13,6 @@ export function same(found, wanted, what) {
   if (found !== wanted) throw new Error(`${what}: ${String(found)}, wanted ${String(wanted)}`);
 }
 
-/** Values that only `==` takes for the same are not. */
-export function comparing() {
-  for (const [found, wanted] of [[1, '1'], [1, 1n], [null, undefined], [0, false]])
-    fails(Error, () => same(found, wanted, 'two'), 'same', `two: ${found}, wanted ${wanted}`);
-}
-
 /** What a promise gives, or its error, as text. */
 export const told = (promise) => promise.then(String, String);
 

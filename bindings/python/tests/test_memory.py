@@ -128,11 +128,6 @@ class Memory(unittest.TestCase):
             with self.subTest(call=name):
                 self.assertFalse(keeps(call)[0], "it is kept")
 
-    def test_kept(self):
-        """A reference to an object that lasts is found, as a block is, which not all allocators count."""
-        kept = []
-        self.assertTrue(keeps((lambda: kept.append(VALUE), ()))[0])
-
     def test_modules(self):
         """Of a package that was imported anew no type and name is left, though its module has a reader with it."""
 

@@ -117,24 +117,3 @@ impl Reading {
 fn is_incomplete<const S: usize>(found: &Result<Multihash<S>, Error>) -> bool {
     matches!(found, Err(e) if e.is_incomplete())
 }
-
-// Of an input that ends within a varint all bytes are consumed, of one that ends within the digest both
-// varints: with a byte less it is not found.
-#[test]
-fn incomplete_inputs_are_consumed(rt: HostRuntime) {
-    let input = [0x92, 1, 2, 7];
-    let listed = Reading {
-        verdict: Verdict::Insufficient,
-        consumed: None,
-    };
-    let found = Multihash::<4>::read(&mut &input[..1]);
-    fakes::check!(&rt; listed.is_found(&found, &input[..1], &input[1..1], false));
-    fakes::check!(&rt; !listed.is_found(&found, &input[..1], &input[..1], false));
-    let listed = Reading {
-        verdict: Verdict::UnexpectedEof,
-        consumed: None,
-    };
-    let found = Multihash::<4>::read(&mut &input[..]);
-    fakes::check!(&rt; listed.is_found(&found, &input, &input[3..], false));
-    fakes::check!(&rt; !listed.is_found(&found, &input, &input[2..], false));
-}
