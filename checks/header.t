@@ -2,8 +2,7 @@
 """Compares the header for C and the numbers of the bindings with the crate, and the versions that files state.
 
 The preprocessed header has to be the declarations that are made from the crate, and nothing else, and its macros the
-crate's constants; c_library.t compiles it as C++ too. A text in no known form is an exception. Then the differences of
-checks/lib/header.edits are planted, each of which has to be found as what it is.
+crate's constants; c_library.t compiles it as C++ too. A text in no known form is an exception.
 """
 import re
 import subprocess
@@ -83,8 +82,7 @@ def error_of(files: Files) -> str:
 
 
 def results() -> Iterator[tap.Result]:
-    yield "the version", "
-".join(version.errors(version.read()))
+    yield "the version", "\n".join(version.errors(version.read()))
     files = read_files(HEADER, MAP, f"{PYTHON}/**/*.py", f"{JS}/core.js", f"{JS}/index.d.ts")
     yield "the header and the bindings", error_of(files)
 

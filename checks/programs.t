@@ -1,6 +1,5 @@
 #!/usr/bin/env python3
 """Runs README.md's commands and programs, and the programs of the languages' pages, by lib/start.py."""
-import re
 import subprocess
 import sys
 import tempfile

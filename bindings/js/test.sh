@@ -14,7 +14,7 @@ export MULTIHASH_VERDICTS=$vectors/verdicts.tsv
 # All tests of a folder, or those that other words choose. No process may take more than that CPU time.
 npm_test() { (cd "$1"; ulimit -t 600; npm test -- "${@:2}"); }
 
-# Inputs that are drawn have the results that verdicts.py computes..
+# Inputs that are drawn have the results that verdicts.py computes.
 drawn() {
   local -x MULTIHASH_VERDICTS=$work/drawn/verdicts.tsv
   mkdir "$work/drawn"

@@ -88,7 +88,7 @@ all_tests() {
   unit_tests "$here/tests" PYTHONMALLOC=debug
 }
 
-# Inputs that are drawn have the results that verdicts.py computes..
+# Inputs that are drawn have the results that verdicts.py computes.
 drawn() {
   local -x MULTIHASH_VERDICTS=$work/drawn/verdicts.tsv
   mkdir "$work/drawn"
