@@ -51,12 +51,6 @@ old_processor() {
     cc "${c_flags[@]}" -O2 -static "${tests[@]}" "$library"
 }
 
-# C by hand, with a later header.
-by_hand() {
-  sed -E 's/(_VERSION ).*/\1"12.34.56"/; s/(_NUMBER )[0-9]+$/\1123456/' "$c/include/multihash.h" > "$work/multihash.h"
-  build_and_run "$1" "" cc "${c_flags[@]}" -O2 -I "$work" "$top/crates/speed/from_c/$1.c" "${tests[@]}"
-}
-
 try "static library" build_library
 needs="nm" try exports exports_exactly "$library"
 needs="nm objdump" try "what it needs" keeps_no_state "$library" memcpy memmove
@@ -69,7 +63,5 @@ needs=valgrind try valgrind under_valgrind valgrind "$library"
 needs=valgrind try "a read that valgrind sees" rejects "0 bytes after a block of size" overread \
   under_valgrind overread
 needs=qemu-x86_64 try "a processor of the baseline" old_processor
-# what is counted beside the library
-try "C by hand" by_hand plain
-try "fast C by hand" by_hand fast
+try "the version that files state" tools/version.py --check
 finish

@@ -9,13 +9,6 @@ require cc cmake python3 readelf pkg-config
 . checks/lib/installed.sh
 library=$c/prebuilt/x86_64/libmultihash_c.a
 
-# The first example of the page.
-example_in() {
-  block_of bindings/c/README.md c > "$work/example.c"
-  cc "${c_flags[@]}" -I "$c/include" "$work/example.c" "$library" -o "$work/example"
-  "$work/example" | diff <(echo "code 0, digest hello") -
-}
-
 # The reader of a stream of a folder, over pipes that are cut at each byte.
 reads_stream() {
   cc "${c_flags[@]}" "${sanitize[@]}" -I "$c/include" -I "$1" "$c/tests/stream.c" "$library" -o "$work/stream"
@@ -110,7 +103,6 @@ in_go() {
   go run . | diff <(echo 'code 18, digest abc') -
 }
 
-try "the example of the page" example_in
 try "the reader of a stream" stream_example
 needs=/usr/include/openssl/evp.h try "the example that hashes" verify_example
 ONLY='' try "a prefix" installs

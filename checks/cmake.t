@@ -29,10 +29,6 @@ machines() {
   gets Generic aarch64 "" OFF OFF
   CC=clang gets Windows AMD64 --target=x86_64-pc-windows-msvc OFF ON
   CC=clang gets Darwin arm64 --target=arm64-apple-macos11 OFF ON
-  grep -LF -e --version-script= "$work"/machine.*/CMakeFiles/multihash_c_shared.dir/link.txt | sed 's/-.*//; s/.*\.//' |
-    diff <(printf '%s\n' Darwin Windows) -
-  grep -rhoE '\w*multihash_c(_shared)?\.lib|exports\.def' "$work"/machine.Windows*/CMakeFiles | sort -u |
-    diff <(printf '%s\n' exports.def multihash_c{,_shared}.lib) -
 }
 
 # The toolchain file has the archive for its machine.
@@ -48,32 +44,6 @@ builds_for_windows() {
   build windows -DCMAKE_SYSTEM_NAME=Windows -DCMAKE_C_COMPILER=x86_64-w64-mingw32-gcc -DCMAKE_C_FLAGS="${c_flags[*]}" \
     -DCMAKE_CROSSCOMPILING_EMULATOR=wine
   { wineserver -k || true; }
-}
-
-# What a file is read for is made anew once it was edited: here with one more line, for which that fails. The archive of
-# another machine is not built.
-after_edits() {
-  local copy=$work/edited file line text
-  mkdir -p "$copy/bindings"
-  cp CHANGES CMakeLists.txt LICENSE "$copy"
-  cp -r bindings/c "$copy/bindings"
-  cmake -S "$copy" -B "$copy/build" -DMULTIHASH_C_ARCHIVE=OFF -DBUILD_TESTING=OFF
-  cmake --build "$copy/build"
-  while IFS='|' read -r file line text; do
-    cp -p "$copy/$file" "$work/file"
-    echo "$line" >> "$copy/$file"
-    rejects "$text" cmake --build "$copy/build"
-    cp -p "$work/file" "$copy/$file"
-    cmake --build "$copy/build"
-  done << END
-bindings/c/src/multihash_c.map|planted|syntax error in VERSION script
-bindings/c/man.py|sys.exit("planted")|planted
-bindings/c/include/multihash.h|#define MULTIHASH_VERSION "2"|too many values
-CHANGES|$version (2026-01-01)|too many values
-END
-  (cd "$copy/bindings/c/prebuilt"; mv aarch64 kept; mv x86_64 aarch64; mv kept x86_64)
-  rejects "not the archive of prebuilt/SHA256SUMS" cmake -S "$copy" -B "$copy/other" -DCMAKE_SYSTEM_NAME=Linux \
-    -DCMAKE_SYSTEM_PROCESSOR=x86_64
 }
 
 # Flags of a distribution reach the compiler, before those of the build type, and the linker, and hide no function of
@@ -102,7 +72,6 @@ has_configurations() {
   paste -sd ' ' "$work/names" | tr -s ' ' | diff <(echo "-lmultihash_cd -lmultihash_c ") -
 }
 
-try "after edits" after_edits
 needs="ninja pkg-config" try "several configurations" has_configurations
 needs=clang try "other machines" machines
 needs=/lib64/ld-linux-x86-64.so.2 try "x86-64 with 32 bits" gets Linux x86_64 -m32 OFF ON

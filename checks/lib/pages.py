@@ -8,7 +8,7 @@ import sys
 from collections.abc import Iterator
 from functools import cache
 
-from start import FENCE, HEAD, TOP
+from start import FENCE, TOP
 
 sys.path.append(str(TOP / "tools"))
 import contracts
@@ -99,29 +99,6 @@ def link_errors(texts: Texts) -> Iterator[str]:
                 yield f"{placed(page, texts[page], link)}: a link leads nowhere: {link}"
 
 
-def path_errors(texts: Texts) -> Iterator[str]:
-    """Returns the paths below some folders that a file names, and that are gone; NAME stands for any name."""
-    form = re.compile(r"(?<![\w./-])(?:\.ci|checks|crates(?!/app|/\w+/out)|docs|tools)/[\w./-]*\w")
-    for path in paths():
-        for name in {*form.findall(texts.get(path) or read(path))} if not path.endswith(".edits") else ():
-            if "NAME" not in name and not (TOP / name).exists():
-                yield f"{placed(path, texts.get(path) or read(path), name)}: there is no {name}"
-
-
-def name_errors(texts: Texts) -> Iterator[str]:
-    """Returns the calls, and the names of two words or more, in backquotes or in blocks of JavaScript, that no source
-    has. A name after a dot may be another library's, and programs are run."""
-    known = {*re.findall(r"\w+\(?", sources())} | {*re.findall(r"\w+", sources())}
-    for page, text in pages_of(texts).items():
-        blocks = [body for language, body in FENCE.findall(text) if language == "js" and not HEAD.match(body)]
-        for quote in [*re.findall(r"`([^`]+)`", FENCE.sub("", text)), *blocks]:
-            names = {*re.findall(r"(?<![.\w])[A-Za-z]\w+\(|[A-Za-z]\w*(?:_|[a-z][A-Z])\w+", quote)}
-            names = {name[1:] if f"-{name}" in quote and name[1:] in known else name for name in names}  # CMake's -D
-            names -= {*re.findall(r"\b(?:const|let|function|class) (\w+)", quote)}
-            if page.startswith(("bindings/", "crates/", "docs/")) and not names <= known:
-                yield f"{placed(page, texts[page], min(names - known))}: no source has {names - known}"
-
-
 def declared_errors(texts: Texts) -> Iterator[str]:
     """Returns what a source declares and its page does not name, and what is only in this library and not named in
     DIFFERENCES.md."""
@@ -136,14 +113,3 @@ def declared_errors(texts: Texts) -> Iterator[str]:
     upstream = [path for path in paths() if re.match(f"{RUST}/src/(?!proved/)", path)]
     known = "".join(map(read, upstream)) + texts[DIFFERENCES]
     yield from (f"{DIFFERENCES} does not have {name}" for name in sorted(names - {*re.findall(r"\w+", known)}))
-
-
-def lemma_errors(texts: Texts) -> Iterator[str]:
-    """Returns the lemmas of the library that its callers' proofs use, and that CALLING.md does not name."""
-    for path in paths():
-        if re.match(r"crates/(?:examples|frame|storage)/(?:proofs|src)/", path):
-            for used in re.findall(r"Rattle\.(?:multihash|frame)\.proofs\.\w+Lemmas\.\{(.*)\}", read(path)):
-                names = {name.split()[0] for name in used.split(",")}
-                gone = [name for name in sorted(names) if not re.search(rf"`[^`]*\b{name}\b[^`]*`", texts[CALLING])]
-                if gone:
-                    yield f"{CALLING} does not name lemmas that {path} uses: {gone}"

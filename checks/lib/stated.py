@@ -29,23 +29,6 @@ STATED = (
     (r"\| a SCALE encoding \| 9 to (\d+)", HEADER, r"MULTIHASH_SCALE_LENGTH_MAX (\d+)"),
 )
 
-# what packages state as the first file does: the licence, its owner, the address
-ALIKE = (
-    (r'(?:^|license\w*\W+)(\w+)(?: License$|")', "LICENSE", CARGO, NPM, "bindings/python/setup.py", "tools/sbom.py"),
-    (r'(?:Copyright .*\d{4} |author.*[:=] ")([^"\n]*)', "LICENSE", JS, NPM, "bindings/python/pyproject.toml"),
-    (r"^(?:URL|Homepage): (.*)", "bindings/c/multihash_c.pc.in", "bindings/c/debian/control"),
-)
-
-
-def package_errors(texts: Texts) -> Iterator[str]:
-    """Compares what packages state of themselves."""
-    for form, first, *others in ALIKE:
-        [wanted, *_] = re.findall(form, read(first), re.M)
-        for path in others:
-            lines = enumerate((texts.get(path) or read(path)).splitlines(), 1)
-            found = [(at, value) for at, line in lines for value in re.findall(form, line)] or [(1, "")]
-            yield from (f"{path}:{at}: {value!r}, {first} has {wanted!r}" for at, value in found if value != wanted)
-
 
 def stated_errors(texts: Texts) -> Iterator[str]:
     """Compares versions and limits of pages with where they are from, and the errors in the page for C."""
