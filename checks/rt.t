@@ -20,14 +20,14 @@ runs_all() {
   tail -n 1 "$work/ran/out" | diff - <(echo "$all passed, 0 failed")
 }
 
-# The kit is the one that tools/makers states.
+# The logic is the one that the pages name. Another kit of the same logic proves the same.
 is_stated() {
   # shellcheck source=tools/makers
   . tools/makers
-  rt version | diff - <(echo "$kit logic $logic")
+  rt version | grep -F " logic $logic"
 }
 
 try "rt ci" passes
-try "the kit" is_stated
+try "the logic" is_stated
 try "all crates and tests" runs_all
 finish

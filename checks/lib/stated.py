@@ -20,7 +20,6 @@ STATED = (
     (r"(?<!In )CPython (\d\.\d+)", "bindings/python/pyproject.toml", r'requires-python = ">=(.*)"'),
     (r"[Nn]ode(?:\.js |=)(\d+\.\d+)", NPM, r'"node": ">=(.*)"'),
     (r"`multihash` (\d[\d.]*\d)", CARGO, r'\nversion = "(.*)"'),
-    (r"`(rattle-kit-[^`]*)`", "tools/makers", r"(?m)^kit=(.*)"),
     (r"logic `([^`]*)`", "tools/makers", r"(?m)^logic=(.*)"),
     (r"WABT (\d[\d.]*\d)", "tools/makers", r"(?m)^wabt=(.*)"),
     (r"\| a digest \| 0 to `min\(S, (\d+)\)", HEADER, r"MULTIHASH_DIGEST_MAX (\d+)"),
