@@ -5,6 +5,7 @@
 . checks/lib/installed.sh
 # shellcheck source=tools/makers
 . tools/makers
+# shellcheck disable=SC2034 # release.t
 upstream=$(sed -n 's/^version = "\(.*\)"/\1/p' bindings/rust/multihash/Cargo.toml)
 
 # The packages of a folder for an architecture, unpacked together, have what is installed, the licence, and no more.

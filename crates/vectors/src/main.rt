@@ -1,30 +1,129 @@
-//! Replays test vectors against the library: each call has to return what the line says, and to consume that
-//! number of bytes.
-//!
-//! The vectors are the file `verdicts.tsv` in the current folder. The program prints a line for each
-//! check that all lines agree with, and one for each disagreement, with its input. A malformed line
-//! ends the run: what is above it is replayed and printed, and then the line is named. The exit
-//! status is 1 after a disagreement, or if the file cannot be read.
+//! Prints what each call returns for the inputs of `verdicts.tsv`, a file in the current folder: the same list, as the
+//! file `stdout` is. Calls over parts and over JSON return the same, or their result follows the line.
 #![tactic(auto)]
+ghost use Rattle.std.specs.Prelude.{◌≤◌, ◌<◌};
 
-use anyhow::Context;
+use anyhow::{Context, Result, bail};
+use fakes::streams::Cuts;
+use multihash::{Error, Multihash};
+use serde_json::Value;
+use std::alloc::Global;
+use std::fmt::Write;
 use std::fs;
-use std::process::ExitCode;
-
-mod check;
-mod line;
-mod replay;
 
 const LIST: &str = "verdicts.tsv";
 
-fn main(rt: HostRuntime) -> anyhow::Result<ExitCode> {
+fn main(rt: HostRuntime) -> Result<()> {
     let list = fs::read_to_string(&rt, LIST).context(LIST)?;
-    let mut report = String::new(rt.alloc());
-    let replayed = replay::replay(rt.alloc(), list.as_str(), &mut report);
-    print!(rt; "{report}")?;
-    Ok(if replayed? {
-        ExitCode::SUCCESS
-    } else {
-        ExitCode::FAILURE
-    })
+    let mut out = String::new(rt.alloc());
+    for (number, line) in list.lines().enumerate() {
+        if number == 0 {
+            write!(out, "{line}")?;
+        } else {
+            write_line(rt.alloc(), line, &mut out)?;
+        }
+        writeln!(out)?;
+    }
+    print!(rt; "{out}")?;
+    Ok(())
+}
+
+fn write_line(alloc: Global, line: &str, out: &mut String) -> Result<()> {
+    let mut columns = line.split('\t');
+    let (Some(size), Some(input)) = (columns.next(), columns.next()) else {
+        bail!("no capacity and no input: {line}");
+    };
+    write!(out, "{size}\t{input}\t")?;
+    let bytes = hex::decode(alloc, if input == "-" { "" } else { input })?;
+    match size {
+        "0" => write_results::<0>(alloc, &bytes, out),
+        "1" => write_results::<1>(alloc, &bytes, out),
+        "2" => write_results::<2>(alloc, &bytes, out),
+        "4" => write_results::<4>(alloc, &bytes, out),
+        "16" => write_results::<16>(alloc, &bytes, out),
+        "32" => write_results::<32>(alloc, &bytes, out),
+        "64" => write_results::<64>(alloc, &bytes, out),
+        "128" => write_results::<128>(alloc, &bytes, out),
+        "200" => write_results::<200>(alloc, &bytes, out),
+        "255" => write_results::<255>(alloc, &bytes, out),
+        "256" => write_results::<256>(alloc, &bytes, out),
+        "300" => write_results::<300>(alloc, &bytes, out),
+        _ => bail!("no buffer has this size: {size}"),
+    }
+}
+
+fn write_results<const S: usize>(alloc: Global, input: &[u8], out: &mut String) -> Result<()>
+    requires { S ≤ 300 }
+{
+    let mut members = Vec::with_capacity(alloc, input.len())?;
+    for byte in input {
+        members.push(Value::from(*byte))?;
+    }
+    let mut left = input;
+    let read = Multihash::<S>::read(&mut left);
+    write_reading(alloc, &read, input.len().saturating_sub(left.len()), out)?;
+    let whole = Multihash::<S>::from_bytes(input);
+    write!(out, "\t")?;
+    write_verdict(alloc, &whole, out)?;
+    let mut left = input;
+    let scale = Multihash::<S>::scale_decode(&mut left);
+    write!(out, "\t")?;
+    write_reading(alloc, &scale, input.len().saturating_sub(left.len()), out)?;
+    for most in 1..5 {
+        let mut cuts = Cuts::new(input, most);
+        write_other(alloc, &Multihash::read(&mut cuts), &read, out)?;
+        let mut cuts = Cuts::new(input, most);
+        write_other(alloc, &Multihash::scale_decode(&mut cuts), &scale, out)?;
+    }
+    write_other(alloc, &Multihash::from_value(&Value::Array(members)), &whole, out)
+}
+
+// With the number of bytes that were consumed, unless more input can change the result.
+fn write_reading<const S: usize>(
+    alloc: Global,
+    found: &Result<Multihash<S>, Error>,
+    taken: usize,
+    out: &mut String,
+) -> Result<()> {
+    write_verdict(alloc, found, out)?;
+    match found {
+        Err(e) if e.is_incomplete() => write!(out, "\t-")?,
+        _ => write!(out, "\t{taken}")?,
+    }
+    Ok(())
+}
+
+fn write_other<const S: usize>(
+    alloc: Global,
+    found: &Result<Multihash<S>, Error>,
+    wanted: &Result<Multihash<S>, Error>,
+    out: &mut String,
+) -> Result<()> {
+    let (mut one, mut other) = (String::new(alloc), String::new(alloc));
+    write_verdict(alloc, found, &mut one)?;
+    write_verdict(alloc, wanted, &mut other)?;
+    if one.as_str() != other.as_str() {
+        write!(out, "\tbut {one}")?;
+    }
+    Ok(())
+}
+
+fn write_verdict<const S: usize>(
+    alloc: Global,
+    found: &Result<Multihash<S>, Error>,
+    out: &mut String,
+) -> Result<()> {
+    match found {
+        Ok(m) if m.size() == 0 => write!(out, "pair {} -", m.code())?,
+        Ok(m) => write!(out, "pair {} {}", m.code(), hex::encode(alloc, m.digest())?)?,
+        Err(e) => match (e.invalid_size(), e.invalid_code()) {
+            (Some(size), _) => write!(out, "invalid_size {size}")?,
+            (_, Some(code)) => write!(out, "invalid_code {code}")?,
+            _ if e.is_insufficient() => write!(out, "insufficient")?,
+            _ if e.is_overflow() => write!(out, "overflow")?,
+            _ if e.is_not_minimal() => write!(out, "not_minimal")?,
+            _ => write!(out, "unexpected_eof")?,
+        },
+    }
+    Ok(())
 }
