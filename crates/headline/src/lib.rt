@@ -1,13 +1,13 @@
 //! The main theorems, as the contracts of four functions. Each returns what it made, so a body that does
-//! not do the work fails its contract. No contract can state that an allocation succeeds: `same` and
-//! `list_through` may run out of memory, and nothing else stops `same`.
+//! not do the work fails its contract. No contract can state that an allocation succeeds: `list_through`
+//! may run out of memory.
 #![tactic(auto)]
 
 ghost use Rattle.std.specs.Prelude.{◌≡◌, ◌<◌, ◌⊎◌, ◌↔◌, ℕ, List, ◌+◌, ◌++◌, map, All, Some, IfSome, IfOk, IfErr, IsOkAnd, IsErr, IsErrAnd, IsTrue, MatchResult};
 ghost use Rattle.multihash.specs.Bytes.{ExactlyOne, IsPrefix};
 ghost use Rattle.multihash.specs.Pair.{Pair, FitsBuffer};
 ghost use Rattle.multihash.specs.Encoding.{IsEncoding};
-ghost use Rattle.multihash.specs.Verdict.{Verdict, HasVerdict, HasWholeVerdict, IsIncomplete};
+ghost use Rattle.multihash.specs.Verdict.{Verdict, BeginsWith, HasVerdict, HasWholeVerdict, IsIncomplete};
 ghost use Rattle.multihash.specs.Settling.{IsShortestSettling};
 ghost use Rattle.multihash.specs.Streams.{AreConcatenated};
 ghost use Rattle.multihash.specs.Reading.{Consumes};
@@ -44,6 +44,11 @@ pub fn read_verdict<const S: usize, R: Read>(r: &mut R) -> Result<Multihash<S>, 
         ⊎ ((R.failures r.new ≡ R.failures r.old) × IfSome (R.rest r.old)
         (λ rest. (one : ExactlyOne (HasVerdict S rest)) × IsResultOf result one.value)) }
 
+    // The result is a pair exactly if an encoding of it that fits is at the front of the rest.
+    ensures canonical { IfSome (R.rest r.old) (λ rest. R.failures r.new ≡ R.failures r.old →
+        (p : Pair) → ((left : List ℕ) × BeginsWith p rest left × FitsBuffer S p)
+        ↔ IsOkAnd result (λ m. pair_of m ≡ p)) }
+
     // If more input could not change the verdict, the rest has exactly one shortest prefix that settles it,
     // and exactly that was consumed.
     ensures settled { IfSome (R.rest r.old) (λ rest. R.failures r.new ≡ R.failures r.old →
@@ -61,57 +66,30 @@ pub fn read_verdict<const S: usize, R: Read>(r: &mut R) -> Result<Multihash<S>, 
     Multihash::read(r)
 }
 
-/// The encodings of two values, and whether the values are the same.
-#[derive(Drop)]
-pub struct Compared {
-    /// The encoding of the first.
-    pub first: Vec<u8>,
-    /// The encoding of the second.
-    pub second: Vec<u8>,
-    /// Whether they are the same.
-    pub same: bool,
-}
-
-/// Compares two multihashes, whatever the capacities of their buffers. Values are equal exactly if their
+/// Returns whether two multihashes are the same, whatever the capacities of their buffers: exactly if their
 /// encodings are equal.
-pub fn same<const A: usize, const B: usize>(
-    alloc: Global,
-    a: &Multihash<A>,
-    b: &Multihash<B>,
-) -> Result<Compared, Error>
-    // The vectors contain their encodings.
-    ensures first { IfOk result (λ x. IsEncoding (pair_of a.now) x.first.items) }
-    ensures second { IfOk result (λ x. IsEncoding (pair_of b.now) x.second.items) }
+pub fn same<const A: usize, const B: usize>(a: &Multihash<A>, b: &Multihash<B>) -> bool
+    // Each has exactly one encoding.
+    ensures first { ExactlyOne (IsEncoding (pair_of a.now)) }
+    ensures second { ExactlyOne (IsEncoding (pair_of b.now)) }
 
     // They are the same exactly if their codes and digests are equal.
-    ensures same { IfOk result (λ x. IsTrue x.same ↔ (pair_of a.now ≡ pair_of b.now)) }
+    ensures same { IsTrue result ↔ (pair_of a.now ≡ pair_of b.now) }
 
     // They are the same exactly if their encodings are equal.
-    ensures alike { IfOk result (λ x. IsTrue x.same ↔ (x.first.items ≡ x.second.items)) }
+    ensures alike { (x y : List ℕ) → IsEncoding (pair_of a.now) x → IsEncoding (pair_of b.now) y →
+        (IsTrue result ↔ (x ≡ y)) }
 
     // No encoding is a prefix of another: if one is, they are the same.
-    ensures begins { IfOk result (λ x. IsPrefix x.first.items x.second.items
-        ⊎ IsPrefix x.second.items x.first.items → IsTrue x.same) }
-
-    // The only error is out of memory.
-    ensures memory { IfErr result IsOutOfMemory }
+    ensures begins { (x y : List ℕ) → IsEncoding (pair_of a.now) x → IsEncoding (pair_of b.now) y →
+        IsPrefix x y ⊎ IsPrefix y x → IsTrue result }
 {
     laws::prefix_free();
-    let first = a.to_bytes(alloc)?;
-    let second = b.to_bytes(alloc)?;
-    let same = a.same_as(b);
-    Ok(Compared {
-        first,
-        second,
-        same,
-    })
+    a.same_as(b)
 }
 
 /// Writes a list to any writer, and reads it back from any reader, into values of the same capacity or of
 /// another. What was written is read back, if the digest fits.
-///
-/// `W.appended` is all that contracts know of what a writer did. For `&mut [u8]` it holds of any bytes of the
-/// right length, so no reader meets the premise of `back`; for a vector one does.
 pub fn list_through<const S: usize, const T: usize, W: Write, R: Read>(
     alloc: Global,
     items: &[Multihash<S>],
@@ -122,11 +100,12 @@ pub fn list_through<const S: usize, const T: usize, W: Write, R: Read>(
     ensures written { (bytes : List ℕ) × AreConcatenated (map pair_of items.now) bytes
         × (W.appended w.old bytes w.new ⊎ (IsErr result × AppendsPrefix W.appended w.old bytes w.new)) }
 
-    // If the reader's input is what was appended and then `more`, and the digests fit the new capacity, the
-    // same pairs are read in order, and `more` is left. Otherwise memory ran out, the writer failed or was
+    // If the reader's input is the encodings and then `more`, and the digests fit the new capacity, the same
+    // pairs are read in order, and `more` is left. Otherwise memory ran out, the writer failed or was
     // full, or the reader failed, once.
     ensures back { (more : List ℕ) →
-        ((bytes : List ℕ) → W.appended w.old bytes w.new → R.rest r.old ≡ Some (bytes ++ more)) →
+        ((bytes : List ℕ) → AreConcatenated (map pair_of items.now) bytes →
+        R.rest r.old ≡ Some (bytes ++ more)) →
         All (FitsBuffer T) (map pair_of items.now) →
         MatchResult result (λ list. (map pair_of list.items ≡ map pair_of items.now)
         × (R.rest r.new ≡ Some more))

@@ -10,7 +10,7 @@ use examples::merkle::through;
 use fakes::expect::{ErrorKind, is_rejected};
 use fakes::forms::{CASES, USUAL, case, different};
 use fakes::{check, check_eq, expect_ok};
-use headline::{list_through, same};
+use headline::list_through;
 use multihash::list::{read_list, write_list};
 use multihash::no_std_io::Write;
 use multihash::{Error, Multihash};
@@ -287,7 +287,6 @@ fn allocating_examples(rt: HostRuntime) -> Result<(), Fail> {
                 rt,
                 &through::<4, 4, _, _>(alloc, &nine, &[], &mut room, &mut links),
             )
-            && succeeded(rt, &same(alloc, &m, &m))
             && succeeded(rt, &there_and_back(alloc, m.digest()))
             && succeeded(rt, &scale(alloc, &m))
             && succeeded(rt, &json(alloc, &m)),

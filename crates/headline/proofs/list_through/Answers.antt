@@ -26,4 +26,4 @@ returns-clause-back g c more pipe fit =
     let items = c.args.items.now in
     unless_failed _ _ _ _ _ c.read_list.result c.read_list.ensures.faults (λ unfailed. MatchResult-weaker c.read_list.result
     (read_list_of_encodings g.row.T _ _ _ _ _ (map pair_of items) wrote.ok.0 more c.read_list.result wrote.ok.1 fit (length-map items pair_of)
-    (pipe wrote.ok.0 wrote.ok.2) unfailed c.read_list.ensures.ok c.read_list.ensures.err) (λ _ h. h) (λ _. inl))
+    (pipe wrote.ok.0 wrote.ok.1) unfailed c.read_list.ensures.ok c.read_list.ensures.err) (λ _ h. h) (λ _. inl))

@@ -1,13 +1,14 @@
-use Rattle.std.proofs.Common.{◌≡◌, ◌⊎◌, ◌+◌, ℕ, List, Option, Some, Result, Ok, Err, IfSome, IsErrAnd, inl, inr, subst}
+use Rattle.std.proofs.Common.{◌≡◌, ◌↔◌, ◌⊎◌, ◌+◌, ℕ, List, Option, Some, Result, Ok, Err, IfSome, IsErrAnd, IsOkAnd, inl, inr, sym, ◌∙◌, subst}
 use Rattle.std.proofs.lemmas.Option.{IfSome_then}
 use Rattle.multihash.specs.Bytes.{ExactlyOne}
-use Rattle.multihash.specs.Verdict.{Verdict, HasVerdict, IsIncomplete}
+use Rattle.multihash.specs.Pair.{Pair, FitsBuffer}
+use Rattle.multihash.specs.Verdict.{Verdict, accepted, BeginsWith, HasVerdict, IsIncomplete}
 use Rattle.multihash.specs.Settling.{IsShortestSettling}
 use Rattle.multihash.specs.Consuming.{ReadMayFailWith, ConsumesShortestSettling}
 use Rattle.multihash.specs.Reading.{Consumes, CountsReaderFailures}
 use Rattle.multihash.specs.Refusal.{Refusal, IsReaderError}
-use Rattle.multihash.specs.Outcome.{IsResultOf}
-use Rattle.multihash.specs.Multihash.{Fields}
+use Rattle.multihash.specs.Outcome.{IsErrorOf, IsResultOf}
+use Rattle.multihash.specs.Multihash.{Fields, pair_of}
 use Rattle.headline.proofs.read_verdict.Goals as goal
 
 -- the reader failed, once, or the verdict that was returned is the only one
@@ -46,3 +47,26 @@ returns-clause-one g c = one_returned g.row.S _ _ _ c.read.result c.one_verdict.
 
 pub returns-clause-settled : goal.returns-clause-settled
 returns-clause-settled g c = one_taken g.row.S _ _ _ _ c.settles.ensures.one_shortest c.read.ensures.settled
+
+-- a pair is the result exactly if its encoding is at the front and it fits
+returns_pair : (S : ℕ) (input : List ℕ) (r : Result (Fields S) Refusal) (v : Verdict) → HasVerdict S input v → IsResultOf r v
+    → ((w : Verdict) → HasVerdict S input w → w ≡ v) → (p : Pair)
+    → HasVerdict S input (accepted p) ↔ IsOkAnd r (λ m. pair_of m ≡ p)
+returns_pair S input (Ok m) v has is_result only p = (
+  (λ own. let told : accepted (pair_of m) ≡ accepted p = sym is_result ∙ sym (only (accepted p) own) in cc),
+  λ same. subst (λ q. HasVerdict S input (accepted q)) same (subst (HasVerdict S input) is_result has),
+)
+returns_pair S input (Err e) v has is_result only p = (
+  (λ own. subst (IsErrorOf e) (sym (only (accepted p) own)) is_result),
+  λ is_ok. absurd is_ok,
+)
+
+pair_returned : (S before after : ℕ) (old : Option (List ℕ)) (r : Result (Fields S) Refusal)
+    → ((S : ℕ) (input : List ℕ) (v w : Verdict) → HasVerdict S input v → HasVerdict S input w → v ≡ w)
+    → IfSome old (λ rest. after ≡ before → (v : Verdict) × HasVerdict S rest v × IsResultOf r v)
+    → IfSome old (λ rest. after ≡ before → (p : Pair) → ((left : List ℕ) × BeginsWith p rest left × FitsBuffer S p) ↔ IsOkAnd r (λ m. pair_of m ≡ p))
+pair_returned S before after old r unique verdict = IfSome_then old verdict
+    (λ rest found same p. let v = found same in returns_pair S rest r v.0 v.1 v.2 (λ w has. unique S rest w v.0 has v.1) p)
+
+pub returns-clause-canonical : goal.returns-clause-canonical
+returns-clause-canonical g c = pair_returned g.row.S _ _ _ c.read.result c.one_verdict.ensures.read_unique c.read.ensures.verdict

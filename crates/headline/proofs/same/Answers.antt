@@ -1,0 +1,25 @@
+use Rattle.std.proofs.Common.{◌≡◌, ◌↔◌, ◌⊎◌, ◌++◌, ◌≤◌, ◌<◌, ℕ, Bool, List, IsTrue, inl, inr, sym, ◌∙◌, subst, arith, [], append-nil}
+use Rattle.multihash.specs.Bytes.{IsPrefix}
+use Rattle.multihash.specs.Pair.{Pair}
+use Rattle.multihash.specs.Encoding.{IsEncoding}
+use Rattle.multihash.specs.Multihash.{pair_of}
+use Rattle.multihash.proofs.EncodingLemmas.{digest_fits}
+use Rattle.headline.proofs.same.Goals as goal
+
+pub returns-clause-first : goal.returns-clause-first
+returns-clause-first g c =
+    c.prefix_free.ensures.one_encoding (pair_of c.args.a.now) c.args.a.now.in_range (omega (arith, digest_fits c.args.a.now))
+
+pub returns-clause-second : goal.returns-clause-second
+returns-clause-second g c =
+    c.prefix_free.ensures.one_encoding (pair_of c.args.b.now) c.args.b.now.in_range (omega (arith, digest_fits c.args.b.now))
+
+pub returns-clause-alike : goal.returns-clause-alike
+returns-clause-alike g c x y a b = (
+  (λ yes. c.prefix_free.ensures.same (pair_of c.args.b.now) x y (subst (λ p. IsEncoding p x) (c.same_as.ensures.0 yes) a) b),
+  λ equal. c.same_as.ensures.1 (c.prefix_free.ensures.begins_no_other _ _ x y a b ([], sym equal ∙ sym (append-nil x))),
+)
+
+pub returns-clause-begins : goal.returns-clause-begins
+returns-clause-begins g c x y a b (inl front) = c.same_as.ensures.1 (c.prefix_free.ensures.begins_no_other _ _ x y a b front)
+returns-clause-begins g c x y a b (inr front) = c.same_as.ensures.1 (sym (c.prefix_free.ensures.begins_no_other _ _ y x b a front))
