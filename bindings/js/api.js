@@ -142,12 +142,16 @@ function sourceOf(source) {
   const iterator = source?.[Symbol.asyncIterator]?.();
   if (typeof iterator?.next !== 'function')
     throw new TypeError('the source has to be a ReadableStream or an async iterable');
+  let hasBegun = false;
   return {
-    next: () => iterator.next(),
+    next() {
+      hasBegun = true;
+      return iterator.next();
+    },
     release() {},
-    // `return` waits for what `next` waits for, which a Node.js Readable ends
+    // `return` waits for what `next` waits for, which a Node.js Readable ends; before the first `next` it ends nothing
     close(_, isWaiting) {
-      if (isWaiting && typeof source.destroy === 'function') source.destroy();
+      if ((isWaiting || !hasBegun) && typeof source.destroy === 'function') source.destroy();
       return iterator.return?.();
     },
   };

@@ -10,8 +10,8 @@ export const NAMES: Readonly<Record<number, string | undefined>>;
 export interface MultihashHasher<Code extends number = number> {
   readonly name: string;
   readonly code: Code;
-  /** Returns the multihash of the bytes. */
-  digest(bytes: Uint8Array): Promise<Multihash<Code>>;
+  /** Returns the multihash of the bytes, with the first `truncate` bytes of the digest if that is given. */
+  digest(bytes: Uint8Array, options?: { truncate?: number }): Promise<Multihash<Code>>;
 }
 
 /** The bytes themselves, at most 255 of them, are the digest. */

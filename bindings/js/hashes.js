@@ -1,23 +1,34 @@
 // Hash functions of WebCrypto, which make and verify multihashes. A program also imports an entry, which connects
 // core.js.
-import { Multihash, checkedLength, decode } from './core.js';
+import { DIGEST_MAX, Multihash, checkedLength, decode } from './core.js';
 
 /** The code of each function here by its name in the multicodec table. */
 export const CODES = { __proto__: null };
 /** The name of each code. */
 export const NAMES = { __proto__: null };
-const algorithms = {}; // of WebCrypto, by code; that of identity is empty
+const algorithms = { __proto__: null }; // of WebCrypto, by code; that of identity is empty
 
 function hasher(name, code, algorithm) {
   CODES[name] = code;
   NAMES[code] = name;
   algorithms[code] = algorithm;
-  return Object.freeze({ name, code, digest: async (bytes) => Multihash.of(code, await digestOf(algorithm, bytes)) });
+  return Object.freeze({
+    name,
+    code,
+    async digest(bytes, { truncate } = {}) {
+      const whole = await digestOf(algorithm, bytes);
+      const size = truncate ?? whole.length;
+      if (!Number.isInteger(size) || size < 0 || size > whole.length) throw new RangeError('truncate is out of range');
+      return Multihash.of(code, whole.subarray(0, size));
+    },
+  });
 }
 
 async function digestOf(algorithm, bytes) {
-  checkedLength(bytes);
-  return algorithm === '' ? new Uint8Array(bytes) : new Uint8Array(await crypto.subtle.digest(algorithm, bytes));
+  const length = checkedLength(bytes);
+  if (length === 0) new Uint8Array(bytes); // throws a TypeError if they are detached, which WebCrypto takes for none
+  if (algorithm !== '') return new Uint8Array(await crypto.subtle.digest(algorithm, bytes));
+  return length > DIGEST_MAX ? bytes : new Uint8Array(bytes); // what is too long is no digest, and not copied
 }
 
 export const identity = hasher('identity', 0, '');
@@ -35,7 +46,9 @@ export async function verify(multihash, bytes) {
   const { code, digest } = multihash instanceof Multihash ? multihash : decode(multihash);
   if (!(code in algorithms)) throw new RangeError(`no function here has the code 0x${code.toString(16)}`);
   const wanted = await digestOf(algorithms[code], bytes);
-  let difference = digest.length ^ wanted.length;
+  if (digest.length === 0) new Uint8Array(digest); // throws a TypeError if it is detached
+  if (digest.length !== wanted.length) return false;
+  let difference = 0;
   for (let index = 0; index < wanted.length; index++) difference |= wanted[index] ^ digest[index];
   return difference === 0;
 }

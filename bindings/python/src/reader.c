@@ -208,6 +208,6 @@ PyType_Spec reader_spec = {
     "verified_multihash._core.Reader",
     sizeof(reader_object),
     0,
-    Py_TPFLAGS_DEFAULT | Py_TPFLAGS_BASETYPE | Py_TPFLAGS_HAVE_GC,
+    Py_TPFLAGS_DEFAULT | Py_TPFLAGS_HAVE_VERSION_TAG | Py_TPFLAGS_BASETYPE | Py_TPFLAGS_HAVE_GC,
     reader_slots,
 };

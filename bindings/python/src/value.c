@@ -181,6 +181,6 @@ PyType_Spec multihash_spec = {
     "verified_multihash.Multihash",
     sizeof(multihash_object),
     0,
-    Py_TPFLAGS_DEFAULT | Py_TPFLAGS_BASETYPE,
+    Py_TPFLAGS_DEFAULT | Py_TPFLAGS_HAVE_VERSION_TAG | Py_TPFLAGS_BASETYPE,
     multihash_slots,
 };

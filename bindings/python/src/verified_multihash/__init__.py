@@ -133,7 +133,10 @@ class MultihashReader(_core.Reader):
         return self
 
     def __next__(self) -> Multihash:
-        multihash = self.read()
+        try:
+            multihash = self.read()
+        except StopIteration as error:  # of the file: here it would be the end of a loop
+            raise RuntimeError("the file raised StopIteration") from error
         if multihash is None:
             raise StopIteration
         return multihash
@@ -168,7 +171,10 @@ class AsyncMultihashReader(_core.Reader):
         return self
 
     async def __anext__(self) -> Multihash:
-        multihash = await self.read()
+        try:
+            multihash = await self.read()
+        except StopAsyncIteration as error:  # of the stream: here it would be the end of a loop
+            raise RuntimeError("the stream raised StopAsyncIteration") from error
         if multihash is None:
             raise StopAsyncIteration
         return multihash

@@ -10,6 +10,8 @@ from . import Multihash, decode
 
 if TYPE_CHECKING:
     from _typeshed import ReadableBuffer as Buffer
+else:
+    from . import Buffer
 
 __all__ = ["CODES", "NAMES", "digest", "verify"]
 
