@@ -1,6 +1,7 @@
 //! Prints what each call returns for the inputs of `verdicts.tsv`, a file in the current folder: the same list, as the
 //! file `stdout` is. Calls over parts and over JSON return the same, or their result follows the line.
 #![tactic(auto)]
+
 ghost use Rattle.std.specs.Prelude.{◌≤◌, ◌<◌};
 
 use anyhow::{Context, Result, bail};
@@ -75,7 +76,12 @@ fn write_results<const S: usize>(alloc: Global, input: &[u8], out: &mut String) 
         let mut cuts = Cuts::new(input, most);
         write_other(alloc, &Multihash::scale_decode(&mut cuts), &scale, out)?;
     }
-    write_other(alloc, &Multihash::from_value(&Value::Array(members)), &whole, out)
+    write_other(
+        alloc,
+        &Multihash::from_value(&Value::Array(members)),
+        &whole,
+        out,
+    )
 }
 
 // With the number of bytes that were consumed, unless more input can change the result.
