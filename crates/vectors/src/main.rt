@@ -1,5 +1,6 @@
-//! Prints what each call returns for the inputs of `verdicts.tsv`, a file in the current folder: the same list, as the
-//! file `stdout` is. Calls over parts and over JSON return the same, or their result follows the line.
+//! Replays `verdicts.tsv`, a file in the current folder: computes each line anew from its capacity and its input,
+//! and prints those that differ, then the number of lines. Calls over parts and over JSON return the same, or their
+//! result follows the line.
 #![tactic(auto)]
 
 ghost use Rattle.std.specs.Prelude.{◌≤◌, ◌<◌};
@@ -16,16 +17,16 @@ const LIST: &str = "verdicts.tsv";
 
 fn main(rt: HostRuntime) -> Result<()> {
     let list = fs::read_to_string(&rt, LIST).context(LIST)?;
-    let mut out = String::new(rt.alloc());
-    for (number, line) in list.lines().enumerate() {
-        if number == 0 {
-            write!(out, "{line}")?;
-        } else {
-            write_line(rt.alloc(), line, &mut out)?;
+    let mut number = 0u64;
+    for line in list.lines().skip(1) {
+        let mut found = String::new(rt.alloc());
+        write_line(rt.alloc(), line, &mut found)?;
+        if found.as_str() != line {
+            println!(rt; "{found}")?;
         }
-        writeln!(out)?;
+        number = number.saturating_add(1);
     }
-    print!(rt; "{out}")?;
+    println!(rt; "{number} lines")?;
     Ok(())
 }
 
