@@ -19,10 +19,6 @@
 #else /* without a C library: compilers call these two there too */
 void *memcpy(void *, const void *, size_t);
 void *memmove(void *, const void *, size_t);
-#if defined(__GNUC__) /* else -ffreestanding makes each access a call */
-#define memcpy __builtin_memcpy
-#define memmove __builtin_memmove
-#endif
 #define abort() __builtin_trap()
 #endif
 
@@ -63,7 +59,7 @@ typedef struct memory {
 
 /* The accesses are compiled in place: mostly the block is known there, and its length is compared once. What
  * rare inputs need is compiled apart. */
-#if defined(__GNUC__) && defined(__OPTIMIZE__)
+#if defined(__GNUC__)
 #define ALWAYS_INLINE static inline __attribute__((always_inline))
 #define OUT_OF_LINE static __attribute__((noinline))
 #define APART OUT_OF_LINE __attribute__((cold))
