@@ -60,8 +60,6 @@ try "tests of the exports" diff /dev/null <(exported |
 test_compilers
 # each access of the library, which the compilers' sanitizers do not see
 needs=valgrind try valgrind under_valgrind valgrind "$library"
-needs=valgrind try "a read that valgrind sees" rejects "0 bytes after a block of size" overread \
-  under_valgrind overread
 needs=qemu-x86_64 try "a processor of the baseline" old_processor
 try "the version that files state" tools/version.py --check
 finish
