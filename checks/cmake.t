@@ -46,6 +46,17 @@ builds_for_windows() {
   { wineserver -k || true; }
 }
 
+# The archive of another machine is not built.
+of_another_machine() {
+  local copy=$work/edited
+  mkdir -p "$copy/bindings"
+  cp CHANGES CMakeLists.txt LICENSE "$copy"
+  cp -r bindings/c "$copy/bindings"
+  (cd "$copy/bindings/c/prebuilt"; mv aarch64 kept; mv x86_64 aarch64; mv kept x86_64)
+  rejects "not the archive of prebuilt/SHA256SUMS" cmake -S "$copy" -B "$copy/other" -DCMAKE_SYSTEM_NAME=Linux \
+    -DCMAKE_SYSTEM_PROCESSOR=x86_64
+}
+
 # Flags of a distribution reach the compiler, before those of the build type, and the linker, and hide no function of
 # the shared library. Without tests none are built, and without Python no man pages.
 with_flags() {
@@ -72,6 +83,7 @@ has_configurations() {
   paste -sd ' ' "$work/names" | tr -s ' ' | diff <(echo "-lmultihash_cd -lmultihash_c ") -
 }
 
+try "the archive of another machine" of_another_machine
 needs="ninja pkg-config" try "several configurations" has_configurations
 needs=clang try "other machines" machines
 needs=/lib64/ld-linux-x86-64.so.2 try "x86-64 with 32 bits" gets Linux x86_64 -m32 OFF ON
