@@ -25,7 +25,7 @@ long_block before after e old new (inl (long, over, counted, kept)) = cc
 long_block before after e old new (inr (within, fails)) = omega (arith, within)
 
 uncounted : (limit n : ℕ) (e : FrameError) (old new : Option (List ℕ))
-    → ¬ (BlockFails limit 0 2 e n old new)
+    → ¬ (BlockFails limit 1 0 e n old new)
 uncounted limit n e old new (inl (long, over, counted, kept)) = omega (arith, counted)
 uncounted limit n e old new (inr (within, inl (memory, counted, consumed))) = omega (arith, counted)
 uncounted limit n e old new (inr (within, inr (r, is, fails))) =

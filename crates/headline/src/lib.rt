@@ -3,7 +3,7 @@
 //! may run out of memory.
 #![tactic(auto)]
 
-ghost use Rattle.std.specs.Prelude.{◌≡◌, ◌<◌, ◌⊎◌, ◌↔◌, ℕ, List, ◌+◌, ◌++◌, map, All, Some, IfSome, IfOk, IfErr, IsOkAnd, IsErr, IsErrAnd, IsTrue, MatchResult};
+ghost use Rattle.std.specs.Prelude.{◌≡◌, ◌<◌, ◌⊎◌, ◌↔◌, ℕ, List, ◌++◌, map, All, Some, IfSome, IfOk, IfErr, IsOkAnd, IsErr, IsErrAnd, IsTrue, MatchResult};
 ghost use Rattle.multihash.specs.Bytes.{ExactlyOne, IsPrefix};
 ghost use Rattle.multihash.specs.Pair.{Pair, FitsBuffer};
 ghost use Rattle.multihash.specs.Encoding.{IsEncoding};
@@ -38,9 +38,9 @@ pub fn verdict<const S: usize>(bytes: &[u8]) -> Result<Multihash<S>, Error>
 /// Reads the multihash that comes next in a reader. `read` stops at the byte that decides the result. The
 /// clauses say what was read and what is left if the reader's input is known (`rest`), as it is for a slice.
 pub fn read_verdict<const S: usize, R: Read>(r: &mut R) -> Result<Multihash<S>, Error>
-    // Either the reader failed, once, and its error is the result; or it did not fail, the grammar assigns
+    // Either the reader failed and its error is the result; or it did not fail, the grammar assigns
     // exactly one verdict to the rest, and that is the result.
-    ensures one { ((R.failures r.new ≡ R.failures r.old + 1) × IsErrAnd result IsReaderError)
+    ensures one { ((R.failures r.old < R.failures r.new) × IsErrAnd result IsReaderError)
         ⊎ ((R.failures r.new ≡ R.failures r.old) × IfSome (R.rest r.old)
         (λ rest. (one : ExactlyOne (HasVerdict S rest)) × IsResultOf result one.value)) }
 
@@ -102,7 +102,7 @@ pub fn list_through<const S: usize, const T: usize, W: Write, R: Read>(
 
     // If the reader's input is the encodings and then `more`, and the digests fit the new capacity, the same
     // pairs are read in order, and `more` is left. Otherwise memory ran out, the writer failed or was
-    // full, or the reader failed, once.
+    // full, or the reader failed.
     ensures back { (more : List ℕ) →
         ((bytes : List ℕ) → AreConcatenated (map pair_of items.now) bytes →
         R.rest r.old ≡ Some (bytes ++ more)) →
@@ -111,7 +111,7 @@ pub fn list_through<const S: usize, const T: usize, W: Write, R: Read>(
         × (R.rest r.new ≡ Some more))
         (λ e. (IsOutOfMemory e ⊎ IsIo (IsWriterFaultOrFull W.allocates
         (W.failures w.old) (W.failures w.new) (W.full w.new)) e)
-        ⊎ ((R.failures r.new ≡ R.failures r.old + 1) × IsReaderError e)) }
+        ⊎ ((R.failures r.old < R.failures r.new) × IsReaderError e)) }
 {
     list::write_list(items, w)?;
     list::read_list(alloc, r, items.len())

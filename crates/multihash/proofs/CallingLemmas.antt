@@ -166,7 +166,7 @@ module _ (before after : ℕ) (same : after ≡ before) (e : Refusal) where
 
 -- `read_exact` failed after calls that counted no failure: the facts are its laws
 pub exact_fails : (n before middle after : ℕ) (old new : Option (List ℕ)) (error : Fault) → middle ≡ before
-    → ((after ≡ middle + 1) × IsOwnFault error) ⊎ ((after ≡ middle) × IsUnexpectedEof error)
+    → ((middle < after) × IsOwnFault error) ⊎ ((after ≡ middle) × IsUnexpectedEof error)
     → (IsUnexpectedEof error → HasFewerThan n old) → ConsumesFewerThan n old new → ExactFails n before after (of_io error) old new
 exact_fails n before middle after old new error same faults eof part =
     subst (λ k. ExactFails n k after (of_io error) old new) same (record {

@@ -240,8 +240,8 @@ front_ends_with_its_error h = let named = h.0.1 in cc
 
 -- ---- how a call failed
 
--- a failure of the reader is counted once, and an error that is listed is not counted
-fails_by_no_other : ¬ (FailsBy 3 5 (λ e. ⊥) (of_io other)) × ¬ (FailsBy 3 4 (λ e. ⊥) (of_size 5))
+-- a failure of the reader is counted, and an error that is listed is not
+fails_by_no_other : ¬ (FailsBy 3 3 (λ e. ⊥) (of_io other)) × ¬ (FailsBy 3 4 (λ e. ⊥) (of_size 5))
     × ¬ (FailsBy 3 2 (λ e. ⊤) (of_size 5)) × ¬ (FailsBy 3 3 (λ e. ⊥) (of_size 5))
     × ¬ (FailsBy 3 4 (λ e. ⊥) (of_io eof))
 fails_by_no_other = (

@@ -154,7 +154,7 @@ module _ (S : ℕ) (consumed : List ℕ) (old new : Option (List ℕ)) (before a
     }
 
     -- the reader failed
-    pub at_failure : (e : Refusal) → after ≡ before + 1 → IsReaderError e → ReadMeets S old new before after (Err e)
+    pub at_failure : (e : Refusal) → before < after → IsReaderError e → ReadMeets S old new before after (Err e)
     at_failure e rose own = record {
       faults = inl (rose, own);
       verdict = IfSome-consumed old new consumed _ consumes (λ left is unrisen. absurd (omega arith));
@@ -188,7 +188,7 @@ whole_at_end P consumed new ends p left is =
 -- ---- in the code or the size
 
 module _ (S : ℕ) (e : Refusal) (old mid new : Option (List ℕ)) (before after : ℕ) (t : ConsumesAtVarintError e mid new)
-    (how : ((after ≡ before + 1) × IsReaderError e) ⊎ ((after ≡ before) × IsAnyVarintError e)) where
+    (how : ((before < after) × IsReaderError e) ⊎ ((after ≡ before) × IsAnyVarintError e)) where
   module _ (a : List ℕ) (consumes : Consumes old (a ++ t.consumed) new)
       (shows : (f : VarintError) → BeginsMalformed f t.consumed → HasVerdict S (a ++ t.consumed) (malformed f))
       (no_sooner : (p : List ℕ) → IsStrictPrefix p (a ++ t.consumed) → IsIncompleteInput S p) where
@@ -233,7 +233,7 @@ module _ (S code size : ℕ) (a b : List ℕ) (is_code : IsVarint code a) (is_si
 
     pub stops_in_digest : (error : Fault) (front : List ℕ) (mid : Option (List ℕ)) → length front < size → Consumes mid front new
         → (IsUnexpectedEof error → HasFewerThan size mid)
-        → ((after ≡ before + 1) × IsOwnFault error) ⊎ ((after ≡ before) × IsUnexpectedEof error) → Consumes old (a ++ (b ++ front)) new
+        → ((before < after) × IsOwnFault error) ⊎ ((after ≡ before) × IsUnexpectedEof error) → Consumes old (a ++ (b ++ front)) new
         → ReadMeets S old new before after (Err (of_io error))
     stops_in_digest error front mid short last few how consumes =
         elim how [

@@ -121,12 +121,12 @@ consumes_fewer_of_its_own h = returns_no_byte h.consumed h.consumes
 abbrev Reads : ℕ → ℕ → Result ℕ Fault → Type 0
 Reads before after outcome = CountsReaderFailures IsOwnFault NoOtherError before after outcome
 
--- an Ok leaves the count unchanged, and an error of the reader itself raises it by one
+-- an Ok leaves the count unchanged, and an error of the reader itself raises it
 counts_at_no_ok : ¬ (Reads 3 4 (Ok 1)) × ¬ (Reads 4 3 (Ok 1))
 counts_at_no_ok = ((λ h. omega (arith, h)), λ h. omega (arith, h))
 
-fails_once : ¬ (Reads 3 3 (Err other)) × ¬ (Reads 3 5 (Err other))
-fails_once = ((λ h. elim h [ inl one ↦ omega (arith, one.0) | inr none ↦ none.1 ]), λ h. elim h [ inl one ↦ omega (arith, one.0) | inr none ↦ none.1 ])
+rises_at_each_error : ¬ (Reads 3 3 (Err other)) × ¬ (Reads 4 3 (Err other))
+rises_at_each_error = ((λ h. elim h [ inl rose ↦ omega (arith, rose.0) | inr none ↦ none.1 ]), λ h. elim h [ inl rose ↦ omega (arith, rose.0) | inr none ↦ none.1 ])
 
 abbrev Fills : ℕ → ℕ → Result ℕ Fault → Type 0
 Fills before after outcome = CountsReaderFailures IsOwnFault IsUnexpectedEof before after outcome

@@ -260,7 +260,7 @@ module _ (S : ℕ) (old new : Option (List ℕ)) (before after : ℕ) where
   -- the input ended or the reader failed within n bytes that follow others
   pub inside_rejected : (a : List ℕ) (n : ℕ) → ((t : List ℕ) → length t < n → HasScaleVerdict S (a ++ t) unexpected_eof)
       → (error : Fault) (front : List ℕ) (mid : Option (List ℕ)) → length front < n → Consumes old a mid → Consumes mid front new
-      → (IsUnexpectedEof error → HasFewerThan n mid) → ((after ≡ before + 1) × IsOwnFault error) ⊎ ((after ≡ before) × IsUnexpectedEof error)
+      → (IsUnexpectedEof error → HasFewerThan n mid) → ((before < after) × IsOwnFault error) ⊎ ((after ≡ before) × IsUnexpectedEof error)
       → ScaleMeets S old new before after (Err (of_io error))
   inside_rejected a n inside error front mid short first took few how =
       let consumes = Consumes-concatenated old mid new a front _ refl first took in record {

@@ -1,5 +1,5 @@
 -- What has been appended after several writes; a writer to a slice fails only if its capacity is too small.
-use Rattle.std.proofs.Common.{◌≡◌, ◌≢◌, ◌<◌, [], ◌∷◌, refl, ℕ, ◌-◌, List, ◌++◌, length, take, drop, Result, OnErr, sym, ap, ◌∙◌, arith, append_assoc, take-append-drop, length-append, length-drop, ◌≤◌, false, inl, inr, Ok, Err, IsOk, ◌+◌}
+use Rattle.std.proofs.Common.{◌≡◌, ◌≢◌, ◌<◌, [], ◌∷◌, refl, ℕ, ◌-◌, List, ◌++◌, length, take, drop, Result, OnErr, sym, ap, ◌∙◌, arith, append_assoc, take-append-drop, length-append, length-drop, ◌≤◌, false, inl, inr, Ok, Err, IsOk, ◌+◌, subst, Bool}
 use Rattle.std.proofs.lemmas.List.{take_rest, length-take-le, drop-drop}
 use Rattle.std.proofs.Math.Seq.{drop-append_seam, take-append_seam}
 use Rattle.multihash.specs.Bytes.{IsStrictPrefix}
@@ -102,6 +102,11 @@ module _ {W : Type 0} (appended : W → List ℕ → W → Type 0) (join : Appen
     stops_in_third r u w x v first second part =
         stops_in_back IsForm a (b ++ d) form r u w v first
         (AppendsPrefix-concatenated appended join w x v b d second part)
+
+-- how a call failed counts from before an earlier one that counted none
+pub fault_from : (allocates : Bool) (before middle after : ℕ) (is_full : Type 0) (e : Fault) → middle ≡ before
+    → IsWriterFaultOrFull allocates middle after is_full e → IsWriterFaultOrFull allocates before after is_full e
+fault_from allocates before middle after is_full e same = subst (λ n. IsWriterFaultOrFull allocates n after is_full e) same
 
 -- a writer that doesn't allocate and counted no failure returned an error because it was full
 pub full_of_errors : (n : ℕ) (is_full : Type 0) (e : Fault) → IsWriterFaultOrFull false n n is_full e → is_full

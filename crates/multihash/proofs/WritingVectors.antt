@@ -11,19 +11,13 @@ use Rattle.multihash.specs.declared.no_std_io.slice_writer.SliceWriter.{SliceWri
 
 -- ---- how a writer failed
 
--- a failing call counts one failure, and one that is out of memory none; no call lowers the count
-counts_not_so : ¬ (IsWriterFault true 3 5 memory) × ¬ (IsWriterFault true 4 3 memory)
-counts_not_so = (
-  (λ h. elim h.cause [ inl one ↦ omega (arith, one) | inr (allocates, e, same) ↦ omega (arith, same) ]),
-  λ h. elim h.cause [ inl one ↦ omega (arith, one) | inr (allocates, e, same) ↦ omega (arith, same) ],
-)
+-- no call lowers the count
+counts_not_so : ¬ (IsWriterFault true 4 3 memory)
+counts_not_so h = elim h.cause [ inl rose ↦ omega (arith, rose) | inr (allocates, e, same) ↦ omega (arith, same) ]
 
 -- an error that is not counted is out of memory
-invents_no_error : ¬ (IsWriterFault true 3 5 other) × ¬ (IsWriterFault true 3 3 other)
-invents_no_error = (
-  (λ h. elim h.cause [ inl one ↦ omega (arith, one) | inr (allocates, e, same) ↦ cc ]),
-  λ h. elim h.cause [ inl one ↦ omega (arith, one) | inr (allocates, e, same) ↦ cc ],
-)
+invents_no_error : ¬ (IsWriterFault true 3 3 other)
+invents_no_error h = elim h.cause [ inl rose ↦ omega (arith, rose) | inr (allocates, e, same) ↦ cc ]
 
 -- a writer that does not allocate is out of memory only with a counted failure
 needs_no_memory : ¬ (IsWriterFault false 3 3 memory)
@@ -96,9 +90,6 @@ writes_no_other_bytes h = omega (arith, ap (λ (z : List ℕ). get_or z 0 0) h.o
 stuck_when_full_alone : ¬ (Writes ([], 0) (1 ∷ []) ([], 0) (Ok 0))
 stuck_when_full_alone h = omega (arith, h.stuck refl (omega arith))
 
-full_accepts_no_byte : ¬ (Writes (7 ∷ 8 ∷ 9 ∷ [], 0) (1 ∷ []) (7 ∷ 8 ∷ 9 ∷ 1 ∷ [], 0) (Ok 1))
-full_accepts_no_byte h = omega (arith, h.filled (omega arith))
-
 fails_and_appends_nothing : ¬ (Writes ([], 0) (1 ∷ 2 ∷ []) (1 ∷ [], 1) (Err other))
 fails_and_appends_nothing h = omega (arith, ap (λ (z : List ℕ). length z) h.err)
 
@@ -124,9 +115,6 @@ writes_all_or_fails h = omega (arith, ap (λ (z : List ℕ). length z) h.ok)
 
 writes_nothing_always : ¬ (WritesAll ([], 0) [] ([], 1) (Err other))
 writes_nothing_always h = false≢true (h.empty refl)
-
-full_accepts_no_bytes : ¬ (WritesAll (7 ∷ 8 ∷ 9 ∷ [], 0) (1 ∷ []) (7 ∷ 8 ∷ 9 ∷ 1 ∷ [], 0) (Ok 0))
-full_accepts_no_bytes h = false≢true (h.filled (omega arith) (omega arith))
 
 fails_before_the_end : ¬ (WritesAll ([], 0) (1 ∷ 2 ∷ []) (1 ∷ 2 ∷ [], 1) (Err other))
 fails_before_the_end h = appends_no_whole (record { part = h.err.part; strict = h.err.strict; appends = h.err.appends })

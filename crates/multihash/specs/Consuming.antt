@@ -1,5 +1,5 @@
 -- What the library's calls consumed from a reader.
-use Rattle.std.specs.Prelude.{◌≡◌, ◌+◌, ◌<◌, ◌≤◌, ℕ, List, length, drop, ◌⊎◌, Option, Some, None, Result, Ok, Err, IfSome, IfOk, IfErr}
+use Rattle.std.specs.Prelude.{◌≡◌, ◌<◌, ◌≤◌, ℕ, List, length, drop, ◌⊎◌, Option, Some, None, Result, Ok, Err, IfSome, IfOk, IfErr}
 use Rattle.multihash.specs.Bytes.{IsPrefix, IsStrictPrefix}
 use Rattle.multihash.specs.Pair.{digest_limit, FitsBuffer}
 use Rattle.multihash.specs.Varint.{VarintError, insufficient, IsVarint, IsInsufficient, BeginsMalformed}
@@ -89,7 +89,7 @@ pub record ConsumesNothingSettling (S : ℕ) (rest : List ℕ) (new : Option (Li
 
 -- the reader failed, which was counted, or the error is one of those listed
 abbrev pub FailsBy : ℕ → ℕ → (Refusal → Type 0) → Refusal → Type 0
-FailsBy before after IsListed e = ((after ≡ before + 1) × IsReaderError e) ⊎ ((after ≡ before) × IsListed e)
+FailsBy before after IsListed e = ((before < after) × IsReaderError e) ⊎ ((after ≡ before) × IsListed e)
 
 -- an incomplete input, or a reader that failed
 abbrev pub EndsOrFails : ℕ → List ℕ → ℕ → ℕ → Type 0

@@ -1,5 +1,5 @@
 -- What a call consumed from a reader, and how it failed.
-use Rattle.std.specs.Prelude.{◌≡◌, ◌+◌, ◌<◌, ◌≤◌, ℕ, List, [], ◌⊎◌, length, take, drop, Option, Some, Result, MatchResult, IfSome, IfNone, IfOk, IfErr, OnOk, OnErr, IsOk, IsOkAnd, IsNone}
+use Rattle.std.specs.Prelude.{◌≡◌, ◌<◌, ◌≤◌, ℕ, List, [], ◌⊎◌, length, take, drop, Option, Some, Result, MatchResult, IfSome, IfNone, IfOk, IfErr, OnOk, OnErr, IsOk, IsOkAnd, IsNone}
 use Rattle.std.specs.Io.KnownBytes.{prepend_known, IsAtEnd}
 use Rattle.multihash.specs.Fault.{Fault, IsUnexpectedEof, IsOwnFault}
 
@@ -22,10 +22,10 @@ pub record ConsumesFewerThan (n : ℕ) (old new : Option (List ℕ)) : Type 0 wh
 abbrev pub NoOtherError : {E : Type 0} → E → Type 0
 NoOtherError e = ⊥
 
--- an Ok counts no failure; an Err is the reader's own, counted once, or a listed one, not counted
+-- an Ok counts no failure; an Err is the reader's own, counted, or a listed one, not counted
 abbrev pub CountsReaderFailures : {A E : Type 0} → (E → Type 0) → (E → Type 0) → ℕ → ℕ → Result A E → Type 0
 CountsReaderFailures IsOwn IsListed before after outcome = MatchResult outcome (λ _. after ≡ before)
-    (λ e. ((after ≡ before + 1) × IsOwn e) ⊎ ((after ≡ before) × IsListed e))
+    (λ e. ((before < after) × IsOwn e) ⊎ ((after ≡ before) × IsListed e))
 
 -- the laws of `read`
 abbrev pub ReadLaws : {S : Type 0} → (S → Option (List ℕ)) → (S → ℕ) → S → S → List ℕ → List ℕ

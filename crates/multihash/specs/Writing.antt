@@ -1,15 +1,15 @@
 -- What a writer's call appended, how it failed, and the laws of both calls. The effect of appending: a
 -- shorter slice, or more items of a vector.
-use Rattle.std.specs.Prelude.{◌≡◌, ◌+◌, ◌<◌, ◌≤◌, ℕ, Bool, IsTrue, List, [], ◌⊎◌, length, take, Result, MatchResult, IfOk, OnOk, OnErr, IsOk, IsErr, ◌++◌, drop, refl}
+use Rattle.std.specs.Prelude.{◌≡◌, ◌+◌, ◌<◌, ◌≤◌, ℕ, Bool, IsTrue, List, [], ◌⊎◌, length, take, Result, MatchResult, IfOk, OnOk, OnErr, IsOk, ◌++◌, drop, refl}
 use Rattle.multihash.specs.Fault.{Fault, IsWriteZero, IsOutOfMemoryFault, IsOwnFault}
 use Rattle.multihash.specs.Bytes.{IsStrictPrefix}
 use Rattle.std.proofs.Common.{sym, ap, ◌∙◌, arith, append_assoc, append-nil, length-append, length-drop}
 use Rattle.std.proofs.lemmas.List.{drop-drop}
 
--- the writer counted one failure, or it allocates, is out of memory and counted none
+-- the writer counted failures, or it allocates, is out of memory and counted none
 pub record IsWriterFault (allocates : Bool) (before after : ℕ) (e : Fault) : Type 0 where
   pub kind : IsOwnFault e
-  pub cause : (after ≡ before + 1) ⊎ (IsTrue allocates × IsOutOfMemoryFault e × (after ≡ before))
+  pub cause : (before < after) ⊎ (IsTrue allocates × IsOutOfMemoryFault e × (after ≡ before))
 
 -- a strict prefix of `bytes` has been appended between the two states
 pub record AppendsPrefix {W : Type 0} (appended : W → List ℕ → W → Type 0) (old : W)
@@ -40,7 +40,6 @@ WriteLaws appended full failures allocates old bytes new outcome = record {
   count : IfOk outcome (λ n. n ≤ length bytes);
   ok : IfOk outcome (λ n. appended old (take n bytes) new);
   stuck : IfOk outcome (λ n. n ≡ 0 → 0 < length bytes → full new);
-  filled : full old → IfOk outcome (λ n. n ≡ 0);
   err : OnErr outcome (appended old [] new);
   faults : CountsWriterFailures IsFault allocates (failures old) (failures new) ⊥ outcome;
 }
@@ -51,7 +50,6 @@ abbrev pub WriteAllLaws : {S A : Type 0} → (S → List ℕ → S → Type 0) �
 WriteAllLaws appended full failures allocates old bytes new outcome = record {
   ok : OnOk outcome (appended old bytes new);
   empty : length bytes ≡ 0 → IsOk outcome;
-  filled : full old → 0 < length bytes → IsErr outcome;
   err : OnErr outcome (AppendsPrefix appended old bytes new);
   faults : CountsWriterFailures IsFault allocates (failures old) (failures new) (full new) outcome;
 }

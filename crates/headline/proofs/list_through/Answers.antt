@@ -1,4 +1,4 @@
-use Rattle.std.proofs.Common.{map, inl, inr, ◌≡◌, ◌⊎◌, ◌+◌, ℕ, Result, Ok, Err, MatchResult}
+use Rattle.std.proofs.Common.{map, inl, inr, ◌≡◌, ◌⊎◌, ◌<◌, ℕ, Result, Ok, Err, MatchResult}
 use Rattle.std.proofs.lemmas.List.{length-map}
 use Rattle.std.proofs.lemmas.Result.{MatchResult-weaker}
 use Rattle.multihash.specs.Multihash.{pair_of}
@@ -8,10 +8,10 @@ use Rattle.multihash.proofs.CallingLemmas.{read_list_of_encodings}
 use Rattle.multihash.proofs.OutcomeLemmas.{passed_on}
 use Rattle.headline.proofs.list_through.Goals as goal
 
--- what holds if the reader does not fail holds, or the reader failed, once
+-- what holds if the reader does not fail holds, or the reader failed
 unless_failed : {A : Type 0} (P : A → Type 0) (Q IsListed : Refusal → Type 0) (before after : ℕ) (r : Result A Refusal)
     → CountsReaderFailures IsReaderError IsListed before after r → (after ≡ before → MatchResult r P Q)
-    → MatchResult r P (λ e. Q e ⊎ ((after ≡ before + 1) × IsReaderError e))
+    → MatchResult r P (λ e. Q e ⊎ ((before < after) × IsReaderError e))
 unless_failed P Q IsListed before after (Ok x) same met = met same
 unless_failed P Q IsListed before after (Err e) (inl own) met = inr own
 unless_failed P Q IsListed before after (Err e) (inr (same, listed)) met = inl (met same)

@@ -1,4 +1,4 @@
-use Rattle.std.proofs.Common.{◌≡◌, ◌↔◌, ◌⊎◌, ◌+◌, ℕ, List, Option, Some, Result, Ok, Err, IfSome, IsErrAnd, IsOkAnd, inl, inr, sym, ◌∙◌, subst}
+use Rattle.std.proofs.Common.{◌≡◌, ◌↔◌, ◌⊎◌, ◌<◌, ℕ, List, Option, Some, Result, Ok, Err, IfSome, IsErrAnd, IsOkAnd, inl, inr, sym, ◌∙◌, subst}
 use Rattle.std.proofs.lemmas.Option.{IfSome_then}
 use Rattle.multihash.specs.Bytes.{ExactlyOne}
 use Rattle.multihash.specs.Pair.{Pair, FitsBuffer}
@@ -11,12 +11,12 @@ use Rattle.multihash.specs.Outcome.{IsErrorOf, IsResultOf}
 use Rattle.multihash.specs.Multihash.{Fields, pair_of}
 use Rattle.headline.proofs.read_verdict.Goals as goal
 
--- the reader failed, once, or the verdict that was returned is the only one
+-- the reader failed or the verdict that was returned is the only one
 one_returned : (S before after : ℕ) (old : Option (List ℕ)) (r : Result (Fields S) Refusal)
     → ((S : ℕ) (input : List ℕ) (v w : Verdict) → HasVerdict S input v → HasVerdict S input w → v ≡ w)
     → CountsReaderFailures IsReaderError (ReadMayFailWith S) before after r
     → IfSome old (λ rest. after ≡ before → (v : Verdict) × HasVerdict S rest v × IsResultOf r v)
-    → ((after ≡ before + 1) × IsErrAnd r IsReaderError)
+    → ((before < after) × IsErrAnd r IsReaderError)
     ⊎ ((after ≡ before) × IfSome old (λ rest. (one : ExactlyOne (HasVerdict S rest)) × IsResultOf r one.value))
 one_returned S before after old r unique counts verdict = either r counts where
   found : after ≡ before → IfSome old (λ rest. (one : ExactlyOne (HasVerdict S rest)) × IsResultOf r one.value)
@@ -24,7 +24,7 @@ one_returned S before after old r unique counts verdict = either r counts where
       (λ rest found. let v = found same in (record { value = v.0; holds = v.1; only = λ w has. unique S rest w v.0 has v.1 }, v.2))
 
   either : (o : Result (Fields S) Refusal) → CountsReaderFailures IsReaderError (ReadMayFailWith S) before after o
-      → ((after ≡ before + 1) × IsErrAnd o IsReaderError)
+      → ((before < after) × IsErrAnd o IsReaderError)
       ⊎ ((after ≡ before) × IfSome old (λ rest. (one : ExactlyOne (HasVerdict S rest)) × IsResultOf r one.value))
   either (Ok m) same = inr (same, found same)
   either (Err e) (inl own) = inl own

@@ -1,9 +1,9 @@
-use Rattle.std.proofs.Common.{List, ℕ, ◌++◌, map}
+use Rattle.std.proofs.Common.{List, ℕ, ◌++◌, map, refl}
 use Rattle.multihash.specs.Streams.{AreConcatenated}
 use Rattle.multihash.specs.Writing.{AppendsPrefix}
 use Rattle.multihash.specs.Multihash.{pair_of}
-use Rattle.multihash.proofs.OutcomeLemmas.{OnErr-always}
-use Rattle.multihash.proofs.WritingLemmas.{AppendsPrefix-append, AppendsPrefix-concatenated}
+use Rattle.multihash.proofs.OutcomeLemmas.{OnErr-always, passed_on}
+use Rattle.multihash.proofs.WritingLemmas.{fault_from, AppendsPrefix-append, AppendsPrefix-concatenated}
 use Rattle.examples.proofs.merkle.write_node.Goals as goal
 
 pub returns-in_err-write_list-clause-err : goal.returns-in_err-write_list-clause-err
@@ -24,3 +24,8 @@ returns-in_err-write_all-clause-err g c =
     × AppendsPrefix g.W.Write.appended c.args.w.now (bytes ++ body) c.write_all.new.self =
     (wrote.0, wrote.1, part) in
     OnErr-always _ stops
+
+pub returns-in_err-write_all-clause-faults : goal.returns-in_err-write_all-clause-faults
+returns-in_err-write_all-clause-faults g c =
+    passed_on c.from_residual-in_err-write_all.result _ _ _ c.from_residual-in_err-write_all.ensures.1
+    (_, refl, fault_from _ _ _ _ _ _ c.in_ok-write_list.ensures.faults c.in_err-write_all.ensures.laws.faults)

@@ -1,7 +1,8 @@
 use Rattle.std.proofs.Common.{◌≡◌, ◌++◌, inl, inr, refl, sym, subst, arith, rules}
 use Rattle.multihash.specs.Multihash.{pair_of}
 use Rattle.multihash.proofs.EncodingLemmas.{encoding_exists, digest_fits}
-use Rattle.multihash.proofs.WritingLemmas.{stops_in_first, stops_in_second, stops_in_third}
+use Rattle.multihash.proofs.OutcomeLemmas.{passed_on}
+use Rattle.multihash.proofs.WritingLemmas.{fault_from, stops_in_first, stops_in_second, stops_in_third}
 use Rattle.multihash.proofs.VarintWriteLemmas.{varint_exists}
 use Rattle.examples.specs.ContentId.{version_1, content_of, IsContentId}
 use Rattle.examples.proofs.IdentifierLemmas.{make_version_1, bare_is}
@@ -34,6 +35,16 @@ returns-in_err-write-in-V1-2-clause-err g c =
           let is = make_version_1 1 c.in-V1.codec.number (pair_of c.in-V1.hash) v.0 part.0 h.0 refl v.1 part.1 h.1 in
           stops_in_second g.W.Write.appended g.met.W.Write.appends_concatenated (IsContentId (content_of c.args.self.now)) v.0 part.0 h.0
           (subst (λ x. IsContentId x (v.0 ++ (part.0 ++ h.0))) (sym says) is) _ _ _ _ v.3 part.2
+    ]
+
+pub returns-in_err-write-in-V1-2-clause-faults : goal.returns-in_err-write-in-V1-2-clause-faults
+returns-in_err-write-in-V1-2-clause-faults g c =
+    let unrisen = c.in_ok-write-in-V1.ensures.ok.4 in
+    elim c.in_err-write-in-V1-2.ensures.err [
+      | inl code ↦ absurd (omega (arith, code.1, c.in-V1.codec.in_range))
+      | inr io ↦
+          passed_on c.from_residual-in_err-write-in-V1-2.result _ _ _ c.from_residual-in_err-write-in-V1-2.ensures.1
+          (io.0.0, io.0.1, fault_from _ _ _ _ _ _ unrisen io.0.2)
     ]
 
 pub returns-in_err-write-in-V1-3-clause-err : goal.returns-in_err-write-in-V1-3-clause-err

@@ -1,4 +1,4 @@
-use Rattle.std.proofs.Common.{◌≡◌, ◌+◌, ◌≤◌, ◌++◌, ◌⊎◌, ℕ, List, Option, Result, Ok, length, take, refl, sym, ap, ◌∙◌, arith}
+use Rattle.std.proofs.Common.{◌≡◌, ◌<◌, ◌≤◌, ◌++◌, ◌⊎◌, ℕ, List, Option, Result, Ok, length, take, refl, sym, ap, ◌∙◌, arith}
 use Rattle.std.specs.Result.{IsErrAnd}
 use Rattle.std.proofs.lemmas.List.{length-take-le}
 use Rattle.multihash.specs.Pair.{digest_limit}
@@ -34,7 +34,7 @@ module _ (S n size byte : ℕ) (old one two new : Option (List ℕ)) (before bet
 
   -- the digest was not read
   stopped : (r : Result (Fields S) Refusal) (error : Fault) → IsErrAnd r (λ e. e ≡ of_io error) → (IsUnexpectedEof error → HasFewerThan byte two)
-      → ConsumesFewerThan byte two new → ((after ≡ between + 1) × IsOwnFault error) ⊎ ((after ≡ between) × IsUnexpectedEof error)
+      → ConsumesFewerThan byte two new → ((between < after) × IsOwnFault error) ⊎ ((after ≡ between) × IsUnexpectedEof error)
       → ReadMeets S old new before after r
   stopped r error passed few t how =
       passed_err (ReadMeets S old new before after) r _ passed

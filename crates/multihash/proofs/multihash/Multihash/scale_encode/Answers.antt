@@ -1,8 +1,9 @@
-use Rattle.std.proofs.Common.{[], ◌++◌, length, ap, arith, append_assoc}
+use Rattle.std.proofs.Common.{[], ◌++◌, length, ap, arith, append_assoc, refl}
 use Rattle.multihash.specs.Scale.{IsScale}
 use Rattle.multihash.specs.Multihash.{pair_of}
 use Rattle.multihash.proofs.ScaleLemmas.{scale_length}
-use Rattle.multihash.proofs.WritingLemmas.{stops_in_first, stops_in_third}
+use Rattle.multihash.proofs.OutcomeLemmas.{passed_on}
+use Rattle.multihash.proofs.WritingLemmas.{fault_from, stops_in_first, stops_in_third}
 use Rattle.multihash.proofs.multihash.Multihash.scale_encode.Given as given
 use Rattle.multihash.proofs.multihash.Multihash.scale_encode.Goals as goal
 use Rattle.multihash.proofs.multihash.Multihash.scale_encode.Goals.{After-scale_head}
@@ -30,6 +31,11 @@ returns-in_err-write_scale_digest-clause-err g c =
     let written = form g (goal.at.returns-in_err-write_scale_digest-clause-err g c).After-scale_head in
     stops_in_third g.W.Write.appended g.met.W.Write.appends_concatenated (IsScale (pair_of c.args.self.now)) _ [] _ written
     _ _ _ _ _ c.in_ok-write_all.ensures.laws.ok (g.met.W.Write.appends_nothing _) c.in_err-write_scale_digest.ensures.laws.err
+
+pub returns-in_err-write_scale_digest-clause-faults : goal.returns-in_err-write_scale_digest-clause-faults
+returns-in_err-write_scale_digest-clause-faults g c =
+    passed_on c.from_residual-in_err-write_scale_digest.result _ _ _ c.from_residual-in_err-write_scale_digest.ensures.1
+    (_, refl, fault_from _ _ _ _ _ _ c.in_ok-write_all.ensures.laws.faults c.in_err-write_scale_digest.ensures.laws.faults)
 
 pub returns-clause-ok : goal.returns-clause-ok
 returns-clause-ok g c =

@@ -3,7 +3,8 @@ use Rattle.multihash.specs.Encoding.{IsEncoding}
 use Rattle.multihash.specs.Multihash.{pair_of}
 use Rattle.multihash.proofs.EncodingLemmas.{encoding_of_parts, length-parts}
 use Rattle.multihash.proofs.VarintWriteLemmas.{varint_exists}
-use Rattle.multihash.proofs.WritingLemmas.{stops_in_first, stops_in_second, stops_in_third}
+use Rattle.multihash.proofs.OutcomeLemmas.{passed_on}
+use Rattle.multihash.proofs.WritingLemmas.{fault_from, stops_in_first, stops_in_second, stops_in_third}
 use Rattle.multihash.proofs.multihash.Multihash.write.Goals as goal
 
 pub returns-in_err-code-clause-err : goal.returns-in_err-code-clause-err
@@ -19,6 +20,11 @@ returns-in_err-size-clause-err g c =
     let b = c.in_err-size.ensures.err in
     let form = encoding_of_parts (pair_of c.args.self.now) _ _ _ a.0 b.0 c.code.ensures.code (c.from.ensures ∙ c.size.ensures.size) c.digest-digest.ensures.digest a.1 b.1 in
     stops_in_second g.W.Write.appended g.met.W.Write.appends_concatenated (IsEncoding (pair_of c.args.self.now)) _ _ _ form _ _ _ _ a.3 b.2
+
+pub returns-in_err-size-clause-faults : goal.returns-in_err-size-clause-faults
+returns-in_err-size-clause-faults g c =
+    passed_on c.from_residual-in_err-size.result _ _ _ c.from_residual-in_err-size.ensures.1
+    (_, refl, fault_from _ _ _ _ _ _ c.in_ok-code.ensures.faults c.in_err-size.ensures.faults)
 
 pub returns-in_err-write_digest-clause-err : goal.returns-in_err-write_digest-clause-err
 returns-in_err-write_digest-clause-err g c =

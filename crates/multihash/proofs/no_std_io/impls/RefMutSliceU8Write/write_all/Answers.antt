@@ -12,4 +12,4 @@ returns-then-buf-all-clause-laws c =
       left = grind (arith, common_steps);
     } in
     let part = AppendsPrefix-take _ _ _ c.args.buf.now [] _ n refl (grind (arith, common_steps)) past in
-    record { ok = tt; empty = search rules; filled = λ _ _. refl; err = part; faults = search rules }
+    record { ok = tt; empty = search rules; err = part; faults = search rules }

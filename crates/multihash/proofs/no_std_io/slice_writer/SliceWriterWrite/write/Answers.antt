@@ -8,7 +8,6 @@ returns-clause-laws c = record {
   count = search rules;
   ok = record { same_slice = search rules; fills = fills_slice _ _ _ _ _ (search rules) (search rules) (grind (arith, common_steps)) };
   stuck = search rules;
-  filled = search rules;
   err = tt;
   faults = refl;
 }

@@ -8,7 +8,7 @@ returns-else-branch-buf-clause-laws c =
     let fills = c.in_ok-write.ensures.laws.ok.fills in
     let kept = filled_length _ _ _ _ _ fills in
     let part = AppendsPrefix-take _ _ _ c.args.buf.now [] _ c.in_ok-write.field-0 refl (search rules) c.in_ok-write.ensures.laws.ok in
-    record { ok = tt; empty = search rules; filled = λ _ _. refl; err = part; faults = grind (arith, common_steps) }
+    record { ok = tt; empty = search rules; err = part; faults = grind (arith, common_steps) }
 
 pub returns-else-branch-buf-clause-filled : goal.returns-else-branch-buf-clause-filled
 returns-else-branch-buf-clause-filled c =

@@ -1,4 +1,4 @@
--- The bytes before `left` have been appended, and no write failed. To a writer that was full none were.
+-- The bytes before `left` have been appended, and no write failed.
 use Rattle.std.proofs.Common.{◌≡◌, List, ℕ, ◌++◌, length}
 use Rattle.multihash.proofs.no_std_io.traits.Write.write_all.Given as goal
 
@@ -7,7 +7,6 @@ invariant-loop-left g l = record {
   done : List ℕ;
   concatenated : l.initial.left ≡ done ++ l.left;
   appends : g.Self.Write.appended l.initial.self done l.self;
-  filled : g.Self.Write.full l.initial.self → g.Self.Write.full l.self × (l.left ≡ l.initial.left);
   unfailed : g.Self.Write.failures l.self ≡ g.Self.Write.failures l.initial.self;
 }
 
