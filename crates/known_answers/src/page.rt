@@ -30,13 +30,16 @@ impl Display for Bytes<'_> {
         }
         f.write_str("[")?;
         let mut left = self.0;
-        while let Some((first, others)) = left.split_first() {
+        for _ in 0..self.0.len() {
+            let Some((first, others)) = left.split_first() else {
+                break;
+            };
             let more = others.iter().take_while(|byte| *byte == first).count();
             write!(f, "{first:02x}")?;
             left = others;
             if more >= MANY - 1 {
-                write!(f, "*{}", more + 1)?;
-                left = &others[more..];
+                write!(f, "*{}", more.saturating_add(1))?;
+                left = others.get(more..).unwrap_or(&[]);
             }
             f.write_str(if left.is_empty() { "" } else { " " })?;
         }

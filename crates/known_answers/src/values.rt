@@ -110,6 +110,10 @@ pub fn print_values(page: &mut Page) -> Result<()> {
     }
     print_value::<128>(page, 1 << 56, &[0x41; 128])?;
     print_value::<255>(page, (1 << 63) - 1, &[0x41; 255])?;
+    print_rejected(page)
+}
+
+fn print_rejected(page: &mut Page) -> Result<()> {
     print_value::<2>(page, 0, b"foobar")?;
     print_value::<2>(page, u64::MAX, b"foobar")?;
     print_value::<128>(page, 0, &[0; 129])?;
