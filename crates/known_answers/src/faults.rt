@@ -57,7 +57,8 @@ fn print_reads(page: &mut Page, call: Call, input: &[u8]) -> Result<()> {
 // That many bytes are written.
 fn print_writes(page: &mut Page, call: Call, len: usize) -> Result<()> {
     let alloc = page.alloc;
-    for calls in 0..len + 1 {
+    let end = len.saturating_add(1);
+    for calls in 0..end {
         let drip = Drip::new(alloc, len, 1)?;
         let mut writer = FailWrite::<false>::new(drip, calls, ErrorKind::DISK_GONE);
         let outcome = write(alloc, call, &mut writer);
@@ -71,7 +72,7 @@ fn print_writes(page: &mut Page, call: Call, len: usize) -> Result<()> {
         answers.add("; ", written(alloc, &outcome, &drip.held)?)?;
     }
     page.row(&"1 to 7 bytes a call", &answers.text)?;
-    for room in 0..len + 1 {
+    for room in 0..end {
         let mut answers = Answers::new(alloc);
         let mut drip = Drip::new(alloc, room, 1)?;
         let outcome = write(alloc, call, &mut drip);
