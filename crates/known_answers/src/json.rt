@@ -1,0 +1,51 @@
+//! JSON values.
+ghost use Rattle.std.specs.Prelude.{◌<◌, ◌^◌};
+
+use crate::page::{Page, Pair, found};
+use anyhow::Result;
+use multihash::Multihash;
+use serde_json::Value;
+
+const DIGEST: &str =
+    "[18,32,159,228,204,198,222,22,114,79,58,48,199,232,242,84,243,198,71,25,134,172,177,248,\
+    216,207,142,150,206,42,215,219,231,251]";
+
+// Separated by blanks.
+const TEXTS: &str = "[0,256] [0,1.0] \"AA\" [0,-1] [] [0,0,7]";
+
+const SHORT: &str = "null true {} [[0]] [0,\"0\"] [0,null] [0,3,256] [0,3] [0,2,9] [128,0]";
+
+const KINDS: &str =
+    "null true false 0 7 255 256 18446744073709551615 -1 -9223372036854775808 0.5 1.0 1e300 \
+    \"\" \"0\" [] [0] {} {\"0\":0}";
+
+fn print_text<const S: usize>(page: &mut Page, text: &str) -> Result<()>
+    requires { S < 2 ^ 16 }
+{
+    let outcome = Multihash::<S>::from_value(&Value::from_str(page.alloc, text)?).map(Pair);
+    let answer = found(page.alloc, &outcome, &[])?;
+    page.row(&format_args!("from_value::<{S}>({text})"), &answer)
+}
+
+pub fn print_json(page: &mut Page) -> Result<()> {
+    page.heading(&"JSON values")?;
+    print_text::<32>(page, DIGEST)?;
+    for text in TEXTS.split(' ') {
+        print_text::<32>(page, text)?;
+    }
+    for text in SHORT.split(' ') {
+        print_text::<2>(page, text)?;
+    }
+    let mut long = vec![in page.alloc; Value::from(0u8), Value::from(0u8)]?;
+    for _ in 0..100000 {
+        long.push(Value::from(7u8))?;
+    }
+    let outcome = Multihash::<2>::from_value(&Value::Array(long)).map(Pair);
+    let answer = found(page.alloc, &outcome, &[])?;
+    page.row(&"from_value::<2>([0,0] and 100000 members 7)", &answer)?;
+    for kind in KINDS.split(' ') {
+        print_text::<255>(page, kind)?;
+        print_text::<255>(page, &format!(in page.alloc; "[0,{kind}]")?)?;
+    }
+    Ok(())
+}
