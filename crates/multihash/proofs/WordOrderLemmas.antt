@@ -15,7 +15,7 @@ use Rattle.multihash.proofs.ComparingLemmas.{window, order_of, order_of_same, or
 -- ---- the number of bytes, the highest first
 
 -- with those before them, whose number is `high`
-abbrev joined : ℕ → List ℕ → ℕ
+abbrev pub joined : ℕ → List ℕ → ℕ
 joined high [] = high
 joined high (x ∷ xs) = joined (high * 256 + x) xs
 
@@ -36,7 +36,7 @@ then_equal Equal = refl
 then_equal Greater = refl
 
 -- bytes compare as their numbers do
-order_of_joined : (m n : ℕ) (a b : List ℕ) → length a ≡ length b → ((i : ℕ) → get_or a i 0 < 256) → ((i : ℕ) → get_or b i 0 < 256)
+pub order_of_joined : (m n : ℕ) (a b : List ℕ) → length a ≡ length b → ((i : ℕ) → get_or a i 0 < 256) → ((i : ℕ) → get_or b i 0 < 256)
     → ordering_then (nat_cmp m n) (order_of a b) ≡ nat_cmp (joined m a) (joined n b)
 order_of_joined m n [] [] same bytes others = then_equal (nat_cmp m n)
 order_of_joined m n [] (y ∷ b) same bytes others = absurd (omega arith)
@@ -46,7 +46,7 @@ order_of_joined m n (x ∷ a) (y ∷ b) same bytes others =
     ∙ ap (λ o. ordering_then o (order_of a b)) (order_of_digits m n x y (bytes 0) (others 0))
     ∙ order_of_joined (m * 256 + x) (n * 256 + y) a b (omega (arith, same)) (λ i. bytes (suc i)) (λ i. others (suc i))
 
-joined_8 : (a b c d e f g h : ℕ) → from_be_bytes w64 (a ∷ b ∷ c ∷ d ∷ e ∷ f ∷ g ∷ h ∷ []) ≡ joined 0 (a ∷ b ∷ c ∷ d ∷ e ∷ f ∷ g ∷ h ∷ [])
+pub joined_8 : (a b c d e f g h : ℕ) → from_be_bytes w64 (a ∷ b ∷ c ∷ d ∷ e ∷ f ∷ g ∷ h ∷ []) ≡ joined 0 (a ∷ b ∷ c ∷ d ∷ e ∷ f ∷ g ∷ h ∷ [])
 joined_8 a b c d e f g h = omega arith
 
 be_joined : (a : List ℕ) → length a ≡ 8 → ((i : ℕ) → get_or a i 0 < 256) → from_be_bytes w64 a ≡ joined 0 a
@@ -61,7 +61,7 @@ take_bytes n l each i = elim (cases_lt i n) [
   | inr past ↦ rw (get_or_past (take n l) i 0 (omega (arith, length-take n l, past))) (omega arith)
 ]
 
-window_bytes : (n at : ℕ) (l : List ℕ) → ((i : ℕ) → get_or l i 0 < 256) → (i : ℕ) → get_or (window n at l) i 0 < 256
+pub window_bytes : (n at : ℕ) (l : List ℕ) → ((i : ℕ) → get_or l i 0 < 256) → (i : ℕ) → get_or (window n at l) i 0 < 256
 window_bytes n at l each = take_bytes n (drop at l) (λ i. subst (λ (b : ℕ). b < 256) (sym (get_or-drop at l i 0)) (each (at + i)))
 
 -- the words compare as their numbers do
