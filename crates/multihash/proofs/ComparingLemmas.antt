@@ -259,7 +259,3 @@ pub order_of_window : (n at : ℕ) (a b : List ℕ) (o : Ordering) → take at a
     → o ≡ order_of a b
 order_of_window n at a b o same e other =
     order_of_fronts n (drop at a) (drop at b) o e other ∙ order_of_backs at at a b (omega arith) same
-
--- lists that `==` finds equal
-pub order_of_equal : (x y : List ℕ) (r : Bool) → r ≡ pointwise ◌==◌ x y → r ≡ true → Equal ≡ slice_cmp nat_cmp x y
-order_of_equal x y r equal found = order_of_same x y ((slice_eq-Decides unsigned_Decides x y r equal).0 found)

@@ -8,7 +8,7 @@ use Rattle.multihash.specs.Scale.{IsScaleCode, IsScale, HasScaleSize, HasScaleVe
 use Rattle.multihash.specs.Varint.{varint_limit}
 use Rattle.multihash.specs.Verdict.{accepted, invalid_code, unexpected_eof}
 use Rattle.multihash.proofs.ScaleLemmas.{code_read, scale_of, scale_length}
-use Rattle.multihash_c.proofs.ComparedLemmas.{take_bytes}
+use Rattle.multihash.proofs.WordOrderLemmas.{take_bytes}
 use Rattle.multihash_c.specs.declared.decode.Decoded.{Decoded}
 use Rattle.multihash_c.specs.Decoded.{ReportsPair, ConsumesForm}
 

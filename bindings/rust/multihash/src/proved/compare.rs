@@ -35,30 +35,27 @@ impl<const S: usize> Multihash<S> {
         self.digest() == other.digest()
     }
 
-    // How the digests compare. Where vectors find them equal, no byte is searched for.
+    // How the digests compare. Those of 8 to 64 bytes are compared by words.
     #[inline(always)]
     fn order_of_digest(&self, other: &Self) -> Ordering {
         if S > 64 && self.size > 64 {
             return self.digest().cmp(other.digest());
         }
-        if self.size == 0 {
-            return Ordering::Equal;
+        if S > 32 && self.size > 32 {
+            return order_of_many(self.digest(), other.digest());
         }
         if S >= 16 && self.size >= 16 {
-            if self.same_digest(other) {
-                return Ordering::Equal;
-            }
-            // Most digests that differ do so in the first byte.
-            if self.digest[0] != other.digest[0] {
-                return self.digest[0].cmp(&other.digest[0]);
-            }
+            return order_from(self.digest(), other.digest(), 0);
         }
-        self.order_of_unlike(other)
+        if S >= 8 && self.size >= 8 {
+            return order_last(self.digest(), other.digest(), 0);
+        }
+        self.order_of_few(other)
     }
 
-    // How digests compare that differ or are short. The parameters are the values, as those of `same_few`.
+    // How digests of fewer bytes compare. The parameters are the values, as those of `same_few`.
     #[inline(never)]
-    fn order_of_unlike(&self, other: &Self) -> Ordering {
+    fn order_of_few(&self, other: &Self) -> Ordering {
         self.digest().cmp(other.digest())
     }
 }
@@ -118,4 +115,71 @@ fn same_ends_of_32(a: &[u8], b: &[u8]) -> bool {
     let front = u8x32::from_slice(a).simd_eq(u8x32::from_slice(b));
     let back = u8x32::from_slice(&a[last..]).simd_eq(u8x32::from_slice(&b[last..]));
     (front & back).all()
+}
+
+// How 33 to 64 bytes compare: the first 32, and then the last 32.
+#[inline(always)]
+fn order_of_many(a: &[u8], b: &[u8]) -> Ordering {
+    if !same_word(a, b, 0) {
+        return order_at(a, b, 0);
+    }
+    if !same_word(a, b, 8) {
+        return order_at(a, b, 8);
+    }
+    if !same_word(a, b, 16) {
+        return order_at(a, b, 16);
+    }
+    if !same_word(a, b, 24) {
+        return order_at(a, b, 24);
+    }
+    order_from(a, b, a.len() - 32)
+}
+
+// How bytes compare that are equal before an index, with 16 to 32 from there on.
+#[inline(always)]
+fn order_from(a: &[u8], b: &[u8], at: usize) -> Ordering {
+    if !same_word(a, b, at) {
+        return order_at(a, b, at);
+    }
+    if !same_word(a, b, at + 8) {
+        return order_at(a, b, at + 8);
+    }
+    order_last(a, b, a.len() - 16)
+}
+
+// How bytes compare that are equal before an index, with 8 to 16 from there on: by the word there and by
+// the last one, which may overlap.
+#[inline(always)]
+fn order_last(a: &[u8], b: &[u8], at: usize) -> Ordering {
+    if !same_word(a, b, at) {
+        return order_at(a, b, at);
+    }
+    order_at(a, b, a.len() - 8)
+}
+
+// How bytes compare that are equal before an index, and differ in the word there if they differ.
+#[inline(always)]
+fn order_at(a: &[u8], b: &[u8], at: usize) -> Ordering {
+    word_at(a, at).cmp(&word_at(b, at))
+}
+
+// Whether the eight bytes from that index on are equal too, if those before it are.
+#[inline(always)]
+fn same_word(a: &[u8], b: &[u8], at: usize) -> bool {
+    word_at(a, at) == word_at(b, at)
+}
+
+// The eight bytes from that index on as a number, the first as the highest.
+#[inline(always)]
+fn word_at(bytes: &[u8], at: usize) -> u64 {
+    u64::from_be_bytes([
+        bytes[at],
+        bytes[at + 1],
+        bytes[at + 2],
+        bytes[at + 3],
+        bytes[at + 4],
+        bytes[at + 5],
+        bytes[at + 6],
+        bytes[at + 7],
+    ])
 }

@@ -2,7 +2,8 @@ use Rattle.std.proofs.Common.{◌∙◌, ap, sym, arith, w64}
 use Rattle.std.specs.Cmp.{unsigned_Decides}
 use Rattle.std.specs.Int.{from_le_bytes}
 use Rattle.multihash.proofs.ComparingLemmas.{longer_front}
-use Rattle.multihash_c.proofs.ComparedLemmas.{word_same, word_of_front}
+use Rattle.multihash.proofs.WordOrderLemmas.{word_of_front}
+use Rattle.multihash_c.proofs.ComparedLemmas.{word_same}
 use Rattle.multihash_c.proofs.compare.same_word.Goals as goal
 
 pub returns : goal.returns
