@@ -1,7 +1,7 @@
 #!/usr/bin/env python3
 """Runs crates/vectors and mh_show on input that they have to reject, and compares all that they write.
 
-The programs are those of 'rt ci', if BUILT says so; otherwise they are built here.
+The programs are those that 'rt ci' built in the same run of .ci/run; otherwise they are built here.
 """
 import subprocess
 import sys
