@@ -27,7 +27,8 @@ def field(number: int, data: bytes) -> bytes:
 content = Path(sys.argv[1]).read_bytes()
 unixfs = b"\x08\x02" + field(2, content) + b"\x18" + varint(len(content))
 multihash = bytes(hashes.digest(field(1, unixfs), "sha2-256"))
-alphabet, number, base58 = "123456789ABCDEFGHJKLMNPQRSTUVWXYZabcdefghijkmnopqrstuvwxyz", int.from_bytes(multihash, "big"), ""
+alphabet = "123456789ABCDEFGHJKLMNPQRSTUVWXYZabcdefghijkmnopqrstuvwxyz"
+number, base58 = int.from_bytes(multihash, "big"), ""
 while number:
     number, digit = divmod(number, 58)
     base58 = alphabet[digit] + base58
