@@ -332,7 +332,7 @@ fn put_digits(n: u64, buffer: &mut [u8]) -> usize
     ensures { (bytes : List ℕ) × IsVarint n bytes × (result ≡ length bytes)
         × (buffer.new ≡ bytes ++ drop (length bytes) buffer.old) }
 {
-    let mut at = 0;
+    let mut at: usize = 0;
     let mut rest = n;
     while rest >= 128 {
         buffer[at] = (rest & 0x7f) as u8 | 0x80;
