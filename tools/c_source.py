@@ -123,8 +123,11 @@ def branch(head: str, lines: list[str], other: list[str] | None = None) -> list[
     is_short = len(lines) == 1 and len(head) + len(lines[0]) < WIDTH - 8 and not re.match("if|switch|for", lines[0])
     if not other:
         return [f"{head} {lines[0]}"] if is_short else [head + " {", *indented(lines), "}"]
-    is_chain = other[0].startswith("if ") and not any(re.match("[^ }]", line) for line in other[1:])
-    return [head + " {", *indented(lines), *([f"}} else {other[0]}", *other[1:]] if is_chain else ["} else {", *indented(other), "}"])]
+    if len(other) == 1 and (found := re.fullmatch(r"(if \(.*?\)) (\w.*;)", other[0])) and found[1].count("(") == found[1].count(")"):
+        other = [found[1] + " {", "    " + found[2], "}"]
+    if other[0].startswith("if ") and not any(re.match("[^ }]", line) for line in other[1:]):
+        return [head + " {", *indented(lines), f"}} else {other[0]}", *other[1:]]
+    return [head + " {", *indented(lines), "} else {", *indented(other), "}"]
 
 
 def negated(condition: str) -> str:
@@ -136,7 +139,7 @@ def negated(condition: str) -> str:
 
 def wrapped(line: str) -> str:
     """Breaks a long line of code after a comma, or else an operation."""
-    if len(line) <= WIDTH or re.match(r" *(/\*| \*|#)", line):
+    if len(line) <= WIDTH or re.match(r" *(/\*| \*|#|_Static)", line):
         return line
     at = line.rfind(", ", 0, WIDTH) + 1
     if at < WIDTH // 2:
@@ -223,6 +226,8 @@ class Program:
         name = self.name_of(of)
         if name not in self.types and not name.startswith("multihash_"):
             fields = [f"    {declared(self.c_type(kind), it)};" for it, kind in self.fields(of).items()]
+            if of.name == "Result":
+                fields[1:] = ["    union {", *indented(fields[1:]), "    };"]
             fields = [f"    uint8_t bytes[{of.length}];"] if of.name == "array" else fields
             self.types[name] = ["", f"typedef struct {name} {{", *fields, f"}} {name};"]
         return name
@@ -272,13 +277,14 @@ class Program:
             kind_node, node = it.parser().constant().kids
             kind, number = self.type(it, kind_node), self.number(it, node)
             self.constants[key] = name, kind, number
+            about = self.about(it)
             if name.startswith("MULTIHASH_"):
-                lines = [f'_Static_assert({name} == {number}, "the number of multihash.h");']
+                about, lines = [], [f'_Static_assert({name} == {number}, "{about[1][3:-3]}");']
             elif "u128" in it.item.source:
                 lines = [f"#define {name} UINT64_C({number:#x})"]
             else:
                 lines = [f"#define {name} ({Function(self, it).typed(node, kind).code})"]
-            self.texts[it.module] += [*self.about(it), *lines]
+            self.texts[it.module] += [*about, *lines]
         return self.constants[key]
 
     def function(self, it: Item) -> Signature:
@@ -297,10 +303,11 @@ class Program:
             if "no_mangle" in it.item.attributes:
                 self.function(it)
         code = [line for lines in self.texts.values() if len(lines) > 3 for line in lines]
-        for name in self.types:
-            tags = dict.fromkeys(re.findall(rf"\b{upper(name)}_\w+", "\n".join(code)))
-            if "    uint8_t tag;" in self.types[name]:
-                self.types[name][1:1] = [f"enum {{ {', '.join(tags)} }};"]
+        for name, lines in self.types.items():
+            if "    uint8_t tag;" in lines:
+                tags = dict.fromkeys(re.findall(rf"\b{upper(name)}_\w+", "\n".join(code)))
+                payloads = [it for it in lines[3:-1] if uses(re.findall(r"\w+", it)[1], code)]
+                lines[1:-1] = [f"enum {{ {', '.join(tags)} }};", "", *lines[1:3], *payloads]
         about = "/* Made by tools/c_source.py from the proved source: not to be edited. */\n\n"
         typed = [line for lines in self.types.values() for line in lines]
         return about + PRELUDE + "\n".join(wrapped(line) for line in [*typed, *code]) + "\n"

@@ -140,9 +140,9 @@ typedef struct OptionVarint {
 } OptionVarint;
 
 enum { KIND_OVERFLOW, KIND_INSUFFICIENT, KIND_NOT_MINIMAL, KIND_INVALID_CODE };
+
 typedef struct Kind {
     uint8_t tag;
-    uint64_t invalid_size;
     uint64_t invalid_code;
 } Kind;
 
@@ -157,8 +157,10 @@ typedef struct ErrorAt {
 
 typedef struct VarintOrErrorAt {
     bool is_ok;
-    Varint ok;
-    ErrorAt err;
+    union {
+        Varint ok;
+        ErrorAt err;
+    };
 } VarintOrErrorAt;
 
 typedef struct Bytes16 {
@@ -167,8 +169,10 @@ typedef struct Bytes16 {
 
 typedef struct HeadOrErrorAt {
     bool is_ok;
-    Head ok;
-    ErrorAt err;
+    union {
+        Head ok;
+        ErrorAt err;
+    };
 } HeadOrErrorAt;
 
 typedef struct StatusAndCount {
@@ -178,8 +182,10 @@ typedef struct StatusAndCount {
 
 typedef struct UsizeOrError {
     bool is_ok;
-    size_t ok;
-    Error err;
+    union {
+        size_t ok;
+        Error err;
+    };
 } UsizeOrError;
 
 typedef struct Bytes9 {
@@ -434,30 +440,14 @@ COLD HeadOrErrorAt head_read_counted(const uint8_t *bytes, size_t bytes_length)
 
 /* ---- multihash_c/src/status.rt
  * The statuses that a C caller gets. */
-
-/* The input ends within or before a varint. */
-_Static_assert(MULTIHASH_INSUFFICIENT == 1, "the number of multihash.h");
-
-/* A varint has more than nine bytes, as every number of 2^63 or more needs. */
-_Static_assert(MULTIHASH_OVERFLOW == 2, "the number of multihash.h");
-
-/* A varint of more than one byte ends in a zero byte. */
-_Static_assert(MULTIHASH_NOT_MINIMAL == 3, "the number of multihash.h");
-
-/* A digest is too long, or bytes follow the multihash. */
-_Static_assert(MULTIHASH_INVALID_SIZE == 4, "the number of multihash.h");
-
-/* The input ends within the digest, or within a fixed-size part of the SCALE form. */
-_Static_assert(MULTIHASH_UNEXPECTED_EOF == 6, "the number of multihash.h");
-
-/* Success. */
-_Static_assert(MULTIHASH_OK == 0, "the number of multihash.h");
-
-/* A code is 2^63 or more. */
-_Static_assert(MULTIHASH_INVALID_CODE == 5, "the number of multihash.h");
-
-/* The buffer is too small. */
-_Static_assert(MULTIHASH_NO_ROOM == 7, "the number of multihash.h");
+_Static_assert(MULTIHASH_INSUFFICIENT == 1, "The input ends within or before a varint.");
+_Static_assert(MULTIHASH_OVERFLOW == 2, "A varint has more than nine bytes, as every number of 2^63 or more needs.");
+_Static_assert(MULTIHASH_NOT_MINIMAL == 3, "A varint of more than one byte ends in a zero byte.");
+_Static_assert(MULTIHASH_INVALID_SIZE == 4, "A digest is too long, or bytes follow the multihash.");
+_Static_assert(MULTIHASH_UNEXPECTED_EOF == 6, "The input ends within the digest, or within a fixed-size part of the SCALE form.");
+_Static_assert(MULTIHASH_OK == 0, "Success.");
+_Static_assert(MULTIHASH_INVALID_CODE == 5, "A code is 2^63 or more.");
+_Static_assert(MULTIHASH_NO_ROOM == 7, "The buffer is too small.");
 
 /* ---- multihash_c/src/version.rt
  * The version of the library for C. */
@@ -899,7 +889,9 @@ multihash_encoded multihash_encode(uint64_t code, const uint8_t *digest, size_t 
 {
     if (digest_length == USUAL_DIGEST) {
         if (code < 128) return encode_usual(code, digest, digest_length, out, out_length);
-    } else if (digest_length > DIGEST_MAX) return encode_rejected_size((uint64_t)digest_length);
+    } else if (digest_length > DIGEST_MAX) {
+        return encode_rejected_size((uint64_t)digest_length);
+    }
     const StatusAndCount pair = encode_apart(sized_len(digest_length), code, digest, digest_length, out,
         out_length);
     const uint32_t status = pair.status;
@@ -911,7 +903,7 @@ multihash_encoded multihash_encode(uint64_t code, const uint8_t *digest, size_t 
 ALWAYS_INLINE void put_parts(const uint8_t *head, size_t head_length, const uint8_t *digest,
     size_t digest_length, uint8_t *buffer)
 {
-    put_digest(head, head_length, buffer);
+    copy(buffer, head, head_length);
     put_digest(digest, digest_length, buffer + head_length);
 }
 

@@ -373,7 +373,7 @@ fn put_parts(head: &[u8], digest: &[u8], buffer: &mut [u8])
     requires { length head.now + length digest.now ≤ length buffer.old }
     ensures { buffer.new ≡ (head.now ++ digest.now) ++ drop (length (head.now ++ digest.now)) buffer.old }
 {
-    put_digest(head, buffer);
+    buffer[..head.len()].copy_from_slice(head);
     put_digest(digest, &mut buffer[head.len()..]);
 }
 
