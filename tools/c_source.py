@@ -123,7 +123,7 @@ def branch(head: str, lines: list[str], other: list[str] | None = None) -> list[
     is_short = len(lines) == 1 and len(head) + len(lines[0]) < WIDTH - 8 and not re.match("if|switch|for", lines[0])
     if not other:
         return [f"{head} {lines[0]}"] if is_short else [head + " {", *indented(lines), "}"]
-    if len(other) == 1 and (found := re.fullmatch(r"(if \(.*?\)) (\w.*;)", other[0])) and found[1].count("(") == found[1].count(")"):
+    if len(other) == 1 and (found := re.fullmatch(r"(if \([^()]*\)) (\w.*;)", other[0])):
         other = [found[1] + " {", "    " + found[2], "}"]
     if other[0].startswith("if ") and not any(re.match("[^ }]", line) for line in other[1:]):
         return [head + " {", *indented(lines), f"}} else {other[0]}", *other[1:]]
@@ -234,8 +234,8 @@ class Program:
 
     def name_of(self, of: Type) -> str:
         if of.name in ("tuple", "Result"):
-            names = tuple(it.name for it in of.of)
-            return TUPLES[names][0] if names in TUPLES else ("Or" * (of.name == "Result")).join(map(self.name_of, of.of))
+            names, between = tuple(it.name for it in of.of), "Or" if of.name == "Result" else ""
+            return TUPLES[names][0] if names in TUPLES else between.join(map(self.name_of, of.of))
         if of.name in ("Option", "array"):
             return f"Bytes{of.length}" if of.name == "array" else "Option" + self.name_of(of.of[0])
         is_c = any("repr(C)" in it.item.attributes for it in self.items.values() if it.item.name == of.name)
@@ -249,8 +249,8 @@ class Program:
             return flag | dict(zip(names, of.of, strict=True))
         [found] = [it for it in self.items.values() if it.item.name == of.name and it.item.kind in ("struct", "enum")]
         if found.item.kind == "struct":
-            path = found.path.relative_to(TOP)
-            return {name: self.type(found, Parser(path, kind, 0, len(kind)).type()) for name, kind in found.item.parts()}
+            parts = [(name, Parser(found.path, kind, 0, len(kind))) for name, kind in found.item.parts()]
+            return {name: self.type(found, parser.type()) for name, parser in parts}
         payloads = re.findall(r"(?m)^ +(\w+)\((\w+)\),$", found.item.source)
         return {"tag": Type("u8")} | {upper(name).lower(): Type(kind) for name, kind in payloads if kind in NUMBERS}
 
@@ -322,6 +322,7 @@ class Function:
         self.known: dict[str, Value] = {}
         self.taken = set("auto char default double float int long short signed switch unsigned void volatile".split())
         self.mutable: set[str] = set()
+        self.lengths: list[str] = []
 
     def refuse(self, node: Node, what: str) -> NoReturn:
         self.program.refuse(self.it, node, what)
@@ -331,7 +332,8 @@ class Function:
         for name, kind in made.parameters.items():
             self.name(name, kind)
         lines = self.block(body, made.result)
-        lines = [it for it in lines if not (found := re.match(r"const size_t (\w+_length) =", it)) or uses(found[1], lines) > 1]
+        needless = [it for it in self.lengths if uses(it, lines) == 1]
+        lines = [it for it in lines if not any(f"const size_t {name} = " in it for name in needless)]
         place = next((place for name, place in PLACES.items() if name in attributes), "static inline ")
         parameters = []
         for name, kind in made.parameters.items():
@@ -486,6 +488,7 @@ class Function:
             self.mutable.add(it.code)
         kind = self.program.c_type(value.type)
         head = f"{kind}{const}{it.code}" if kind.endswith("*") else f"{const}{kind} {it.code}"
+        self.lengths += [it.length] if it.length else []
         return [f"{head} = {value.code};", *([f"const size_t {it.length} = {value.length};"] if it.length else [])]
 
     def assign(self, node: Node) -> list[str]:
@@ -496,7 +499,10 @@ class Function:
             if any("[" in value for value in values):
                 self.refuse(source, "it may read what was written")
             return [f"{to.code}[{at}] = {value};" for at, value in enumerate(values)]
-        if to.type.name == "array_ref" and node.name == "=" and (value := self.expression(source)).type.name == "array_ref":
+        if to.type.name == "array_ref" and node.name == "=":
+            value = self.expression(source)
+            if value.type.name != "array_ref" or not value.length:
+                self.refuse(node, "no known copy")
             return [f"memcpy({to.code}, {value.code}, {value.length});"]
         value = self.expression(source, U32 if node.name in (">>=", "<<=") else to.type)
         if to.type.name not in NUMBERS or (to.type == U8 and node.name != "="):
@@ -519,7 +525,8 @@ class Function:
 
     def inner(self, value: Value, mark: str = "") -> str:
         """Returns an operand, in parentheses if it is an operation that needs them."""
-        return f"({value.code})" if value.mark and value.mark != "cast" and value.mark not in BARE.get(mark, ()) else value.code
+        is_bare = value.mark in ("", "cast") or value.mark in BARE.get(mark, ())
+        return value.code if is_bare else f"({value.code})"
 
     def literal(self, kind: Type, fields: str) -> Value:
         return Value(kind, f"({self.program.c_type(kind)}){{{fields}}}")
@@ -564,7 +571,7 @@ class Function:
         """Returns a case of an enum."""
         owner, _, name = node.name.rpartition("::")
         found = self.program.find(self.it, owner) if owner else None
-        if not found or found.item.kind != "enum":
+        if not found or found.item.kind != "enum" or not re.search(rf"\b{name}\b", found.item.source):
             self.refuse(node, "no known name")
         return self.literal(Type(owner), f".tag = {upper(owner)}_{upper(name)}{payload}")
 
@@ -629,7 +636,8 @@ class Function:
         fields = self.program.fields(kind)
         if [it.name for it in node.kids] != [*fields]:
             self.refuse(node, "other fields")
-        return self.literal(kind, ", ".join(f".{it.name} = {self.initial(it.kids[0], fields[it.name])}" for it in node.kids))
+        values = (f".{it.name} = {self.initial(it.kids[0], fields[it.name])}" for it in node.kids)
+        return self.literal(kind, ", ".join(values))
 
     def of_if(self, node: Node, wanted: Type | None) -> Value:
         condition, *blocks = node.kids
@@ -665,7 +673,7 @@ class Function:
 
     def of_call(self, node: Node, wanted: Type | None) -> Value:
         match node.name.split("::"):
-            case [("Some" | "Ok" | "Err") as case] if wanted and wanted.name == ("Option" if case == "Some" else "Result"):
+            case [("Some" | "Ok" | "Err") as case] if wanted and wanted.name in ("Option", "Result"):
                 flag = {"Some": ".is_some = true", "Ok": ".is_ok = true", "Err": ".is_ok = false"}[case]
                 value = self.initial(node.kids[0], wanted.of[case == "Err"])
                 return self.literal(wanted, f"{flag}, .{case.lower()} = {value}")
@@ -719,7 +727,8 @@ class Function:
             part = Value(kind, value.code, value.mark, count)
             if node.name == "split_first_chunk":
                 part = Value(Type("tuple"), "", parts=(part, self.cut(value, count)))
-            return Value(Type("Option"), f"{value.length} {CHUNKS[node.name]} {count}", "==", parts=(part, Value(UNIT, "")))
+            condition = f"{value.length} {CHUNKS[node.name]} {count}"
+            return Value(Type("Option"), condition, "==", parts=(part, Value(UNIT, "")))
         if found := self.program.items.get((value.type.name, node.name)):
             return self.called(node, found, [receiver, *kids])
         name, given = self.helper(node, value, node.name), [value.code, value.length]

@@ -156,7 +156,9 @@ class Parser:
 
     def assignment(self) -> Node:
         value = self.expression()
-        return self.node("assign", self.take("mark"), value, self.expression()) if self.token.text in ASSIGNMENTS else value
+        if self.token.text in ASSIGNMENTS:
+            return self.node("assign", self.take("mark"), value, self.expression())
+        return value
 
     def expression(self, level: int = 0, has_struct: bool = True) -> Node:
         if level == len(LEVELS):
