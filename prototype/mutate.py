@@ -1,9 +1,9 @@
 import re, subprocess, sys, os, random, tempfile
-top='/tmp/h/readc/'; I=top+'bindings/c/include'; T=[top+'bindings/c/tests/%s.c'%n for n in 'test verdicts models draws buffer'.split()]
-w='/tmp/h/w/mut/'; os.makedirs(w,exist_ok=True)
+top='WORK'; I=top+'bindings/c/include'; T=[top+'bindings/c/tests/%s.c'%n for n in 'test verdicts models draws buffer'.split()]
+w='WORK'; os.makedirs(w,exist_ok=True)
 for t in T: subprocess.run(['gcc','-std=c11','-O1','-I',I,'-c',t,'-o',w+os.path.basename(t)+'.o'],check=True)
 objs=[w+os.path.basename(t)+'.o' for t in T]
-src=open('/tmp/h/F.c').read(); start=src.index('/* ---- multihash/src/error.rt')
+src=open('WORK').read(); start=src.index('/* ---- multihash/src/error.rt')
 swap=[(r' < ',' <= '),(r' <= ',' < '),(r' >= ',' > '),(r' > ',' >= '),(r' == ',' != '),(r' \+ ',' - '),(r' - ',' + '),(r' & ',' | '),(r' && ',' || '),(r'\b(\d+)\b',None),(r'!option',' option'),(r'\.is_ok = true','.is_ok = false')]
 text=re.sub(r'/\*.*?\*/|"[^"]*"',lambda m:re.sub(r'[^\n]','~',m[0]),src,flags=re.S)
 muts=[]

@@ -1,7 +1,7 @@
 # Each edit of the source is refused, with a file and a line.
-cd /tmp/h; rm -rf rf; mkdir rf; cp -r readc/crates readc/tools rf/ 2>/dev/null; mkdir -p rf/bindings/c/src; cp readc/bindings/c/src/prelude.c rf/bindings/c/src/
+cd WORK; rm -rf rf; mkdir rf; cp -r readc/crates readc/tools rf/ 2>/dev/null; mkdir -p rf/bindings/c/src; cp readc/bindings/c/src/prelude.c rf/bindings/c/src/
 cd rf
-try() { cp "$1" /tmp/h/w/saved; sed -i "$2" "$1"; if cmp -s "$1" /tmp/h/w/saved; then echo "NO EDIT: $2"; fi; if out=$(python3 tools/c_source.py 2>&1 >/dev/null); then echo "ACCEPTED: $2"; else echo "$out" | tail -1; fi; cp /tmp/h/w/saved "$1"; }
+try() { cp "$1" WORK; sed -i "$2" "$1"; if cmp -s "$1" WORK; then echo "NO EDIT: $2"; fi; if out=$(python3 tools/c_source.py 2>&1 >/dev/null); then echo "ACCEPTED: $2"; else echo "$out" | tail -1; fi; cp WORK "$1"; }
 C=crates/multihash_c/src; M=crates/multihash/src
 try $C/compare.rt 's/let mut at: usize = 0;/let mut at = 0;/'
 try $C/compare.rt 's/bytes\[at + 7\]/bytes[at + 6]/'
