@@ -13,7 +13,7 @@ Contracts are removed. What a function of multihash.h needs becomes the same in 
                         `int`, so each result is converted. No i32 is calculated with. All conversions are written
     + - * << >>         those of C: they are proved not to overflow
 
-The text before it is bindings/c/src/prelude.c. What is not known is an error that names its line.
+The text before it is tools/prelude.c. What is not known is an error that names its line.
 """
 import re
 import runpy
@@ -26,7 +26,7 @@ from rt_code import Node, Parser, Refused
 
 TOP = Path(__file__).resolve().parents[1]
 ERASE = runpy.run_path(str(TOP / "tools/erase"))
-PRELUDE = (TOP / "bindings/c/src/prelude.c").read_text("utf-8")
+PRELUDE = (TOP / "tools/prelude.c").read_text("utf-8")
 FILES = [f"multihash/src/{name}.rt" for name in ("error", "varint", "varint/word", "head")]
 FILES += [f"multihash_c/src/{name}.rt" for name in ("lib", "status", "version", "compare", "decode", "encode")]
 NUMBERS = {"u8": "uint8_t", "u32": "uint32_t", "u64": "uint64_t", "usize": "size_t"}
