@@ -1,65 +1,82 @@
 #!/usr/bin/env bash
-# The header and the static library for C.
-# It looks at what the library exports and needs, and calls it from C and C++: plain, under sanitizers and under
-# valgrind, with all warnings as errors.
+# The library for C on this machine: its header and its source by each compiler without a warning, its tests, plain and
+# under sanitizers, and beside the archive that the kit builds of the proved functions.
 # shellcheck source=checks/lib/tap.sh
 . "$(dirname "$0")/lib/tap.sh"
-require cc python3 rt
+require cc python3
 # shellcheck source=checks/lib/proved.sh
 . checks/lib/proved.sh
 # shellcheck source=checks/lib/c.sh
 . checks/lib/c.sh
-library=$c/prebuilt/x86_64/libmultihash_c.a
-valgrind="valgrind --error-exitcode=9"
 
-build_library() {
-  (cd "$PROVED/crates/multihash_c"; rm -rf out/*.a; rt lib --cpu=x86-64)
+# The header, by a compiler for C and one for C++.
+header() {
+  local standard
+  for standard in c99 c11 c17; do
+    "$1" -std=$standard "${warnings[@]}" -x c -fsyntax-only -include "$c/include/multihash.h" /dev/null
+  done
+  for standard in c++11 c++14 c++17 c++20; do
+    "$2" -std=$standard "${warnings[@]}" -x c++ -fsyntax-only -include "$c/include/multihash.h" /dev/null
+  done
+  "$2" -std=c++17 "${warnings[@]}" -fsyntax-only -I "$c/include" "$c/tests/types.cpp"
+}
+
+# The source, at each level of optimization.
+compiles() {
+  local standard level
+  for standard in c11 c17; do
+    for level in 0 1 2 3 s; do
+      "$1" "${c_flags[@]}" -std=$standard -O$level -I "$c/include" -c "$source" -o "$work/$1-$standard-$level.o"
+    done
+  done
+}
+
+# It exports what the header declares, no more and no less, and needs nothing but memcpy.
+has_names() {
+  nm --extern-only --defined-only -j "$1" | sort | diff <(exported) -
+  keeps_no_state "$1" memcpy
+}
+
+# The tests as C++, over the object of the C compiler.
+as_cxx() {
+  build_and_run "$1" "" "$1" -std=c++17 "${warnings[@]}" -O2 -x c++ "${tests[@]}" -x none "$work/$2-c11-2.o"
+}
+
+test_compilers() {
+  local cc cxx
+  for cc in cc clang; do
+    [ $cc = cc ] && cxx=c++ needs=c++ || cxx=clang++ needs="clang clang++"
+    try "$cc, $cxx, header" header $cc $cxx
+    ONLY='' try "$cc" compiles $cc
+    try "$cc, tests" build_and_run $cc "" $cc "${c_flags[@]}" -O2 "${tests[@]}" "$source"
+    try "$cxx, tests" as_cxx $cxx $cc
+    [ $cc = cc ] || needs="clang $clang_runtime"
+    try "$cc, address and undefined-behaviour sanitizers" \
+      build_and_run $cc-san "" $cc "${c_flags[@]}" "${sanitize[@]}" "${tests[@]}" "$source"
+  done
+  try "clang, memory sanitizer" \
+    build_and_run clang-memory "" clang "${c_flags[@]}" "${heap[@]}" -fsanitize=memory "${tests[@]}" "$source"
+}
+
+# The tests over both, in one program.
+beside_archive() {
+  tools/generate archive "$work/proved.a" --cpu=x86-64
   if [ -n "${KEPT-}" ]; then
     cp -a "$PROVED" "$KEPT/part"
     mv "$KEPT/part" "$KEPT/copy"
   fi
-  cmp {"$PROVED/crates/multihash_c/out","$c/prebuilt/x86_64"}/libmultihash_c.a
+  exported | sed 's/.*/& proved_&/' > "$work/renamed"
+  objcopy --redefine-syms="$work/renamed" "$work/proved.a"
+  mapfile -t calls < <(exported | sed '/version$/d; s/^/-Wl,--wrap=/')
+  build_and_run beside "" cc "${c_flags[@]}" -O2 "${tests[@]}" "$c/tests/beside.c" "$source" "$work/proved.a" \
+    "${calls[@]}"
 }
 
-# An archive exports what the header declares, no more and no less.
-exports_exactly() {
-  nm --extern-only --defined-only -j "$1" | awk 'NF && !/:$/' | sort -u | diff <(exported) -
-}
-
-# Under valgrind, which sees each access to a buffer's neighbours: the program `$1` of the tests and the other words.
-under_valgrind() { build_and_run "$1" "$valgrind" cc "${c_flags[@]}" "${heap[@]}" "${tests[@]}" "${@:2}"; }
-
-test_compilers() {
-  local name needs compile
-  for name in cc c++ clang clang++; do
-    compile=("$name" "${c_flags[@]}" -x c) needs=$name
-    if [[ $name = *++ ]]; then
-      compile=("$name" -std=c++17 "${warnings[@]}" -x c++)
-      try "$name, types" "${compile[@]}" -I "$c/include" -fsyntax-only "$c/tests/types.cpp"
-    fi
-    try "$name, header alone" "${compile[@]}" -fsyntax-only -include "$c/include/multihash.h" /dev/null
-    try "$name, plain" build_and_run "$name" "" "${compile[@]}" -O2 "${tests[@]}" -x none "$library"
-    [[ $name != clang* ]] || needs="$name $clang_runtime"
-    try "$name, address and undefined-behaviour sanitizers" \
-      build_and_run "$name-san" "" "${compile[@]}" "${sanitize[@]}" "${tests[@]}" -x none "$library"
-  done
-}
-
-# A processor without what x86-64-v2 adds.
-old_processor() {
-  build_and_run old "qemu-x86_64 -cpu qemu64,-pni,-ssse3,-sse4.1,-sse4.2,-popcnt,-cx16" \
-    cc "${c_flags[@]}" -O2 -static "${tests[@]}" "$library"
-}
-
-try "static library" build_library
-needs="nm" try exports exports_exactly "$library"
-needs="nm objdump" try "what it needs" keeps_no_state "$library" memcpy memmove
+needs="rt objcopy /lib64/ld-linux-x86-64.so.2" try "beside the archive" beside_archive
+test_compilers
+needs="nm objdump" try "names" has_names "$work/cc-c11-2.o"
 # a test in C calls each function that the header declares
 try "tests of the exports" diff /dev/null <(exported |
   comm -23 - <(grep -ohw 'multihash_[a-z_]*' "$c"/tests/{test,models}.c | sort))
-test_compilers
-# each access of the library, which the compilers' sanitizers do not see
-needs=valgrind try valgrind under_valgrind valgrind "$library"
-needs=qemu-x86_64 try "a processor of the baseline" old_processor
 try "the version that files state" tools/version.py --check
 finish

@@ -7,23 +7,22 @@
 require cc cmake python3 readelf pkg-config
 # shellcheck source=checks/lib/installed.sh
 . checks/lib/installed.sh
-library=$c/prebuilt/x86_64/libmultihash_c.a
 
 # The reader of a stream of a folder, over pipes that are cut at each byte.
 reads_stream() {
-  cc "${c_flags[@]}" "${sanitize[@]}" -I "$c/include" -I "$1" "$c/tests/stream.c" "$library" -o "$work/stream"
+  cc "${c_flags[@]}" "${sanitize[@]}" -I "$c/include" -I "$1" "$c/tests/stream.c" "$source" -o "$work/stream"
   "$work/stream"
 }
 
 # The one that is installed. The program reads SHA2-512 too.
 stream_example() {
   reads_stream "$c/examples"
-  cc "${c_flags[@]}" -I "$c/include" "$c/examples/stream.c" "$library" -o "$work/stream"
+  cc "${c_flags[@]}" -I "$c/include" "$c/examples/stream.c" "$source" -o "$work/stream"
   prints "size 64" "$work/stream" < <(printf '\x13\x40%064d' 0)
 }
 
 build_verify() {
-  cc "${c_flags[@]}" "${sanitize[@]}" -I "$c/include" "$1" "$library" -lcrypto -o "$work/verify"
+  cc "${c_flags[@]}" "${sanitize[@]}" -I "$c/include" "$1" "$source" -lcrypto -o "$work/verify"
 }
 
 # The example that hashes, over each row of hashes.tsv: for some codes it has no function.
@@ -71,7 +70,7 @@ in_project() {
 by_subdirectory() {
   local to=$work/folder
   printf '%s\n' "add_subdirectory(\"$top\" multihash_c)" 'target_link_libraries(program multihash_c::${kind})' |
-    in_project "$to" -DCMAKE_C_VISIBILITY_PRESET=hidden -DMULTIHASH_C_ARCHIVE=OFF -DCMAKE_INSTALL_PREFIX="$to/prefix"
+    in_project "$to" -DCMAKE_C_VISIBILITY_PRESET=hidden -DCMAKE_INSTALL_PREFIX="$to/prefix"
   readelf -Ws "$to/static/multihash_c/libmultihash_c.a" | grep ' HIDDEN .* multihash_encode$'
   cmake --install "$to/static"
   has_flags "$to/prefix" lib

@@ -7,34 +7,23 @@ require cc cmake python3 readelf
 # shellcheck source=checks/lib/installed.sh
 . checks/lib/installed.sh
 
-# What a machine gets, by CMake's names and a compiler's options: an archive only on Linux with 64 bits, and a shared
-# library where there are some. For MSVC that exports all, and its .lib is not the static library. A linker of ELF alone
-# reads the map.
-gets() {
-  cmake -S . -B "$work/machine.$1-$2$3" -DCMAKE_SYSTEM_NAME="$1" -DCMAKE_SYSTEM_PROCESSOR="$2" -DCMAKE_C_FLAGS="$3" \
+# A system has a shared library or not.
+shares() {
+  cmake -S . -B "$work/system.$1" -DCMAKE_SYSTEM_NAME="$1" -DCMAKE_SYSTEM_PROCESSOR=any -DCMAKE_C_FLAGS="$3" \
     -DCMAKE_TRY_COMPILE_TARGET_TYPE=STATIC_LIBRARY
-  has "machine.$1-$2$3" "$4" "$5"
-}
-has() {
-  local found
-  found=$(sed -nE 's/^MULTIHASH_C_(ARCHIVE|SHARED):\w+=//p' "$work/$1/CMakeCache.txt")
-  diff <(printf '%s\n' "$2" "$3") <(echo "${found#"$PWD/"}")
+  grep -x "MULTIHASH_C_SHARED:BOOL=$2" "$work/system.$1/CMakeCache.txt"
 }
 
-machines() {
-  gets Linux x86_64 "" bindings/c/prebuilt/x86_64/libmultihash_c.a ON
-  gets Linux aarch64 "" bindings/c/prebuilt/aarch64/libmultihash_c.a ON
-  gets Linux aarch64_be "" OFF ON
-  gets FreeBSD x86_64 "" OFF ON
-  gets Generic aarch64 "" OFF OFF
-  CC=clang gets Windows AMD64 --target=x86_64-pc-windows-msvc OFF ON
-  CC=clang gets Darwin arm64 --target=arm64-apple-macos11 OFF ON
+systems() {
+  shares FreeBSD ON ""
+  shares Generic OFF ""
+  CC=clang shares Windows ON --target=x86_64-pc-windows-msvc
+  CC=clang shares Darwin ON --target=arm64-apple-macos11
 }
 
-# The toolchain file has the archive for its machine.
+# By the toolchain file.
 builds_for_aarch64() {
   build arm -DCMAKE_TOOLCHAIN_FILE=bindings/c/aarch64.cmake
-  has arm bindings/c/prebuilt/aarch64/libmultihash_c.a ON
   prints "multihash_c-$version-aarch64.tar.gz generated" cpack --config "$work/arm/CPackConfig.cmake" -B "$work/packed"
 }
 
@@ -46,22 +35,11 @@ builds_for_windows() {
   { wineserver -k || true; }
 }
 
-# The archive of another machine is not built.
-of_another_machine() {
-  local copy=$work/edited
-  mkdir -p "$copy/bindings"
-  cp CHANGES CMakeLists.txt LICENSE "$copy"
-  cp -r bindings/c "$copy/bindings"
-  (cd "$copy/bindings/c/prebuilt"; mv aarch64 kept; mv x86_64 aarch64; mv kept x86_64)
-  rejects "not the archive of prebuilt/SHA256SUMS" cmake -S "$copy" -B "$copy/other" -DCMAKE_SYSTEM_NAME=Linux \
-    -DCMAKE_SYSTEM_PROCESSOR=x86_64
-}
-
 # Flags of a distribution reach the compiler, before those of the build type, and the linker, and hide no function of
 # the shared library. Without tests none are built, and without Python no man pages.
 with_flags() {
   CFLAGS="-fvisibility=hidden -fno-pie -g3" LDFLAGS=-Wl,--build-id=0x01234567 cmake -S "$top" -B "$work/flags" \
-    -DMULTIHASH_C_ARCHIVE=OFF -DBUILD_TESTING=OFF -DCMAKE_DISABLE_FIND_PACKAGE_Python3=ON
+    -DBUILD_TESTING=OFF -DCMAKE_DISABLE_FIND_PACKAGE_Python3=ON
   prints '-fvisibility=hidden -fno-pie -g3 -O3 -DNDEBUG ' cmake --build "$work/flags" --verbose
   exports_exactly "$work/flags/libmultihash_c.so" bindings/c/src/multihash_c.map
   prints 'Build ID: 01234567' readelf -n "$work/flags/libmultihash_c.so"
@@ -73,7 +51,7 @@ with_flags() {
 # By a generator of several configurations, each of which has a name of the library.
 has_configurations() {
   local kind
-  cmake -S "$top" -B "$work/several" -G "Ninja Multi-Config" -DMULTIHASH_C_ARCHIVE=OFF -DBUILD_TESTING=OFF \
+  cmake -S "$top" -B "$work/several" -G "Ninja Multi-Config" -DBUILD_TESTING=OFF \
     -DCMAKE_DEBUG_POSTFIX=d
   for kind in Debug Release; do
     cmake --build "$work/several" --config $kind
@@ -83,10 +61,8 @@ has_configurations() {
   paste -sd ' ' "$work/names" | tr -s ' ' | diff <(echo "-lmultihash_cd -lmultihash_c ") -
 }
 
-try "the archive of another machine" of_another_machine
 needs="ninja pkg-config" try "several configurations" has_configurations
-needs=clang try "other machines" machines
-needs=/lib64/ld-linux-x86-64.so.2 try "x86-64 with 32 bits" gets Linux x86_64 -m32 OFF ON
+needs=clang try "other systems" systems
 try "flags of a distribution" with_flags
 needs="aarch64-linux-gnu-gcc qemu-aarch64" try "building for aarch64" builds_for_aarch64
 needs="x86_64-w64-mingw32-gcc wine" try "building for Windows" builds_for_windows

@@ -1,6 +1,6 @@
 #!/usr/bin/env bash
 # What CMake builds, installs and packs of the library for C on this machine: its tests, its files, its man pages, and
-# the installed test, of the archive, of the portable source, and of faults.
+# the installed test, of the C source and of an archive.
 # shellcheck source=checks/lib/tap.sh
 . "$(dirname "$0")/lib/tap.sh"
 require cc cmake python3 readelf pkg-config
@@ -31,15 +31,9 @@ installs_below() {
   (cd "$work"; installed_test "$work/below$to")
 }
 
-from_source() {
-  build source -DMULTIHASH_C_ARCHIVE=OFF -DCMAKE_INSTALL_PREFIX="$work/source.prefix"
-  cmake --install "$work/source"
-  works "$work/source.prefix" lib
-}
-
 # Under a name for debugging, by a compiler whose default is C90.
 debug_build() {
-  build debug -DMULTIHASH_C_ARCHIVE=OFF -DCMAKE_C_STANDARD=90 -DCMAKE_BUILD_TYPE=Debug -DCMAKE_DEBUG_POSTFIX=d \
+  build debug -DCMAKE_C_STANDARD=90 -DCMAKE_BUILD_TYPE=Debug -DCMAKE_DEBUG_POSTFIX=d \
     -DCMAKE_INSTALL_PREFIX="$work/debug.prefix"
   cmake --install "$work/debug"
   [ -e "$work/debug.prefix/lib/libmultihash_cd.a" ]
@@ -55,7 +49,7 @@ packs() {
   cp "$(type -P true)" "$work/program"
   (cd "$work"; build other -DMULTIHASH_C_ARCHIVE=own.a -DBUILD_SHARED_LIBS=ON -DMULTIHASH_C_PROGRAM=program \
     -DCMAKE_INSTALL_{LIBDIR=lib/other,INCLUDEDIR=headers/c,DOCDIR=pages/c,MANDIR=manual,BINDIR=other/bin})
-  objcopy --add-symbol mark=.text:0 "$work/source/libmultihash_c.a" "$archive"
+  objcopy --add-symbol mark=.text:0 "$work/built/libmultihash_c.a" "$archive"
   cmake --build "$work/other"
   grep mark "$work/other/libmultihash_c.so"
   for name in built other; do
@@ -85,7 +79,6 @@ ONLY='' try "building" build built -DCMAKE_INSTALL_PREFIX="$prefix"
 ONLY='' try "installing" installs
 needs="mandoc" try "man pages" man_pages
 try "installing below a folder" installs_below
-ONLY='' try "the portable source" from_source
 try "a build for debugging" debug_build
 ONLY='' try "packing" packs
 try "the installed test of nothing" rejects "no multihash_c.pc" bindings/c/examples/test.sh "$work/none"

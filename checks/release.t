@@ -30,8 +30,7 @@ make_releases() {
   rejects "there is already" "$work/clone/tools/release" "$work/release"
 }
 
-# The files of a release, each with its checksum, also in the bill of materials. In that a file whose name has a machine
-# is made from the library for it, and others from the portable source.
+# The files of a release, each with its checksum, also in the bill of materials.
 has_files() {
   cd "$1"
   are_plain
@@ -45,19 +44,11 @@ has_files() {
   python3 - ./*.spdx.json > "$work/listed" << 'END'
 import json, sys
 bill = json.load(open(sys.argv[1]))
-names = {each["SPDXID"]: each["name"] for each in bill["packages"]}
 for each in bill["packages"]:
     if each["primaryPackagePurpose"] == "ARCHIVE":
         print(each["checksums"][0]["checksumValue"], "", each["name"])
-for each in bill["relationships"]:
-    if each["relationshipType"] == "GENERATED_FROM":
-        print(names[each["spdxElementId"]], "from", names[each["relatedSpdxElement"]])
 END
-  grep -v spdx SHA256SUMS | diff <(sed '/ from /d' "$work/listed" | sort -k 2) -
-  sed -nE 's,.*(x86_64|amd64)\..*,& from bindings/c/prebuilt/x86_64/libmultihash_c.a,p
-    s,.*(aarch64|arm64)\..*,& from bindings/c/prebuilt/aarch64/libmultihash_c.a,p
-    s,(multihash_c.*-source|^verified_multihash-[0-9.]*)\.tar.*,& from bindings/c/src/module.h,p' "$work/files" | sort |
-    comm -23 - <(sort "$work/listed") | diff /dev/null -
+  grep -v spdx SHA256SUMS | diff <(sort -k 2 "$work/listed") -
 }
 
 # The source is the last commit, but for what tools/owner states, of which nothing is empty.
@@ -97,26 +88,14 @@ END
   } | diff - "$work/wanted"
 }
 
-# A release of another archive than the listed one fails, and leaves nothing.
-failed_release() {
-  cp -r "$work/clone" "$work/altered"
-  cd "$work/altered"
-  git checkout -q HEAD -- bindings/c/prebuilt
-  echo >> bindings/c/prebuilt/x86_64/libmultihash_c.a
-  git -c user.name=tester -c user.email=tester commit -q -m altered bindings/c/prebuilt
-  rejects "an archive is not that of prebuilt/SHA256SUMS" tools/release "$work/failed"
-  [ ! -e "$work/failed" ]
-}
-
 ONLY='' try "a release, made twice" make_releases
 try "its files" has_files "$work/release"
 try "its relations" has_relations "$work/release"
 try "its source" is_source
 try "its owner" has_owner
-try "a release that fails" failed_release
 try "the library for x86-64" has_library x86_64
 CC=aarch64-linux-gnu-gcc RUN=${emulator[*]} try "the library for aarch64" has_library aarch64
-try "the portable source" has_portable_source
+try "the C source" has_source
 try "the package for JavaScript" has_npm_package
 try "the wheel" has_wheel
 try "the module for x86-64" modules_need x86_64 libc.so.6

@@ -20,12 +20,9 @@ without_std() {
   tests cargo test --no-default-features --features alloc
 }
 
-# The package and the library for C, an archive or the portable source, have the results of a list. In a build for
-# debugging sums that overflow are errors. A wrong result is found.
+# The package and the library for C have the results of a list. In a build for debugging sums that overflow are errors.
 beside_c() {
-  local library
-  library=$(compgen -G "bindings/c/prebuilt/$(uname -m)/*.a" || echo bindings/c/src/multihash.c)
-  cc -O2 -I bindings/c/include bindings/c/tests/{test,verdicts,models,draws,buffer}.c "$library" -o "$work/c"
+  cc -O2 -I bindings/c/include bindings/c/tests/{test,verdicts,models,draws,buffer}.c bindings/c/src/multihash.c -o "$work/c"
   prints "$(sed 1d "$work/list" | wc -l) lines" "$work/c" "$work/list" 0 0 vectors
   tests MULTIHASH_VERDICTS="$work/list" cargo test --test vectors
   tests MULTIHASH_VERDICTS="$work/list" cargo test --test vectors --release

@@ -32,15 +32,10 @@ def found(form: str, text: str) -> list[str]:
 
 COPYRIGHT, OWNER = found(r"(Copyright .*\d{4} (.*))", (SOURCE / "LICENSE").read_text())
 MAKERS = dict(re.findall(r"(?m)^(\w+)=(.*)$", (SOURCE / "tools/makers").read_text()))
-# what the kit made, and the files of a release that have it, or were linked with it
-MADE = {
-    "bindings/c/prebuilt/x86_64/libmultihash_c.a": r"_x86_64\.|-x86_64\.|_amd64\.",
-    "bindings/c/prebuilt/aarch64/libmultihash_c.a": r"_aarch64\.|-aarch64\.|_arm64\.",
-    "bindings/c/src/module.h": r"-source\.|verified_multihash-[0-9.]*\.tar",
-    "bindings/js/multihash.wasm": r"\.tgz$",
-}
-# what made two of them of what the kit linked
-LATER = (("wabt", "bindings/c/src/module.h"), ("binaryen", "bindings/js/multihash.wasm"))
+# what the kit made, and the files of a release that have it
+MADE = {"bindings/js/multihash.wasm": r"\.tgz$"}
+# what made it of what the kit linked
+LATER = (("binaryen", "bindings/js/multihash.wasm"),)
 # the tables of Cargo.toml, and how what they list is related to the package
 TABLES = {
     "dependencies": "DEPENDENCY_OF",

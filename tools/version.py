@@ -123,7 +123,7 @@ def main() -> int:
                 day = datetime.date.fromisoformat(date[0]) if date else today
                 for path, text in written(texts, version, day).items():
                     (TOP / path).write_text(text, "utf-8")
-                print("now run: tools/generate archives, tools/generate source, bindings/js/build.sh")
+                print("now run: tools/generate c, bindings/js/build.sh")
             case _:
                 print(__doc__, file=sys.stderr)
                 return 2

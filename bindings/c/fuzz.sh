@@ -1,5 +1,5 @@
 #!/usr/bin/env bash
-# Fuzzes the portable source, by Clang: libFuzzer finds nothing.
+# Fuzzes the library, by Clang: libFuzzer finds nothing.
 #
 #   bindings/c/fuzz.sh
 #   OUT=FOLDER bindings/c/fuzz.sh   builds the target, FOLDER/multihash_fuzzer, and its seeds, and runs nothing
@@ -10,11 +10,11 @@ set -euo pipefail
 here=$(dirname "$(readlink -f "${BASH_SOURCE[0]}")")
 read -r -a flags <<< "${CFLAGS:--g -O1 -fsanitize=fuzzer-no-link,address,undefined -fno-sanitize-recover=all}"
 
-# Builds the target of a source, and the seeds, the inputs of the test vectors, in a folder.
+# Builds the target, and the seeds, the inputs of the test vectors, in a folder.
 build() {
-  local source=$1 out=$2 work=${WORK:-$2} file
+  local out=$1 work=${WORK:-$1} file
   mkdir -p "$out" "$work/seeds" "$work/objects"
-  for file in "$here"/tests/{draws,models,buffer}.c "$source/multihash.c"; do
+  for file in "$here"/tests/{draws,models,buffer}.c "$here/src/multihash.c"; do
     "${CC:-clang}" "${flags[@]}" -std=c11 -DFUZZ -DHEAP -Wall -Wextra -I "$here/include" -c "$file" \
       -o "$work/objects/$(basename "$file" .c).o"
   done
@@ -34,7 +34,7 @@ END
 work=$(mktemp -d)
 trap 'rm -rf "$work"' EXIT
 if [ -n "${OUT-}" ]; then
-  build "$here/src" "$(readlink -f "$OUT")"
+  build "$(readlink -f "$OUT")"
   exit
 fi
 OUT=$work/plain "$here/fuzz.sh"

@@ -1,7 +1,7 @@
 #!/usr/bin/env bash
-# Writes the sdist, and for each archive of the library for C a wheel. They have the same bytes each time.
+# Writes the sdist, and a wheel for each machine, x86_64 or aarch64. They have the same bytes each time.
 #
-#   bindings/python/pack.sh OUT [ARCHIVE..]   ARCHIVE is for Linux on x86-64 or aarch64
+#   bindings/python/pack.sh OUT [MACHINE..]
 #
 # The wheels are for distributions with glibc 2.17 or later. /usr/bin/python3 has build, setuptools and wheel. CC is
 # the compiler; for another machine it is aarch64-linux-gnu-gcc or x86_64-linux-gnu-gcc.
@@ -28,18 +28,13 @@ build() {
 
 # A wheel of the unpacked sdist, whose module needs no later glibc than its tag says.
 wheel() (
-  case $(readelf -h "$1" 2> "$work/log" | grep Machine: || true) in
-  *X86-64) machine=x86_64 ;;
-  *AArch64) machine=aarch64 ;;
-  *) fail "no archive for x86-64 or aarch64: $1" ;;
-  esac
+  machine=$1
   if [ "$machine" != "$(uname -m)" ]; then
     # Debian's Python.h includes a file for each machine; those with 64 bits have the same configuration.
     ln -s "/usr/include/$(uname -m)-linux-gnu" "$work/$machine-linux-gnu"
     export CC=$machine-linux-gnu-gcc CFLAGS="$CFLAGS -I$work"
   fi
-  MULTIHASH_C_ARCHIVE=$(readlink -f "$1") build -w "-C--build-option=--plat-name=manylinux2014_$machine" \
-    -o "$work/$machine" "$work/$name"
+  build -w "-C--build-option=--plat-name=manylinux2014_$machine" -o "$work/$machine" "$work/$name"
   python3 -m zipfile -e "$work/$machine"/*.whl "$work/$machine/files"
   glibc=$({ echo GLIBC_2.17; readelf -W --dyn-syms "$work/$machine"/files/*/_core.abi3.so; } |
     grep -o 'GLIBC_[0-9.]*' | sort -V | tail -n 1)
@@ -49,7 +44,7 @@ wheel() (
 
 mkdir "$work/repository"
 tar -c --exclude='*.egg-info' -C "$here/../.." LICENSE bindings/python checks/lib/not_shown.txt \
-  bindings/c/{include,src} crates/vectors/data | tar -x -C "$work/repository"
+  bindings/c/include bindings/c/src crates/vectors/data | tar -x -C "$work/repository"
 build -s -o "$work" "$work/repository/bindings/python"
 name=verified_multihash-$(sed -n 's/^__version__ = "\(.*\)"$/\1/p' "$here/src/verified_multihash/__init__.py")
 mkdir "$work/$name"
@@ -57,4 +52,4 @@ tar xf "$work"/*.tar.gz -C "$work/$name" --strip-components=1
 chmod -R u=rwX,go=rX "$work/$name"
 tar --sort=name --mtime="@$SOURCE_DATE_EPOCH" --owner=0 --group=0 --numeric-owner \
   -C "$work" -czf "$out/$name.tar.gz" "$name"
-for archive in "${@:2}"; do wheel "$archive"; done
+for machine in "${@:2}"; do wheel "$machine"; done

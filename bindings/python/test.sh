@@ -1,12 +1,11 @@
 #!/usr/bin/env bash
 # Builds the sdist and the wheel, installs the wheel into a new virtual environment, and runs all tests there: with the
-# debug allocator, over the portable source, and under sanitizers. /usr/bin/python3 has headers, _testcapi, build,
+# debug allocator, from the sdist, and under sanitizers. /usr/bin/python3 has headers, _testcapi, build,
 # setuptools, venv and wheel.
 here=$(dirname "$(readlink -f "${BASH_SOURCE[0]}")")
 # shellcheck source=checks/lib/tap.sh
 . "$here/../../checks/lib/tap.sh"
 require cc /usr/bin/python3 /usr/include/python3*/Python.h python:{_testcapi,build,ensurepip,setuptools,wheel}
-archive=$PWD/bindings/c/prebuilt/$(uname -m)/libmultihash_c.a
 clone=$work/clone
 python=$work/venv/bin/python
 export MULTIHASH_VERDICTS=$PWD/crates/vectors/data/verdicts.tsv
@@ -15,36 +14,17 @@ export MULTIHASH_VERDICTS=$PWD/crates/vectors/data/verdicts.tsv
 # leaves no other file.
 warnings="-std=c89 -Wall -Wextra -Wshadow -Wconversion -Wsign-conversion -Werror"
 builds() {
-  mkdir -p "$clone"/bindings/python/{portable,src/verified_multihash.egg-info}
+  mkdir -p "$clone"/bindings/python/{multihash_c,src/verified_multihash.egg-info}
   tar -c LICENSE bindings/{c,python} checks/lib/not_shown.txt crates/vectors/data | tar -x -C "$clone"
-  env -C "$clone/bindings/python" tee LICENSE portable/{{memory,module,multihash}.h,multihash.c} \
+  env -C "$clone/bindings/python" tee LICENSE multihash_c/multihash.{c,h} \
     tests/{earlier.pyc,hashes.tsv,not_shown.txt,verdicts.tsv} src/verified_multihash.egg-info/PKG-INFO < /dev/null
   echo pack.sh > "$clone/bindings/python/src/verified_multihash.egg-info/SOURCES.txt"
   [ $UID != 0 ] || chown -R 1:2 "$clone"
   chmod -R g+w "$clone"
-  CC="cc $warnings" "$here/pack.sh" "$work/dist" "$archive"
-  (umask 077; cd "$clone"; TMPDIR=$work/again bindings/python/pack.sh "$work/again" "${archive#"$OLDPWD/"}")
+  CC="cc $warnings" "$here/pack.sh" "$work/dist" "$(uname -m)"
+  (umask 077; cd "$clone"; TMPDIR=$work/again bindings/python/pack.sh "$work/again" "$(uname -m)")
   diff -r "$work/dist" "$work/again"
   tar -xOf "$work"/dist/*.tar.gz --wildcards '*[0-9]/PKG-INFO' | grep -xF "$(head -n 1 "$here/README.md")"
-}
-
-# An archive with a function less than the header's, which `$1` has in C.
-archive_with() {
-  local at=$work/other
-  rm -rf "$at"
-  mkdir "$at"
-  printf '%s\n' "$1" > "$at/version.c"
-  objcopy --redefine-sym multihash_version=multihash_other "$archive" "$at/libmultihash_c.a"
-  cc -fPIC -c "$at/version.c" -o "$at/version.o"
-  ar r "$at/libmultihash_c.a" "$at/version.o"
-}
-
-# A file that is no archive, or a later glibc, makes no wheel.
-looks_at_archive() {
-  rejects "pack.sh: no archive for x86-64 or aarch64" "$here/pack.sh" "$work/wrong" "$here/README.md"
-  archive_with 'int __cxa_thread_atexit_impl(void); int multihash_version(void) { return __cxa_thread_atexit_impl(); }'
-  rejects "pack.sh: the module needs GLIBC_2.18" "$here/pack.sh" "$work/wrong" "$work/other/libmultihash_c.a"
-  [ -z "$(find "$work/wrong" -name '*.whl')" ]
 }
 
 # Installs what is named without a network, in place of what was installed.
@@ -108,9 +88,9 @@ keeps_nothing() {
 sdist() {
   mkdir "$work/sdist"
   tar xf "$work"/dist/*.tar.gz -C "$work/sdist" --strip-components=1
-  mkdir -p "$work/above/folder/c/prebuilt/$(uname -m)"
+  mkdir -p "$work/above/folder"
   cp -r "$work/sdist" "$work/above/folder"
-  touch "$work/above/folder/c/prebuilt/$(uname -m)/libmultihash_c.a" "$work/above/LICENSE"
+  touch "$work/above/LICENSE"
   imports "$work/above/folder/sdist"
   cmp "$here/../../LICENSE" "$work/sdist/LICENSE"
   has_all_but '\.sh$|^beside_plain' "$here" "$work/sdist"
@@ -129,40 +109,7 @@ built_before() {
   "$python" -c 'from verified_multihash import later'
 }
 
-# An archive of another version than the header's is not imported.
-other_version() {
-  local number
-  number=$(sed -n 's/^#define MULTIHASH_VERSION_NUMBER //p' bindings/c/include/multihash.h)
-  archive_with "unsigned multihash_version(void) { return $((number + 1)); }"
-  MULTIHASH_C_ARCHIVE=$work/other/libmultihash_c.a rejects \
-    "ImportError: the library for C has version $((number + 1))," imports "$here"
-}
-
-# The folder of an earlier build takes the archive of its machine, but not on other systems, which have other options,
-# or with 32 bits. One that differs, or is another machine's, is not installed. The ABI is that of the oldest CPython.
-altered_archive() {
-  local system bits options abi
-  cd "$clone/bindings/python"
-  abi=$(sed -n 's/^requires-python = ">=3\.\(.*\)"/\1/p' pyproject.toml | xargs printf %02x)
-  while read -r system bits options; do
-    CC=echo LDSHARED=echo _PYTHON_HOST_PLATFORM=$system "$python" -c "import sys; sys.maxsize >>= 64 - $bits
-sys.argv[1:] = ['build_ext']; exec(open('setup.py').read())" |
-      sed -nE -e "/^echo .* -c .*core\.c/{/ -DPy_LIMITED_API=0x03${abi}0000 /!p}" \
-        -e '/^echo .*(multihash\.o|_c\.a)/s/.*(multihash\.o|abi3\.so)//p' | xargs | diff - <(echo "$options")
-  done << END
-win-amd64 64 /std:c11
-other-$(uname -m) 64 -std=c11 -fvisibility=hidden
-linux-other 64 -std=c11 -fvisibility=hidden -Wl,--exclude-libs,ALL -Wl,-z,now
-linux-$(uname -m) 32 -std=c11 -fvisibility=hidden -Wl,--exclude-libs,ALL -Wl,-z,now
-linux-$(uname -m) 64 -Wl,--exclude-libs,ALL -Wl,-z,now
-END
-  printf x >> "../c/prebuilt/$(uname -m)/libmultihash_c.a"
-  rejects "not the archive of prebuilt/SHA256SUMS" installs .
-  (cd ../c/prebuilt; mv aarch64 kept; mv x86_64 aarch64; mv kept x86_64)
-  rejects "not the archive of prebuilt/SHA256SUMS" installs .
-}
-
-# The portable source and the module, built with sanitizers, which the interpreter loads first.
+# The module, built with sanitizers, which the interpreter loads first.
 sanitize="-g -O1 -fsanitize=address,undefined -fno-sanitize-recover=all"
 under_sanitizers() {
   CFLAGS=$sanitize installs "$1"
@@ -190,7 +137,6 @@ END
 }
 
 ONLY='' try "the sdist and the wheel, built twice" builds
-needs="objcopy ar" try "archives" looks_at_archive
 ONLY='' try "an environment" /usr/bin/python3 -m venv --clear --system-site-packages "$work/venv"
 ONLY='' try "the wheel, installed" imports "$work"/dist/*.whl
 try "its licence" licences
@@ -200,9 +146,7 @@ try "drawn inputs" drawn
 needs="mypy stubtest" try "types" types
 try "the results of plain Python, in less CPU time" "$python" -I "$here/beside_plain.py"
 try "the folder, installed" imports "$here"
-needs="objcopy ar" try "an archive of another version" other_version
-try "an altered archive" altered_archive
-ONLY='' try "the sdist, installed, the portable source" sdist
+ONLY='' try "the sdist, installed" sdist
 try "a folder that was built before" built_before
 try "sanitizers" under_sanitizers "$work/sdist"
 finish

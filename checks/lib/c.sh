@@ -9,6 +9,7 @@ sanitize=("${heap[@]}" "-fsanitize=address,undefined" -fno-sanitize-recover=all)
 ulimit -c 0
 top=$PWD
 c=$top/bindings/c
+source=$c/src/multihash.c
 tests=("$c"/tests/{test,verdicts,models,draws,buffer}.c)
 list=$top/crates/vectors/data/verdicts.tsv
 # what Clang needs for sanitizers and the fuzzer

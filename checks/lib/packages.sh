@@ -26,7 +26,6 @@ has_packages() {
   dpkg-deb -f "$file" Depends | diff - <(echo "libmultihash-c$major (= $version-1)")
   has_modes "$root"
   has_shared_library "$root/usr/$lib/libmultihash_c.so"
-  ar t "$root/usr/$lib/libmultihash_c.a" | diff - <(ar t "bindings/c/prebuilt/${3%%-*}/libmultihash_c.a")
   dpkg-deb -I "${file/-dev/$major}" symbols | sed '/^ MULTIHASH_C/d' |
     diff - <(echo "libmultihash_c.so.$major libmultihash-c$major #MINVER#"
       echo "* Build-Depends-Package: libmultihash-c-dev"
@@ -60,14 +59,13 @@ are_plain() {
 has_library() {
   tar -xf "$work/release/multihash_c-$version-$1.tar.gz" -C "$work"
   works "$work/multihash_c-$version-$1" lib
-  cmp {bindings/c/prebuilt/"$1","$work/multihash_c-$version-$1/lib"}/libmultihash_c.a
 }
 
-# The portable source of a release, which portable.t tests.
-has_portable_source() {
+# The source of the library, as two files in a folder.
+has_source() {
+  local at=$work/multihash_c-$version-source
   tar -xf "$work/release/multihash_c-$version-source.tar.gz" -C "$work"
-  tools/portable_c "$work/portable"
-  diff -r "$work/portable" "$work/multihash_c-$version-source"
+  build_and_run source "" cc "${c_flags[@]}" -I "$at" "${tests[@]}" "$at/multihash.c"
 }
 
 # The package for JavaScript is installed, and decodes.
@@ -101,10 +99,7 @@ has_relations() {
 for each in json.load(sys.stdin)["packages"][0]["dependencies"]:
     kind = "OPTIONAL_" if each["optional"] else {"dev": "TEST_", "build": "BUILD_"}.get(each["kind"], "")
     print(each["name"], kind + "DEPENDENCY_OF", sys.argv[1])' "multihash-$upstream.crate" > "$work/wanted"
-  printf '%s BUILD_TOOL_OF %s\n' "$kit $logic" bindings/c/prebuilt/aarch64/libmultihash_c.a "$kit $logic" \
-    bindings/c/prebuilt/x86_64/libmultihash_c.a "$kit $logic" bindings/c/src/module.h "$kit $logic" \
-    bindings/js/multihash.wasm "wabt $wabt" bindings/c/src/module.h "binaryen $binaryen" bindings/js/multihash.wasm \
-    >> "$work/wanted"
+  printf '%s BUILD_TOOL_OF bindings/js/multihash.wasm\n' "$kit $logic" "binaryen $binaryen" >> "$work/wanted"
   python3 - "$1/multihash-$version.spdx.json" << 'END' | sort | diff <(sort "$work/wanted") -
 import json, sys
 bill = json.load(open(sys.argv[1]))

@@ -21,7 +21,6 @@ STATED = (
     (r"[Nn]ode(?:\.js |=)(\d+\.\d+)", NPM, r'"node": ">=(.*)"'),
     (r"`multihash` (\d[\d.]*\d)", CARGO, r'\nversion = "(.*)"'),
     (r"logic `([^`]*)`", "tools/makers", r"(?m)^logic=(.*)"),
-    (r"WABT (\d[\d.]*\d)", "tools/makers", r"(?m)^wabt=(.*)"),
     (r"\| a digest \| 0 to `min\(S, (\d+)\)", HEADER, r"MULTIHASH_DIGEST_MAX (\d+)"),
     (r"\| an encoding \| 2 to (\d+)", HEADER, r"MULTIHASH_LENGTH_MAX (\d+)"),
     (r"\| both varints together \| 2 to (\d+)", HEADER, r"MULTIHASH_HEAD_MAX (\d+)"),

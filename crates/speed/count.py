@@ -31,16 +31,11 @@ sys.path.append(str(ROOT / "checks" / "lib"))
 import tap
 
 C, PAGE = ROOT / "bindings/c", ROOT / "docs/SPEED.md"
-C_BUILDS = [
-    C / "prebuilt/x86_64/libmultihash_c.a",
-    HOME / "from_c/plain.c",
-    HOME / "from_c/fast.c",
-    C / "src/multihash.c",
-]
+C_BUILDS = [C / "src/multihash.c", HOME / "from_c/plain.c", HOME / "from_c/fast.c"]
 # the heads of the tables: this library's counts, and others, before the shares in them
 OTHERS = "| Other call | instructions |"
 RUST = "| Call | instructions | tuned Rust | share | default Rust | share |"
-FROM_C = "| Call from C | archive | plain C | share | fast C | share | portable source |"
+FROM_C = "| Call from C | this library | plain C | share | fast C | share | archive |"
 CAUSES = "| Call | Cause |"
 FEWER, MORE, JOBS = 1000, 3000, 2
 # the turns of each build, the rounds in one, and the bytes before the code, since its alignment changes the time
@@ -88,6 +83,12 @@ def compile_c(build: Path, program: str, *before: str) -> str:
     """Compiles and returns the program that calls this build."""
     run(["cc", "-std=c11", "-O2", f"-I{C}/include", *before, HOME / "from_c/count.c", build, "-o", program])
     return program
+
+
+def make_archive(folder: str) -> Path:
+    """Returns the archive that the kit builds of the proved functions."""
+    run([ROOT / "tools/generate", "archive", f"{folder}/proved.a", "--cpu=x86-64"])
+    return Path(folder, "proved.a")
 
 
 def count_c(builds: list[Path]) -> Counts:
@@ -208,9 +209,9 @@ def results(program: str, names: list[str]) -> Iterator[tap.Result]:
         yield tap.left_out("the calls", gone)
         return
     stored = {name: counts[:1] for head in (RUST, OTHERS) for name, counts in rows_of(page, head).items()}
-    stored |= {name: [counts[0], counts[-1]] for name, counts in rows_of(page, FROM_C).items()}
+    stored |= {name: counts[:1] for name, counts in rows_of(page, FROM_C).items()}
     counted = {name: [number] for name, number in count(program, names).items()}
-    yield "the calls", differences(counted | count_c([C_BUILDS[0], C_BUILDS[-1]]), stored)
+    yield "the calls", differences(counted | count_c(C_BUILDS[:1]), stored)
 
 
 def write(programs: list[str], names: list[str]) -> None:
@@ -223,7 +224,9 @@ def write(programs: list[str], names: list[str]) -> None:
     counts = {name: [found[name] for found in columns] for name in names}
     if len(programs) == 1:
         counts = {name: [*found, *before[name][1:]] for name, found in counts.items()}
-    PAGE.write_text(with_tables(page, {RUST: counts, OTHERS: of_others, FROM_C: count_c(C_BUILDS)}), "utf-8")
+    with tempfile.TemporaryDirectory() as folder:
+        from_c = count_c([*C_BUILDS, make_archive(folder)])
+    PAGE.write_text(with_tables(page, {RUST: counts, OTHERS: of_others, FROM_C: from_c}), "utf-8")
 
 
 def main() -> int:

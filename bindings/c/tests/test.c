@@ -29,7 +29,7 @@ static void check_cuts(void)
 static void check_capacities(void)
 {
     static const uint64_t codes[] = {0, 127, 128, INT64_MAX, (uint64_t)INT64_MAX + 1, UINT64_MAX};
-    static const size_t lengths[] = {0, 1, 127, 128, 255, 256, 300};
+    static const size_t lengths[] = {0, 1, 32, 127, 128, 255, 256, 300};
     uint8_t digest[300];
     for (size_t i = 0; i < sizeof digest; i++) digest[i] = (uint8_t)(7 * i + 3);
     for (size_t i = 0; i < sizeof codes / sizeof codes[0]; i++) {

@@ -269,11 +269,6 @@ static int add_type(PyObject *module, const char *name, PyObject *type)
 
 static int fill_module(PyObject *module)
 {
-    if (multihash_version() != MULTIHASH_VERSION_NUMBER) {
-        PyErr_Format(PyExc_ImportError, "the library for C has version %u, and its header %d", multihash_version(),
-                     MULTIHASH_VERSION_NUMBER);
-        return -1;
-    }
     PyObject *type = PyType_FromSpec(&multihash_spec), *names = Py_BuildValue("(ss)", "code", "digest");
     int is_wrong = type == NULL || names == NULL || PyObject_SetAttrString(type, "__match_args__", names) < 0;
     Py_XDECREF(names);

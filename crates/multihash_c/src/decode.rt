@@ -57,9 +57,16 @@ pub extern "C" fn multihash_from_bytes(bytes: &[u8]) -> Decoded
     if is_short(bytes) {
         return decode_whole(bytes, bytes.len());
     }
-    // The compiler cannot see that `longer` changes nothing: so the registers that later calls need are saved
-    // only for an input that is not short.
-    let bytes = longer(bytes);
+    decode_longer(bytes)
+}
+
+// Does what `multihash_from_bytes` does, out of line: so that saves registers only for an input that is not short.
+#[cold]
+#[inline(never)]
+fn decode_longer(bytes: &[u8]) -> Decoded
+    ensures verdict { (v : Verdict) × HasWholeVerdict 255 bytes.now v × Reports bytes.now result v }
+    ensures taken { result.taken ≡ length bytes.now }
+{
     decode_whole(bytes, bytes.len())
 }
 
@@ -98,7 +105,16 @@ pub extern "C" fn multihash_head(bytes: &[u8]) -> Front
     if is_short(bytes) {
         return head_of(bytes);
     }
-    head_of(longer(bytes))
+    head_of_longer(bytes)
+}
+
+// Does what `multihash_head` does, out of line as `decode_longer`.
+#[cold]
+#[inline(never)]
+fn head_of_longer(bytes: &[u8]) -> Front
+    ensures { ReadsFront bytes.now result }
+{
+    head_of(bytes)
 }
 
 // What `multihash_head` returns.
@@ -130,7 +146,7 @@ pub extern "C" fn multihash_scale_decode(bytes: &[u8]) -> Decoded
         × ConsumesForm v bytes.now result.taken }
     ensures inside { result.taken ≤ length bytes.now }
 {
-    let Some((code, rest)) = bytes.split_first_chunk() else {
+    let Some((code, rest)) = bytes.split_first_chunk::<CODE_LEN>() else {
         return rejected_end(0);
     };
     let code = u64::from_le_bytes(*code);
@@ -152,15 +168,6 @@ pub extern "C" fn multihash_scale_decode(bytes: &[u8]) -> Decoded
 #[inline(always)]
 fn is_short(bytes: &[u8]) -> bool {
     bytes.len() >= 2 && bytes[0] < 128 && bytes[1] < 128
-}
-
-// Returns the bytes of an input that is not short, unchanged: `multihash_from_bytes` says why.
-#[cold]
-#[inline(never)]
-fn longer(bytes: &[u8]) -> &[u8]
-    ensures { result.now ≡ bytes.now }
-{
-    bytes
 }
 
 // Decodes each input of that many bytes that begins with the front. No digest is read, so only the two

@@ -332,7 +332,7 @@ fn put_digits(n: u64, buffer: &mut [u8]) -> usize
     ensures { (bytes : List ℕ) × IsVarint n bytes × (result ≡ length bytes)
         × (buffer.new ≡ bytes ++ drop (length bytes) buffer.old) }
 {
-    let mut at = 0;
+    let mut at: usize = 0;
     let mut rest = n;
     while rest >= 128 {
         buffer[at] = (rest & 0x7f) as u8 | 0x80;
@@ -373,7 +373,7 @@ fn put_parts(head: &[u8], digest: &[u8], buffer: &mut [u8])
     requires { length head.now + length digest.now ≤ length buffer.old }
     ensures { buffer.new ≡ (head.now ++ digest.now) ++ drop (length (head.now ++ digest.now)) buffer.old }
 {
-    put_digest(head, buffer);
+    buffer[..head.len()].copy_from_slice(head);
     put_digest(digest, &mut buffer[head.len()..]);
 }
 

@@ -3,7 +3,3 @@ use Rattle.multihash_c.proofs.decode.multihash_from_bytes.Goals as goal
 
 pub returns-then-is_short-clause-verdict : goal.returns-then-is_short-clause-verdict
 returns-then-is_short-clause-verdict c = c.decode_whole.ensures.verdict _ refl ([], sym (append-nil _)) (inl (omega arith))
-
-pub returns-clause-verdict : goal.returns-clause-verdict
-returns-clause-verdict c =
-    rw (← c.longer-bytes.ensures) (c.decode_whole-2.ensures.verdict _ refl ([], sym (append-nil _)) (inl (omega arith)))
