@@ -12,7 +12,10 @@ beside_crates() { tests cargo test --manifest-path ../tests/neighbours/Cargo.tom
 # The package for Python hashes the block that IPFS makes of a small file, and makes both CIDs of it.
 beside_ipfs() {
   local file
-  /usr/bin/python3 -m pip install --no-index --no-build-isolation --no-deps --target "$work/site" bindings/python
+  mkdir "$work/clone"
+  git ls-files -z LICENSE bindings/{c,python} | tar -c --null -T - | tar -x -C "$work/clone"
+  /usr/bin/python3 -m pip install --no-index --no-build-isolation --no-deps --target "$work/site" \
+    "$work/clone/bindings/python"
   cat > "$work/cids.py" << 'END'
 import base64, json, sys
 from pathlib import Path
