@@ -13,7 +13,7 @@ beside_crates() { tests cargo test --manifest-path ../tests/neighbours/Cargo.tom
 beside_ipfs() {
   local file
   mkdir "$work/clone"
-  git ls-files -z LICENSE bindings/{c,python} | tar -c --null -T - | tar -x -C "$work/clone"
+  git ls-files -z | tar -c --null -T - | tar -x -C "$work/clone"
   /usr/bin/python3 -m pip install --no-index --no-build-isolation --no-deps --target "$work/site" \
     "$work/clone/bindings/python"
   cat > "$work/cids.py" << 'END'
