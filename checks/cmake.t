@@ -43,6 +43,7 @@ builds_for_windows() {
   local -x WINEPREFIX=$work/wine WINEDEBUG=-all
   build windows -DCMAKE_SYSTEM_NAME=Windows -DCMAKE_C_COMPILER=x86_64-w64-mingw32-gcc -DCMAKE_C_FLAGS="${c_flags[*]}" \
     -DCMAKE_CROSSCOMPILING_EMULATOR=wine
+  wine "$work/windows/mh_show.exe" < crates/mh_show/stdin | diff --strip-trailing-cr - "$expected"
   { wineserver -k || true; }
 }
 
@@ -70,6 +71,23 @@ with_flags() {
   [ ! -e "$work/no pages/$man" ]
 }
 
+# The variables that a project sets before it adds the repository count each time that it is configured.
+has_options_of_project() {
+  local to=$work/project
+  mkdir "$to"
+  cc -c -xc /dev/null -o "$to/own.o"
+  ar rc "$to/own.a" "$to/own.o"
+  printf '%s\n' "$(grep ^cmake_minimum_required CMakeLists.txt)" 'project(project LANGUAGES C)' \
+    'set(MULTIHASH_C_ARCHIVE ${CMAKE_SOURCE_DIR}/own.a)' 'set(MULTIHASH_C_SHARED OFF)' \
+    "add_subdirectory(\"$top\" multihash_c)" > "$to/CMakeLists.txt"
+  for _ in first second; do
+    cmake -S "$to" -B "$to/built"
+    cmake --build "$to/built"
+    cmp "$to"/{own.a,built/multihash_c/libmultihash_c.a}
+    [ ! -e "$to/built/multihash_c/libmultihash_c.so" ]
+  done
+}
+
 # By a generator of several configurations, each of which has a name of the library.
 has_configurations() {
   local kind
@@ -84,6 +102,7 @@ has_configurations() {
 }
 
 try "the archive of another machine" of_another_machine
+needs="ar cmake=3.21+" try "options of a project" has_options_of_project
 needs="ninja pkg-config" try "several configurations" has_configurations
 needs=clang try "other machines" machines
 needs=/lib64/ld-linux-x86-64.so.2 try "x86-64 with 32 bits" gets Linux x86_64 -m32 OFF ON

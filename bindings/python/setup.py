@@ -20,8 +20,8 @@ COPIES = {
     "portable/module.h": "bindings/c/src/module.h",
     "portable/multihash.c": "bindings/c/src/multihash.c",
     "portable/multihash.h": "bindings/c/include/multihash.h",
-    "tests/not_shown.txt": "checks/lib/not_shown.txt",
     "tests/hashes.tsv": "crates/vectors/data/hashes.tsv",
+    "tests/rows.tsv": "crates/mh_show/rows.tsv",
     "tests/verdicts.tsv": "crates/vectors/data/verdicts.tsv",
 }
 SOURCES = ["src/arguments.c", "src/core.c", "src/reader.c", "src/value.c"]
