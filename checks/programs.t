@@ -14,12 +14,12 @@ from start import FENCE, LANGUAGES, SHOWN, TOP
 
 
 def command_errors(readme: str, copy: Path) -> Iterator[str]:
-    """Runs each block of commands of README.md. Those that read a line print what mh_show prints."""
+    """Runs the commands of README.md. Those that read a line print what mh_show prints."""
     shown = (TOP / "crates/mh_show/stdout").read_text("utf-8")
-    for commands in [body for language, body in FENCE.findall(readme) if language == "sh"]:
-        ran = subprocess.run(["bash", "-ec", commands], cwd=copy, capture_output=True, text=True)
-        if ran.returncode != 0 or ran.stdout != shown * len(re.findall(" [<|] ", commands)):
-            yield f"{commands}: status {ran.returncode}, printed {ran.stdout!r}, {ran.stderr[-300:]!r}"
+    commands = "".join(body for language, body in FENCE.findall(readme) if language == "sh")
+    ran = subprocess.run(["bash", "-exc", commands], cwd=copy, capture_output=True, text=True)
+    if ran.returncode != 0 or ran.stdout != shown * len(re.findall(" [<|] ", commands)):
+        yield f"status {ran.returncode}, printed {ran.stdout!r}, {ran.stderr[-900:]}"
 
 
 def row_errors(readme: str) -> Iterator[str]:
