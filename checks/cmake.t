@@ -79,7 +79,7 @@ has_options_of_project() {
   cc -c -xc /dev/null -o "$to/own.o"
   ar rc "$to/own.a" "$to/own.o"
   printf '%s\n' "$(grep ^cmake_minimum_required CMakeLists.txt)" 'project(project LANGUAGES C)' \
-    'set(MULTIHASH_C_ARCHIVE ${CMAKE_SOURCE_DIR}/own.a)' 'set(MULTIHASH_C_SHARED OFF)' \
+    "set(MULTIHASH_C_ARCHIVE \"$to/own.a\")" 'set(MULTIHASH_C_SHARED OFF)' \
     "add_subdirectory(\"$top\" multihash_c)" > "$to/CMakeLists.txt"
   for _ in first second; do
     cmake -S "$to" -B "$to/built"
