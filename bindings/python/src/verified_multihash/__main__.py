@@ -60,7 +60,7 @@ def main() -> int:
     except ValueError as error:
         reason = str(error)
     try:
-        _write(2, b"mh_show: %s\n" % reason.encode())
+        _write(2, b"python -m verified_multihash: %s\n" % reason.encode())
     except OSError:
         pass  # there is nowhere to report it
     return 1
