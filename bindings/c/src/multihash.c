@@ -175,10 +175,10 @@ typedef struct HeadOrErrorAt {
     };
 } HeadOrErrorAt;
 
-typedef struct StatusAndCount {
+typedef struct FrontError {
     uint32_t status;
-    size_t count;
-} StatusAndCount;
+    size_t taken;
+} FrontError;
 
 typedef struct UsizeOrError {
     bool is_ok;
@@ -187,10 +187,6 @@ typedef struct UsizeOrError {
         Error err;
     };
 } UsizeOrError;
-
-typedef struct Bytes9 {
-    uint8_t bytes[9];
-} Bytes9;
 
 /* ---- multihash/src/error.rt
  * The library's error. */
@@ -435,8 +431,11 @@ COLD HeadOrErrorAt head_read_counted(const uint8_t *bytes, size_t bytes_length)
 /* The most bytes of a digest: `MULTIHASH_DIGEST_MAX` in the header. */
 #define DIGEST_MAX ((size_t)255)
 
-/* The bytes of a SCALE form that come before its digest: eight of the code, and one of the size. */
-#define SCALE_HEAD ((size_t)9)
+/* The number of bytes of a code in the SCALE form. */
+#define CODE_LEN ((size_t)8)
+
+/* The bytes of a SCALE form that come before its digest: those of the code, and one of the size. */
+#define SCALE_HEAD (CODE_LEN + 1)
 
 /* ---- multihash_c/src/status.rt
  * The statuses that a C caller gets. */
@@ -574,6 +573,13 @@ ALWAYS_INLINE bool is_short(const uint8_t *bytes, size_t bytes_length)
     return bytes_length >= 2 && bytes[0] < 128 && bytes[1] < 128;
 }
 
+/* The result with that status, which has no digest. */
+static inline multihash_decoded rejected(uint32_t status, uint64_t size, uint64_t code, size_t taken)
+{
+    return (multihash_decoded){.status = status, .size = size, .code = code, .digest_offset = 0,
+        .digest_length = 0, .taken = taken};
+}
+
 /* The status of the error of a malformed varint. */
 static inline uint32_t varint_status(Error error)
 {
@@ -582,21 +588,13 @@ static inline uint32_t varint_status(Error error)
     return MULTIHASH_NOT_MINIMAL;
 }
 
-/* The status of an input with a malformed varint, and what reading it consumes: plain numbers, so that the
- * usual input needs no room for an error. */
-COLD StatusAndCount error_of(const uint8_t *bytes, size_t bytes_length)
+/* Returns the error of an input with a malformed varint. */
+COLD FrontError error_of(const uint8_t *bytes, size_t bytes_length)
 {
     const HeadOrErrorAt result = head_read_counted(bytes, bytes_length);
     const Error error = result.err.error;
     const size_t taken = result.err.taken;
-    return (StatusAndCount){varint_status(error), taken};
-}
-
-/* The result with that status, which has no digest. */
-static inline multihash_decoded rejected(uint32_t status, uint64_t size, uint64_t code, size_t taken)
-{
-    return (multihash_decoded){.status = status, .size = size, .code = code, .digest_offset = 0,
-        .digest_length = 0, .taken = taken};
+    return (FrontError){.status = varint_status(error), .taken = taken};
 }
 
 /* The result for a digest that is too long. */
@@ -623,11 +621,7 @@ static inline multihash_decoded accept(uint64_t code, size_t digest_length, size
 ALWAYS_INLINE multihash_decoded decode_whole(const uint8_t *front, size_t front_length, size_t whole_length)
 {
     const OptionHead option = head_find_front(front, front_length);
-    if (!option.is_some) {
-        const StatusAndCount pair = error_of(front, front_length);
-        const uint32_t status = pair.status;
-        return rejected(status, 0, 0, whole_length);
-    }
+    if (!option.is_some) return rejected(error_of(front, front_length).status, 0, 0, whole_length);
     const Head head = option.some;
     if (head.digest_len > (uint64_t)DIGEST_MAX) {
         return decode_rejected_size(head.digest_len, whole_length);
@@ -639,7 +633,7 @@ ALWAYS_INLINE multihash_decoded decode_whole(const uint8_t *front, size_t front_
     return accept(head.code, size, whole_length);
 }
 
-/* Does what `multihash_from_bytes` does, out of line: so that saves registers only for an input that is not short. */
+/* Does what `multihash_from_bytes` does, for an input that is not short. */
 COLD multihash_decoded decode_longer(const uint8_t *bytes, size_t bytes_length)
 {
     return decode_whole(bytes, bytes_length, bytes_length);
@@ -665,10 +659,8 @@ ALWAYS_INLINE multihash_decoded read_within(const uint8_t *bytes, size_t bytes_l
 {
     const OptionHead option = head_find_front(bytes, bytes_length);
     if (!option.is_some) {
-        const StatusAndCount pair = error_of(bytes, bytes_length);
-        const uint32_t status = pair.status;
-        const size_t taken = pair.count;
-        return rejected(status, 0, 0, taken);
+        const FrontError error = error_of(bytes, bytes_length);
+        return rejected(error.status, 0, 0, error.taken);
     }
     const Head head = option.some;
     if (head.digest_len > (uint64_t)limit || head.digest_len > (uint64_t)DIGEST_MAX) {
@@ -697,17 +689,15 @@ ALWAYS_INLINE multihash_front head_of(const uint8_t *bytes, size_t bytes_length)
 {
     const OptionHead option = head_find_front(bytes, bytes_length);
     if (!option.is_some) {
-        const StatusAndCount pair = error_of(bytes, bytes_length);
-        const uint32_t status = pair.status;
-        const size_t taken = pair.count;
-        return (multihash_front){.status = status, .code = 0, .digest_length = 0, .taken = taken};
+        const FrontError error = error_of(bytes, bytes_length);
+        return (multihash_front){.status = error.status, .code = 0, .digest_length = 0, .taken = error.taken};
     }
     const Head head = option.some;
     return (multihash_front){.status = MULTIHASH_OK, .code = head.code, .digest_length = head.digest_len,
         .taken = head.digest_offset};
 }
 
-/* Does what `multihash_head` does, out of line as `decode_longer`. */
+/* Does what `multihash_head` does, for an input that is not short. */
 COLD multihash_front head_of_longer(const uint8_t *bytes, size_t bytes_length)
 {
     return head_of(bytes, bytes_length);
@@ -720,9 +710,6 @@ multihash_front multihash_head(const uint8_t *bytes, size_t bytes_length)
     if (is_short(bytes, bytes_length)) return head_of(bytes, bytes_length);
     return head_of_longer(bytes, bytes_length);
 }
-
-/* The number of bytes of a code in the SCALE form. */
-#define CODE_LEN (SCALE_HEAD - 1)
 
 /* The result for a code that is out of range. */
 static inline multihash_decoded decode_rejected_code(uint64_t code, size_t taken)
@@ -796,6 +783,14 @@ static inline multihash_encoded encode_rejected_code(void)
     return (multihash_encoded){.status = MULTIHASH_INVALID_CODE, .size = 0, .length = 0};
 }
 
+/* The number of bytes of a digest of that length, with the varint of its length. */
+ALWAYS_INLINE size_t sized_len(size_t digest_length)
+{
+    const UsizeOrError result = varint_len((uint64_t)digest_length);
+    const size_t size_length = result.ok;
+    return size_length + digest_length;
+}
+
 /* Does what `put_varint` does, byte by byte. */
 ALWAYS_INLINE size_t put_digits(uint64_t n, uint8_t *buffer)
 {
@@ -836,7 +831,7 @@ ALWAYS_INLINE size_t put_varint(uint64_t n, uint8_t *buffer)
 /* Writes the varint of a digest's length and the digest to the front of a buffer that is large enough. */
 ALWAYS_INLINE void put_sized(const uint8_t *digest, size_t digest_length, uint8_t *buffer)
 {
-    /* As a byte: so the compiler sees that the varint has two bytes at most. */
+    /* As a byte, so that the compiler sees that the varint has two bytes at most. */
     const size_t size_length = put_varint((uint64_t)(uint8_t)digest_length, buffer);
     put_digest(digest, digest_length, buffer + size_length);
 }
@@ -854,33 +849,16 @@ static inline void put_encoding(uint64_t code, const uint8_t *digest, size_t dig
     put_sized(digest, digest_length, buffer + code_length);
 }
 
-/* What `multihash_encode` returns, for every digest that is not too long. That many bytes follow the code. */
-ALWAYS_INLINE multihash_encoded encode_any(size_t after_code, uint64_t code, const uint8_t *digest,
-    size_t digest_length, uint8_t *out, size_t out_length)
+/* What `multihash_encode` returns, for every digest that is not too long. */
+NOT_INLINE multihash_encoded encode_any(uint64_t code, const uint8_t *digest, size_t digest_length,
+    uint8_t *out, size_t out_length)
 {
     const UsizeOrError result = varint_len(code);
     if (!result.is_ok) return encode_rejected_code();
     const size_t code_length = result.ok;
-    const size_t encoding_length = code_length + after_code;
+    const size_t encoding_length = code_length + sized_len(digest_length);
     if (encoding_length <= out_length) put_encoding(code, digest, digest_length, out);
     return count(encoding_length, out_length);
-}
-
-/* Does what `encode_any` does, and returns plain numbers as `scale_encode_apart` does. With the length first,
- * the other parameters are in the registers in which the caller has them. */
-NOT_INLINE StatusAndCount encode_apart(size_t after_code, uint64_t code, const uint8_t *digest,
-    size_t digest_length, uint8_t *out, size_t out_length)
-{
-    const multihash_encoded encoded = encode_any(after_code, code, digest, digest_length, out, out_length);
-    return (StatusAndCount){encoded.status, encoded.length};
-}
-
-/* The number of bytes of a digest of that length, with the varint of its length. */
-ALWAYS_INLINE size_t sized_len(size_t digest_length)
-{
-    const UsizeOrError result = varint_len((uint64_t)digest_length);
-    const size_t size_length = result.ok;
-    return size_length + digest_length;
 }
 
 /* Writes the encoding of a code and a digest to the front of `out`. */
@@ -892,41 +870,21 @@ multihash_encoded multihash_encode(uint64_t code, const uint8_t *digest, size_t 
     } else if (digest_length > DIGEST_MAX) {
         return encode_rejected_size((uint64_t)digest_length);
     }
-    const StatusAndCount pair = encode_apart(sized_len(digest_length), code, digest, digest_length, out,
-        out_length);
-    const uint32_t status = pair.status;
-    const size_t length = pair.count;
-    return (multihash_encoded){.status = status, .size = 0, .length = length};
-}
-
-/* Copies two parts, one after the other, to the front of a buffer that is large enough. */
-ALWAYS_INLINE void put_parts(const uint8_t *head, size_t head_length, const uint8_t *digest,
-    size_t digest_length, uint8_t *buffer)
-{
-    copy(buffer, head, head_length);
-    put_digest(digest, digest_length, buffer + head_length);
-}
-
-/* The bytes of the form before the digest. */
-ALWAYS_INLINE Bytes9 scale_head(uint64_t code, uint8_t size)
-{
-    Bytes9 head;
-    for (size_t i = 0; i < SCALE_HEAD; i++) head.bytes[i] = size;
-    u64_to_le_bytes(head.bytes, code);
-    return head;
+    return encode_any(code, digest, digest_length, out, out_length);
 }
 
 /* Writes the SCALE form of a code and a digest to the front of a buffer that is large enough. */
 ALWAYS_INLINE void put_scale_form(uint64_t code, const uint8_t *digest, size_t digest_length, uint8_t *buffer)
 {
-    put_parts(scale_head(code, (uint8_t)digest_length).bytes, 9, digest, digest_length, buffer);
+    u64_to_le_bytes(buffer, code);
+    buffer[CODE_LEN] = (uint8_t)digest_length;
+    put_digest(digest, digest_length, buffer + SCALE_HEAD);
 }
 
 /* What `multihash_scale_encode` returns, for every input. */
 ALWAYS_INLINE multihash_encoded scale_encode(uint64_t code, const uint8_t *digest, size_t digest_length,
     uint8_t *out, size_t out_length)
 {
-    /* With one helper for these tests and those of `needed` it needs seven more instructions. */
     if (digest_length > DIGEST_MAX) return encode_rejected_size((uint64_t)digest_length);
     if (code > VARINT_MAX) return encode_rejected_code();
     const size_t form_length = SCALE_HEAD + digest_length;
@@ -934,13 +892,11 @@ ALWAYS_INLINE multihash_encoded scale_encode(uint64_t code, const uint8_t *diges
     return count(form_length, out_length);
 }
 
-/* Does what `scale_encode` does. The status and the length are plain numbers, which stay in registers: so
- * those that only this function needs are saved only for such an input. */
-NOT_INLINE StatusAndCount scale_encode_apart(uint64_t code, const uint8_t *digest, size_t digest_length,
+/* Does what `scale_encode` does, for a digest of another length than the usual one. */
+NOT_INLINE multihash_encoded scale_encode_any(uint64_t code, const uint8_t *digest, size_t digest_length,
     uint8_t *out, size_t out_length)
 {
-    const multihash_encoded encoded = scale_encode(code, digest, digest_length, out, out_length);
-    return (StatusAndCount){encoded.status, encoded.length};
+    return scale_encode(code, digest, digest_length, out, out_length);
 }
 
 /* Writes the SCALE form of a code and a digest to the front of `out`. */
@@ -948,11 +904,7 @@ multihash_encoded multihash_scale_encode(uint64_t code, const uint8_t *digest, s
     uint8_t *out, size_t out_length)
 {
     if (digest_length == USUAL_DIGEST) return scale_encode(code, digest, digest_length, out, out_length);
-    if (digest_length > DIGEST_MAX) return encode_rejected_size((uint64_t)digest_length);
-    const StatusAndCount pair = scale_encode_apart(code, digest, digest_length, out, out_length);
-    const uint32_t status = pair.status;
-    const size_t length = pair.count;
-    return (multihash_encoded){.status = status, .size = 0, .length = length};
+    return scale_encode_any(code, digest, digest_length, out, out_length);
 }
 
 /* The result for a code whose varint has that many bytes and a digest of that many. */

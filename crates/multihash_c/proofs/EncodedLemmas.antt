@@ -7,7 +7,7 @@ use Rattle.std.proofs.lemmas.List.{length_push, length-map, length-take-le, set_
 use Rattle.multihash.specs.Pair.{Pair}
 use Rattle.multihash.specs.Varint.{varint_limit, IsVarint}
 use Rattle.multihash_c.specs.Status.{status_ok, status_no_room}
-use Rattle.multihash_c.specs.Encoded.{WritesForm, HasParts}
+use Rattle.multihash_c.specs.Encoded.{WritesForm}
 use Rattle.multihash_c.specs.declared.encode.Encoded.{Encoded}
 use Rattle.multihash.specs.Encoding.{IsEncoding}
 use Rattle.multihash.proofs.EncodingLemmas.{encoding_of_parts, length-parts, encoding_same}
@@ -51,27 +51,6 @@ writes_form IsForm p old new n e short small counted kept told (bytes, is_form, 
         },
       );
     }
-
--- a result with the status and the length of another, if the digest is not too long
-pub same_parts : (IsForm : Pair → List ℕ → Type 0) (p : Pair) (other e : Encoded) (old new : List ℕ)
-    → length p.digest ≤ 255 → HasParts other.status other.length e → WritesForm IsForm p other old new → WritesForm IsForm p e old new
-same_parts IsForm p other e old new short parts writes = record {
-  too_long = λ over. absurd (omega (arith, short, over));
-  large_code = λ fits over.
-      let (is, kept) = writes.large_code fits over in
-      (record { is_status = parts.is_status ∙ is.is_status; no_size = parts.no_size; no_length = parts.is_length ∙ is.no_length }, kept);
-  puts = λ fits below.
-      let (bytes, form, put) = writes.puts fits below in (
-        bytes,
-        form,
-        record {
-          is_length = parts.is_length ∙ put.is_length;
-          no_size = parts.no_size;
-          fits = λ room. let (is, appends) = put.fits room in (parts.is_status ∙ is, appends);
-          no_room = λ over. let (is, kept) = put.no_room over in (parts.is_status ∙ is, kept);
-        },
-      );
-}
 
 -- ---- varints and a digest, one after the other
 

@@ -29,12 +29,6 @@ pub record ReportsLength (code size : ℕ) (e : Encoded) : Type 0 where
   pub no_size : e.size ≡ 0
   pub is_length : IsEncodedLength code size e.length
 
--- the result has that status, that length and no size
-pub record HasParts (status len : ℕ) (e : Encoded) : Type 0 where
-  pub is_status : e.status ≡ status
-  pub no_size : e.size ≡ 0
-  pub is_length : e.length ≡ len
-
 -- the bytes are at the front of the buffer if they fit; otherwise it is unchanged. Their number is
 -- returned in both cases
 pub record IsPut (bytes : List ℕ) (e : Encoded) (old new : List ℕ) : Type 0 where

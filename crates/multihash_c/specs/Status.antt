@@ -1,5 +1,5 @@
 -- The statuses that a C caller gets.
-use Rattle.std.specs.Prelude.{◌≡◌, ◌<◌, ℕ, List, [], codes}
+use Rattle.std.specs.Prelude.{◌≡◌, ◌<◌, ℕ, List, codes}
 use Rattle.multihash.specs.Varint.{VarintError, insufficient, overflow, not_minimal}
 use Rattle.multihash.specs.Fault.{printed, UnexpectedEof, WriteZero}
 use Rattle.multihash.specs.Refusal.{varint_text}

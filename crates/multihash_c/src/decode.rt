@@ -10,11 +10,8 @@ ghost use Rattle.multihash.specs.Consuming.{IsHeadError};
 ghost use Rattle.multihash_c.specs.Status.{status_of_error};
 ghost use Rattle.multihash_c.specs.Decoded.{Reports, ReportsError, ReportsPrefix, ConsumesForm, ReadsWithin, ReadsFront};
 
-use crate::{DIGEST_MAX, SCALE_HEAD, status};
+use crate::{CODE_LEN, DIGEST_MAX, SCALE_HEAD, status};
 use multihash::{Error, Head, varint};
-
-// The number of bytes of a code in the SCALE form.
-const CODE_LEN: usize = SCALE_HEAD - 1;
 
 /// The result of a decoding. A field without a meaning for its status is 0.
 #[repr(C)]
@@ -60,7 +57,7 @@ pub extern "C" fn multihash_from_bytes(bytes: &[u8]) -> Decoded
     decode_longer(bytes)
 }
 
-// Does what `multihash_from_bytes` does, out of line: so that saves registers only for an input that is not short.
+// Does what `multihash_from_bytes` does, for an input that is not short.
 #[cold]
 #[inline(never)]
 fn decode_longer(bytes: &[u8]) -> Decoded
@@ -108,7 +105,7 @@ pub extern "C" fn multihash_head(bytes: &[u8]) -> Front
     head_of_longer(bytes)
 }
 
-// Does what `multihash_head` does, out of line as `decode_longer`.
+// Does what `multihash_head` does, for an input that is not short.
 #[cold]
 #[inline(never)]
 fn head_of_longer(bytes: &[u8]) -> Front
@@ -123,12 +120,12 @@ fn head_of(bytes: &[u8]) -> Front
     ensures { ReadsFront bytes.now result }
 {
     let Some(head) = Head::find_front(bytes) else {
-        let (status, taken) = error_of(bytes);
+        let error = error_of(bytes);
         return Front {
-            status,
+            status: error.status,
             code: 0,
             digest_length: 0,
-            taken,
+            taken: error.taken,
         };
     };
     Front {
@@ -183,8 +180,7 @@ fn decode_whole(front: &[u8], whole_length: usize) -> Decoded
     ensures taken { result.taken ≡ whole_length }
 {
     let Some(head) = Head::find_front(front) else {
-        let (status, _) = error_of(front);
-        return rejected(status, 0, 0, whole_length);
+        return rejected(error_of(front).status, 0, 0, whole_length);
     };
     if head.digest_len > DIGEST_MAX as u64 {
         return rejected_size(head.digest_len, whole_length);
@@ -207,8 +203,8 @@ fn read_within(bytes: &[u8], limit: usize) -> Decoded
     ensures { ReadsWithin limit bytes.now result }
 {
     let Some(head) = Head::find_front(bytes) else {
-        let (status, taken) = error_of(bytes);
-        return rejected(status, 0, 0, taken);
+        let error = error_of(bytes);
+        return rejected(error.status, 0, 0, error.taken);
     };
     if head.digest_len > limit as u64 || head.digest_len > DIGEST_MAX as u64 {
         return rejected_size(head.digest_len, head.digest_offset);
@@ -220,18 +216,27 @@ fn read_within(bytes: &[u8], limit: usize) -> Decoded
     accept(head.code, size, head.digest_offset + size)
 }
 
-// The status of an input with a malformed varint, and what reading it consumes: plain numbers, so that the
-// usual input needs no room for an error.
+// The error of an input with a malformed varint: its status, and the bytes that reading it consumes.
+#[derive(Clone, Copy)]
+struct FrontError {
+    status: u32,
+    taken: usize,
+}
+
+// Returns the error of an input with a malformed varint.
 #[cold]
 #[inline(never)]
-fn error_of(bytes: &[u8]) -> (u32, usize)
+fn error_of(bytes: &[u8]) -> FrontError
     requires { (error : VarintError) × ((S : ℕ) → HasVerdict S bytes.now (malformed error)) }
-    ensures { (e : Refusal) × (h : IsHeadError bytes.now e result.1)
-        × (result.0 ≡ status_of_error h.error) }
+    ensures { (e : Refusal) × (h : IsHeadError bytes.now e result.taken)
+        × (result.status ≡ status_of_error h.error) }
 {
     match Head::read_counted(bytes) {
         Ok(_) => unreachable!(),
-        Err((error, taken)) => (varint_status(&error), taken),
+        Err((error, taken)) => FrontError {
+            status: varint_status(&error),
+            taken,
+        },
     }
 }
 

@@ -2,11 +2,11 @@
 ghost use Rattle.std.specs.Prelude.{◌≡◌, ◌+◌, ◌<◌, ◌≤◌, ℕ, List, [], ◌∷◌, ◌++◌, length, drop};
 ghost use Rattle.multihash.specs.Varint.{IsVarint, varint_limit};
 ghost use Rattle.multihash.specs.Encoding.{IsEncoding};
-ghost use Rattle.multihash.specs.Scale.{IsScale, IsScaleCode};
-ghost use Rattle.multihash_c.specs.Encoded.{IsTooLong, IsLargeCode, ReportsLength, WritesForm, HasParts, IsPut, Puts};
+ghost use Rattle.multihash.specs.Scale.{IsScale};
+ghost use Rattle.multihash_c.specs.Encoded.{IsTooLong, IsLargeCode, ReportsLength, WritesForm, IsPut, Puts};
 ghost use Rattle.multihash_c.specs.Status.{status_ok, status_no_room, IsStatusText};
 
-use crate::{DIGEST_MAX, SCALE_HEAD, status};
+use crate::{CODE_LEN, DIGEST_MAX, SCALE_HEAD, status};
 use multihash::varint;
 
 // The usual length of a digest.
@@ -39,12 +39,7 @@ pub extern "C" fn multihash_encode(code: u64, digest: &[u8], out: &mut [u8]) -> 
     } else if digest.len() > DIGEST_MAX {
         return rejected_size(digest.len() as u64);
     }
-    let (status, length) = encode_apart(sized_len(digest.len()), code, digest, out);
-    Encoded {
-        status,
-        size: 0,
-        length,
-    }
+    encode_any(code, digest, out)
 }
 
 /// Writes the SCALE form of a code and a digest to the front of `out`.
@@ -55,15 +50,7 @@ pub extern "C" fn multihash_scale_encode(code: u64, digest: &[u8], out: &mut [u8
     if digest.len() == USUAL_DIGEST {
         return scale_encode(code, digest, out);
     }
-    if digest.len() > DIGEST_MAX {
-        return rejected_size(digest.len() as u64);
-    }
-    let (status, length) = scale_encode_apart(code, digest, out);
-    Encoded {
-        status,
-        size: 0,
-        length,
-    }
+    scale_encode_any(code, digest, out)
 }
 
 /// Returns the length of the encoding of a code and a digest of that many bytes.
@@ -120,50 +107,28 @@ fn encode_usual(code: u64, digest: &[u8], out: &mut [u8]) -> Encoded
     count(USUAL_ENCODING, out.len())
 }
 
-// Does what `encode_any` does, and returns plain numbers as `scale_encode_apart` does. With the length first,
-// the other parameters are in the registers in which the caller has them.
+// What `multihash_encode` returns, for every digest that is not too long.
 #[inline(never)]
-#[tactic(auto, using(crate::proofs::EncodedLemmas::same_parts))]
-fn encode_apart(after_code: usize, code: u64, digest: &[u8], out: &mut [u8]) -> (u32, usize)
-    requires short { length digest.now ≤ 255 }
-    requires after { (size : List ℕ) × IsVarint (length digest.now) size
-        × (after_code ≡ length size + length digest.now) }
-    ensures { (e : Encoded) → HasParts result.0 result.1 e →
-        WritesForm IsEncoding (record { code = code; digest = digest.now }) e out.old out.new }
-{
-    let encoded = encode_any(after_code, code, digest, out);
-    (encoded.status, encoded.length)
-}
-
-// What `multihash_encode` returns, for every digest that is not too long. That many bytes follow the code.
-#[inline(always)]
-fn encode_any(after_code: usize, code: u64, digest: &[u8], out: &mut [u8]) -> Encoded
-    requires short { length digest.now ≤ 255 }
-    requires after { (size : List ℕ) × IsVarint (length digest.now) size
-        × (after_code ≡ length size + length digest.now) }
+fn encode_any(code: u64, digest: &[u8], out: &mut [u8]) -> Encoded
+    requires { length digest.now ≤ 255 }
     ensures { WritesForm IsEncoding (record { code = code; digest = digest.now }) result out.old out.new }
 {
     let Ok(code_length) = varint::len(code) else {
         return rejected_code();
     };
-    let encoding_length = code_length + after_code;
+    let encoding_length = code_length + sized_len(digest.len());
     if encoding_length <= out.len() {
         put_encoding(code, digest, out);
     }
     count(encoding_length, out.len())
 }
 
-// Does what `scale_encode` does. The status and the length are plain numbers, which stay in registers: so
-// those that only this function needs are saved only for such an input.
+// Does what `scale_encode` does, for a digest of another length than the usual one.
 #[inline(never)]
-#[tactic(auto, using(crate::proofs::EncodedLemmas::same_parts))]
-fn scale_encode_apart(code: u64, digest: &[u8], out: &mut [u8]) -> (u32, usize)
-    requires { length digest.now ≤ 255 }
-    ensures { (e : Encoded) → HasParts result.0 result.1 e →
-        WritesForm IsScale (record { code = code; digest = digest.now }) e out.old out.new }
+fn scale_encode_any(code: u64, digest: &[u8], out: &mut [u8]) -> Encoded
+    ensures { WritesForm IsScale (record { code = code; digest = digest.now }) result out.old out.new }
 {
-    let encoded = scale_encode(code, digest, out);
-    (encoded.status, encoded.length)
+    scale_encode(code, digest, out)
 }
 
 // What `multihash_scale_encode` returns, for every input.
@@ -171,7 +136,6 @@ fn scale_encode_apart(code: u64, digest: &[u8], out: &mut [u8]) -> (u32, usize)
 fn scale_encode(code: u64, digest: &[u8], out: &mut [u8]) -> Encoded
     ensures { WritesForm IsScale (record { code = code; digest = digest.now }) result out.old out.new }
 {
-    // With one helper for these tests and those of `needed` it needs seven more instructions.
     if digest.len() > DIGEST_MAX {
         return rejected_size(digest.len() as u64);
     }
@@ -290,7 +254,7 @@ fn put_sized(digest: &[u8], buffer: &mut [u8])
     ensures { (size : List ℕ) × IsVarint (length digest.now) size
         × (buffer.new ≡ (size ++ digest.now) ++ drop (length (size ++ digest.now)) buffer.old) }
 {
-    // As a byte: so the compiler sees that the varint has two bytes at most.
+    // As a byte, so that the compiler sees that the varint has two bytes at most.
     let size_length = put_varint(digest.len() as u8 as u64, buffer);
     put_digest(digest, &mut buffer[size_length..]);
 }
@@ -352,29 +316,9 @@ fn put_scale_form(code: u64, digest: &[u8], buffer: &mut [u8])
     ensures { (bytes : List ℕ) × IsScale (record { code = code; digest = digest.now }) bytes
         × (buffer.new ≡ bytes ++ drop (length bytes) buffer.old) }
 {
-    put_parts(&scale_head(code, digest.len() as u8), digest, buffer);
-}
-
-// The bytes of the form before the digest.
-#[inline(always)]
-fn scale_head(code: u64, size: u8) -> [u8; SCALE_HEAD]
-    requires { code < varint_limit }
-    ensures { (bytes : List ℕ) × IsScaleCode code bytes × (result ≡ bytes ++ size ∷ []) }
-{
-    let mut head = [size; SCALE_HEAD];
-    head[..SCALE_HEAD - 1].copy_from_slice(&code.to_le_bytes());
-    head
-}
-
-// Copies two parts, one after the other, to the front of a buffer that is large enough.
-#[inline(always)]
-#[tactic(auto, using(std::proofs::lemmas::Grind::common_steps))]
-fn put_parts(head: &[u8], digest: &[u8], buffer: &mut [u8])
-    requires { length head.now + length digest.now ≤ length buffer.old }
-    ensures { buffer.new ≡ (head.now ++ digest.now) ++ drop (length (head.now ++ digest.now)) buffer.old }
-{
-    buffer[..head.len()].copy_from_slice(head);
-    put_digest(digest, &mut buffer[head.len()..]);
+    buffer[..CODE_LEN].copy_from_slice(&code.to_le_bytes());
+    buffer[CODE_LEN] = digest.len() as u8;
+    put_digest(digest, &mut buffer[SCALE_HEAD..]);
 }
 
 // Copies a digest to the front of a buffer that is large enough. The usual length is copied as a whole.

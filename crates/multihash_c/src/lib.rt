@@ -12,5 +12,8 @@ mod version;
 // The most bytes of a digest: `MULTIHASH_DIGEST_MAX` in the header.
 const DIGEST_MAX: usize = 255;
 
-// The bytes of a SCALE form that come before its digest: eight of the code, and one of the size.
-const SCALE_HEAD: usize = 9;
+// The number of bytes of a code in the SCALE form.
+const CODE_LEN: usize = 8;
+
+// The bytes of a SCALE form that come before its digest: those of the code, and one of the size.
+const SCALE_HEAD: usize = CODE_LEN + 1;

@@ -10,7 +10,7 @@ use Rattle.multihash_c.proofs.decode.decode_whole.Goals as goal
 
 pub returns-in_default-clause-verdict : goal.returns-in_default-clause-verdict
 returns-in_default-clause-verdict c = λ input long begins enough.
-    let (e, h, is) = c.error_of-status.ensures in (
+    let (e, h, is) = c.error_of.ensures in (
       malformed h.error,
       error_whole h.error c.args.front.now input begins (h.verdict 255) (rw long enough),
       rw (← is) c.rejected.ensures.reports,
@@ -18,7 +18,7 @@ returns-in_default-clause-verdict c = λ input long begins enough.
 
 pub returns-in_default-clause-cut : goal.returns-in_default-clause-cut
 returns-in_default-clause-cut c = λ has.
-    let (e, h, is) = c.error_of-status.ensures in
+    let (e, h, is) = c.error_of.ensures in
     let same = verdict_unique 255 c.args.front.now (malformed h.error) (malformed insufficient) (h.verdict 255) has in
     let error : h.error ≡ insufficient = cc in
     subst (λ n. ReportsError c.rejected.result n 0 0) (is ∙ ap status_of_error error) c.rejected.ensures.reports

@@ -4,7 +4,7 @@ use Rattle.multihash_c.proofs.decode.head_of.Goals as goal
 
 pub returns-in_default : goal.returns-in_default
 returns-in_default c =
-    let (e, h, is) = c.error_of-status.ensures in
+    let (e, h, is) = c.error_of-error.ensures in
     inr (record {
       error = h.error;
       is_status = is;

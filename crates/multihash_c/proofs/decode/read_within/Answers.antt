@@ -4,7 +4,7 @@ use Rattle.multihash_c.proofs.decode.read_within.Goals as goal
 
 pub returns-in_default : goal.returns-in_default
 returns-in_default c =
-    let (e, h, is) = c.error_of-status.ensures in
+    let (e, h, is) = c.error_of-error.ensures in
     error_read c.args.bytes.now e _ h c.args.limit c.rejected.result c.rejected.ensures.taken (rw (← is) c.rejected.ensures.reports)
 
 pub returns-then-head-limit : goal.returns-then-head-limit

@@ -9,15 +9,15 @@ use Rattle.multihash_c.proofs.encode.encode_any.Goals.{then-encoding_length-out,
 
 pub overflow_add-encoding_length : goal.overflow_add-encoding_length
 overflow_add-encoding_length c =
-    let (size, is_size, long) = c.requires.after in
-    omega (arith, long, c.requires.short, c.in-Ok.ensures.short, varint_longest _ size is_size)
+    let (size, is_size, long) = c.sized_len.ensures.length in
+    omega (arith, long, c.requires, c.in-Ok.ensures.short, varint_longest _ size is_size)
 
 pub put_encoding-requires-clause-fits : goal.put_encoding-requires-clause-fits
 put_encoding-requires-clause-fits c =
     let digest : List ℕ = c.args.digest.now in
     let p : Pair = record { code = c.args.code; digest = digest } in
     let (code, is_code, code_long) = c.in-Ok.ensures.ok in
-    let (size, is_size, long) = c.requires.after in (
+    let (size, is_size, long) = c.sized_len.ensures.length in (
       code ++ (size ++ digest),
       encoding_of_parts p c.args.code (length digest) digest code size refl refl refl is_code is_size,
       omega (arith, code_long, long, length-parts code size digest, c.if-encoding_length-out.true),
@@ -28,9 +28,9 @@ returns c =
     let digest : List ℕ = c.args.digest.now in
     let p : Pair = record { code = c.args.code; digest = digest } in
     let (code, is_code, code_long) = c.in-Ok.ensures.ok in
-    let (size, is_size, long) = c.requires.after in
+    let (size, is_size, long) = c.sized_len.ensures.length in
     let encodes = encoding_of_parts p c.args.code (length digest) digest code size refl refl refl is_code is_size in
-    writes_form IsEncoding p c.args.out.now c.if-encoding_length-out.out _ c.count.result c.requires.short is_code.in_range c.count.ensures
+    writes_form IsEncoding p c.args.out.now c.if-encoding_length-out.out _ c.count.result c.requires is_code.in_range c.count.ensures
     c.if-encoding_length-out.auto.out (λ other is_other. omega (arith, code_long, long, parts_long p other code size is_other is_code is_size))
     (elim c.if-encoding_length-out.branch [
       | then-encoding_length-out w ↦
