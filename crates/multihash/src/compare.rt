@@ -1,5 +1,5 @@
 //! Comparison and hashing.
-ghost use Rattle.std.specs.Prelude.{◌≡◌, ◌≢◌, ◌==◌, ◌≤◌, ◌+◌, ◌↔◌, length, take, drop, Some, IsTrue};
+ghost use Rattle.std.specs.Prelude.{◌≡◌, ◌≢◌, ◌==◌, ◌<◌, ◌≤◌, ◌+◌, ◌↔◌, length, take, drop, Some, IsTrue};
 ghost use Rattle.std.proofs.Common.{rules};
 ghost use Rattle.std.specs.Cmp.{partial_order_from_own_ties};
 ghost use Rattle.std.specs.Cmp.Lexicographic.{pointwise, slice_cmp};
@@ -41,16 +41,7 @@ impl<const S: usize> Multihash<S> {
         if S >= 16 && self.size >= 16 {
             return same_ends_of_16(self.digest(), other.digest());
         }
-        self.size == 0 || self.same_few(other)
-    }
-
-    // Whether digests of fewer bytes are equal. The parameters are the values, so that the other paths
-    // compute no address for this call.
-    #[inline(never)]
-    fn same_few<const B: usize>(&self, other: &Multihash<B>) -> bool
-        ensures { result ≡ pointwise ◌==◌ (pair_of self.now).digest (pair_of other.now).digest }
-    {
-        self.digest() == other.digest()
+        self.size == 0 || self.order_of_few(other).is_eq()
     }
 
     // How the digests compare, by their lengths first: by a call, as `same_digest`. Those of 8 to 64 bytes are
@@ -72,18 +63,23 @@ impl<const S: usize> Multihash<S> {
         if S >= 16 && self.size >= 16 {
             return order_from(self.digest(), other.digest(), 0);
         }
-        if S >= 8 && self.size >= 8 {
-            return order_last(self.digest(), other.digest(), 0);
-        }
         self.order_of_few(other)
     }
 
-    // How digests of fewer bytes compare. The parameters are the values, as those of `same_few`.
-    #[inline(never)]
-    fn order_of_few(&self, other: &Self) -> Ordering
+    // How digests of fewer than 16 bytes compare.
+    #[inline(always)]
+    fn order_of_few<const B: usize>(&self, other: &Multihash<B>) -> Ordering
+        requires few { length (pair_of self.now).digest < 16 }
+        requires same { length (pair_of self.now).digest ≡ length (pair_of other.now).digest }
         ensures { result ≡ slice_cmp nat_cmp (pair_of self.now).digest (pair_of other.now).digest }
     {
-        self.digest().cmp(other.digest())
+        if S < 8 || B < 8 {
+            return self.digest().cmp(other.digest());
+        }
+        if self.size >= 8 {
+            return order_last(self.digest(), other.digest(), 0);
+        }
+        order_of_first(&self.digest, &other.digest, self.size)
     }
 }
 
@@ -263,6 +259,19 @@ fn order_at(a: &[u8], b: &[u8], at: usize) -> Ordering
     ensures { result ≡ slice_cmp nat_cmp a.now b.now }
 {
     word_at(a, at).cmp(&word_at(b, at))
+}
+
+// How the first bytes compare, of which there are fewer than 8: as numbers, which are the high parts of words.
+#[inline(always)]
+fn order_of_first(a: &[u8], b: &[u8], count: usize) -> Ordering
+    requires a { 8 ≤ length a.now }
+    requires b { 8 ≤ length b.now }
+    requires few { count < 8 }
+    ensures { result ≡ slice_cmp nat_cmp (take count a.now) (take count b.now) }
+{
+    // Of no byte, one shift would be by all 64 bits.
+    let unused = 56 - 8 * count;
+    (word_at(a, 0) >> 8 >> unused).cmp(&(word_at(b, 0) >> 8 >> unused))
 }
 
 // Whether the eight bytes from that index on are equal too, if those before it are.

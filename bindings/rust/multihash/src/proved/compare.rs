@@ -28,14 +28,7 @@ impl<const S: usize> Multihash<S> {
         if S >= 16 && self.size >= 16 {
             return same_ends_of_16(self.digest(), other.digest());
         }
-        self.size == 0 || self.same_few(other)
-    }
-
-    // Whether digests of fewer bytes are equal. The parameters are the values, so that the other paths
-    // compute no address for this call.
-    #[inline(never)]
-    fn same_few<const B: usize>(&self, other: &Multihash<B>) -> bool {
-        self.digest() == other.digest()
+        self.size == 0 || self.order_of_few(other).is_eq()
     }
 
     // How the digests compare, by their lengths first: by a call, as `same_digest`. Those of 8 to 64 bytes are
@@ -54,23 +47,26 @@ impl<const S: usize> Multihash<S> {
         if S >= 16 && self.size >= 16 {
             return order_from(self.digest(), other.digest(), 0);
         }
-        if S >= 8 && self.size >= 8 {
-            return order_last(self.digest(), other.digest(), 0);
-        }
         self.order_of_few(other)
     }
 
-    // How digests of fewer bytes compare. The parameters are the values, as those of `same_few`.
-    #[inline(never)]
-    fn order_of_few(&self, other: &Self) -> Ordering {
-        self.digest().cmp(other.digest())
+    // How digests of fewer than 16 bytes compare.
+    #[inline(always)]
+    fn order_of_few<const B: usize>(&self, other: &Multihash<B>) -> Ordering {
+        if S < 8 || B < 8 {
+            return self.digest().cmp(other.digest());
+        }
+        if self.size >= 8 {
+            return order_last(self.digest(), other.digest(), 0);
+        }
+        order_of_first(&self.digest, &other.digest, self.size)
     }
 }
 
 /// Equal if the codes and the digests are equal; [`Multihash::same_as`] compares across capacities.
 impl<const S: usize> PartialEq for Multihash<S> {
     fn eq(&self, other: &Self) -> bool {
-        self.code == other.code && self.same_digest(other)
+        self.same_as(other)
     }
 }
 
@@ -175,6 +171,14 @@ fn order_of_words(a: &[u8], b: &[u8], at: usize) -> Ordering {
 #[inline(always)]
 fn order_at(a: &[u8], b: &[u8], at: usize) -> Ordering {
     word_at(a, at).cmp(&word_at(b, at))
+}
+
+// How the first bytes compare, of which there are fewer than 8: as numbers, which are the high parts of words.
+#[inline(always)]
+fn order_of_first(a: &[u8], b: &[u8], count: usize) -> Ordering {
+    // Of no byte, one shift would be by all 64 bits.
+    let unused = 56 - 8 * count;
+    (word_at(a, 0) >> 8 >> unused).cmp(&(word_at(b, 0) >> 8 >> unused))
 }
 
 // Whether the eight bytes from that index on are equal too, if those before it are.
