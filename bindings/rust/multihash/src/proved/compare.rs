@@ -9,13 +9,16 @@ use std::simd::prelude::*;
 impl<const S: usize> Multihash<S> {
     /// Returns whether both have the same code and the same digest, whatever their capacities.
     pub fn same_as<const B: usize>(&self, other: &Multihash<B>) -> bool {
-        self.size == other.size && self.code == other.code && self.same_digest(other)
+        self.code == other.code && self.same_digest(other)
     }
 
-    // Whether the digests are equal. Those of 16 to 64 bytes are compared as vectors, without a call. Tests
-    // that `S` decides are not compiled.
-    #[inline(always)]
+    // Whether the digests are equal: by a call, so that callers compare the codes in line. Those of 16 to 64
+    // bytes are compared as vectors. Tests that `S` decides are not compiled.
+    #[inline(never)]
     fn same_digest<const B: usize>(&self, other: &Multihash<B>) -> bool {
+        if self.size != other.size {
+            return false;
+        }
         if S > 64 && self.size > 64 {
             return self.digest() == other.digest();
         }
@@ -25,19 +28,16 @@ impl<const S: usize> Multihash<S> {
         if S >= 16 && self.size >= 16 {
             return same_ends_of_16(self.digest(), other.digest());
         }
-        self.size == 0 || self.same_few(other)
+        self.size == 0 || self.order_of_few(other).is_eq()
     }
 
-    // Whether digests of fewer bytes are equal. The parameters are the values, so that the other paths
-    // compute no address for this call.
+    // How the digests compare, by their lengths first: by a call, as `same_digest`. Those of 8 to 64 bytes are
+    // compared by words.
     #[inline(never)]
-    fn same_few<const B: usize>(&self, other: &Multihash<B>) -> bool {
-        self.digest() == other.digest()
-    }
-
-    // How the digests compare. Those of 8 to 64 bytes are compared by words.
-    #[inline(always)]
     fn order_of_digest(&self, other: &Self) -> Ordering {
+        if self.size != other.size {
+            return self.size.cmp(&other.size);
+        }
         if S > 64 && self.size > 64 {
             return self.digest().cmp(other.digest());
         }
@@ -47,23 +47,26 @@ impl<const S: usize> Multihash<S> {
         if S >= 16 && self.size >= 16 {
             return order_from(self.digest(), other.digest(), 0);
         }
-        if S >= 8 && self.size >= 8 {
-            return order_last(self.digest(), other.digest(), 0);
-        }
         self.order_of_few(other)
     }
 
-    // How digests of fewer bytes compare. The parameters are the values, as those of `same_few`.
-    #[inline(never)]
-    fn order_of_few(&self, other: &Self) -> Ordering {
-        self.digest().cmp(other.digest())
+    // How digests of fewer than 16 bytes compare.
+    #[inline(always)]
+    fn order_of_few<const B: usize>(&self, other: &Multihash<B>) -> Ordering {
+        if S < 8 || B < 8 {
+            return self.digest().cmp(other.digest());
+        }
+        if self.size >= 8 {
+            return order_last(self.digest(), other.digest(), 0);
+        }
+        order_of_first(&self.digest, &other.digest, self.size)
     }
 }
 
 /// Equal if the codes and the digests are equal; [`Multihash::same_as`] compares across capacities.
 impl<const S: usize> PartialEq for Multihash<S> {
     fn eq(&self, other: &Self) -> bool {
-        self.code == other.code && self.size == other.size && self.same_digest(other)
+        self.same_as(other)
     }
 }
 
@@ -76,9 +79,6 @@ impl<const S: usize> Ord for Multihash<S> {
     fn cmp(&self, other: &Self) -> Ordering {
         if self.code != other.code {
             return self.code.cmp(&other.code);
-        }
-        if self.size != other.size {
-            return self.size.cmp(&other.size);
         }
         self.order_of_digest(other)
     }
@@ -126,13 +126,14 @@ fn order_of_many(a: &[u8], b: &[u8]) -> Ordering {
     if !same_word(a, b, 8) {
         return order_at(a, b, 8);
     }
-    if !same_word(a, b, 16) {
-        return order_at(a, b, 16);
+    if !same_words(a, b, 16) {
+        return order_of_words(a, b, 16);
     }
-    if !same_word(a, b, 24) {
-        return order_at(a, b, 24);
+    let last = a.len() - 32;
+    if !same_words(a, b, last) {
+        return order_of_words(a, b, last);
     }
-    order_from(a, b, a.len() - 32)
+    order_last(a, b, last + 16)
 }
 
 // How bytes compare that are equal before an index, with 16 to 32 from there on.
@@ -157,16 +158,39 @@ fn order_last(a: &[u8], b: &[u8], at: usize) -> Ordering {
     order_at(a, b, a.len() - 8)
 }
 
+// How bytes compare that are equal before an index, and differ in the two words there.
+#[inline(always)]
+fn order_of_words(a: &[u8], b: &[u8], at: usize) -> Ordering {
+    if !same_word(a, b, at) {
+        return order_at(a, b, at);
+    }
+    order_at(a, b, at + 8)
+}
+
 // How bytes compare that are equal before an index, and differ in the word there if they differ.
 #[inline(always)]
 fn order_at(a: &[u8], b: &[u8], at: usize) -> Ordering {
     word_at(a, at).cmp(&word_at(b, at))
 }
 
+// How the first bytes compare, of which there are fewer than 8: as numbers, which are the high parts of words.
+#[inline(always)]
+fn order_of_first(a: &[u8], b: &[u8], count: usize) -> Ordering {
+    // Of no byte, one shift would be by all 64 bits.
+    let unused = 56 - 8 * count;
+    (word_at(a, 0) >> 8 >> unused).cmp(&(word_at(b, 0) >> 8 >> unused))
+}
+
 // Whether the eight bytes from that index on are equal too, if those before it are.
 #[inline(always)]
 fn same_word(a: &[u8], b: &[u8], at: usize) -> bool {
     word_at(a, at) == word_at(b, at)
+}
+
+// Whether the two words from that index on are equal too, if the bytes before it are.
+#[inline(always)]
+fn same_words(a: &[u8], b: &[u8], at: usize) -> bool {
+    same_ends_of_16(&a[at..at + 16], &b[at..at + 16])
 }
 
 // The eight bytes from that index on as a number, the first as the highest.
