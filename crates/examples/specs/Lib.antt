@@ -1,3 +1,2 @@
-pub mod ByteCount
 pub mod ContentId
 pub mod PeerId

@@ -2,7 +2,6 @@
 #![tactic(auto)]
 
 pub mod any_reader;
-pub mod byte_count;
 pub mod capacities;
 pub mod code_table;
 pub mod content_id;
