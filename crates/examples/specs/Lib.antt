@@ -1,2 +1,3 @@
 pub mod ContentId
+pub mod Formats
 pub mod PeerId
