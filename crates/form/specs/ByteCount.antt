@@ -1,7 +1,7 @@
 -- What a writer that counts has appended.
 use Rattle.std.specs.Prelude.{◌≡◌, ◌+◌, ◌-◌, ◌^◌, ℕ, List, [], ◌++◌, length, min}
 use Rattle.std.proofs.Common.{arith, length-append, subst}
-use Rattle.examples.specs.declared.byte_count.ByteCount.{ByteCount}
+use Rattle.form.specs.declared.byte_count.ByteCount.{ByteCount}
 
 -- that many bytes were counted, as far as the count can hold their number
 abbrev pub HasCounted : ByteCount → ℕ → Type 0

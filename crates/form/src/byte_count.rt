@@ -1,4 +1,4 @@
-//! A custom writer.
+//! A writer that counts.
 use multihash::no_std_io::{Error, Write};
 
 /// A writer that counts the bytes, up to `u64::MAX`.
@@ -10,7 +10,7 @@ pub struct ByteCount {
 
 impl Write for ByteCount {
     ghost use Rattle.std.specs.Prelude.{false};
-    ghost use Rattle.examples.specs.ByteCount.{AddsCount, AddsCount-none, AddsCount-concatenated};
+    ghost use Rattle.form.specs.ByteCount.{AddsCount, AddsCount-none, AddsCount-concatenated};
 
     const ALLOCATES: bool = false;
 
