@@ -100,7 +100,8 @@ has_relations() {
     python3 -c 'import json, sys
 for each in json.load(sys.stdin)["packages"][0]["dependencies"]:
     kind = "OPTIONAL_" if each["optional"] else {"dev": "TEST_", "build": "BUILD_"}.get(each["kind"], "")
-    print(each["name"], kind + "DEPENDENCY_OF", sys.argv[1])' "multihash-$upstream.crate" > "$work/wanted"
+    print(each["name"], kind + "DEPENDENCY_OF", sys.argv[1])' "multihash-$upstream.crate" |
+    sed "s/^verified-multihash/&-$version.crate/" > "$work/wanted"
   printf '%s BUILD_TOOL_OF %s\n' "$kit $logic" bindings/c/prebuilt/aarch64/libmultihash_c.a "$kit $logic" \
     bindings/c/prebuilt/x86_64/libmultihash_c.a "$kit $logic" bindings/c/src/module.h "$kit $logic" \
     bindings/js/multihash.wasm "wabt $wabt" bindings/c/src/module.h "binaryen $binaryen" bindings/js/multihash.wasm \

@@ -171,9 +171,12 @@ impl<const S: usize> Multihash<S> {
     pub fn resize<const R: usize>(&self) -> Result<Multihash<R>, Error> {
         // By hand: the proved one takes Rust's compiler twice the instructions.
         let mut result = Ok(Multihash::default());
-        match &mut result {
-            Ok(resized) if upstream::resize(&self.0, &mut resized.0) => {}
-            _ => result = Err(Error { kind: Kind::InvalidSize(self.size().into()) }),
+        let fits = match &mut result {
+            Ok(resized) => upstream::resize(&self.0, &mut resized.0),
+            Err(_) => false,
+        };
+        if !fits {
+            result = Err(Error { kind: Kind::InvalidSize(self.size().into()) });
         }
         result
     }
