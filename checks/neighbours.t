@@ -7,7 +7,7 @@
 . checks/lib/rust.sh
 registry=/usr/share/cargo/registry
 
-beside_crates() { tests cargo test --manifest-path ../tests/neighbours/Cargo.toml; }
+beside_crates() { tests tests/neighbours cargo test; }
 
 # The package for Python hashes the block that IPFS makes of a small file, and makes both CIDs of it.
 beside_ipfs() {

@@ -103,7 +103,8 @@ has_relations() {
     python3 -c 'import json, sys
 for each in json.load(sys.stdin)["packages"][0]["dependencies"]:
     kind = "OPTIONAL_" if each["optional"] else {"dev": "TEST_", "build": "BUILD_"}.get(each["kind"], "")
-    print(each["name"], kind + "DEPENDENCY_OF", sys.argv[1])' "multihash-$upstream.crate" > "$work/wanted"
+    print(each["name"], kind + "DEPENDENCY_OF", sys.argv[1])' "multihash-$upstream.crate" |
+    sed "s/^verified-multihash/&-$version.crate/" > "$work/wanted"
   printf '%s BUILD_TOOL_OF bindings/js/multihash.wasm\n' "$kit $logic" "binaryen $binaryen" >> "$work/wanted"
   python3 - "$1/multihash-$version.spdx.json" << 'END' | sort | diff <(sort "$work/wanted") -
 import json, sys

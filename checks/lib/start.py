@@ -18,7 +18,7 @@ FENCE = re.compile(r"^ *```(\S*)[^\n]*\n(.*?)^ *```$", re.M | re.S)
 ROW = re.compile(r"^\| \[(\w+)[^\]]*\]\(([^)]*)\) \| `([^`]+)` \|", re.M)
 HEAD = re.compile(r"(?://|#) (\S+): (.*)\n")
 SHOWN = "code 0, digest hello"
-OLDEST = re.findall(r'rust-version = "(.*)"', (TOP / "bindings/rust/multihash/Cargo.toml").read_text())[0]
+OLDEST = re.findall(r'rust-version = "(.*)"', (TOP / "bindings/rust/verified-multihash/Cargo.toml").read_text())[0]
 REGISTRY = "/usr/share/cargo/registry"  # of Debian, for crates that the program of Rust's page needs
 SOURCE = f'[source.crates-io]\\nreplace-with = "here"\\n[source.here]\\ndirectory = "{REGISTRY}"\\n'
 

@@ -110,31 +110,6 @@ fn fill_apart(from: &[u8], to: &mut [u8], left: usize) {
     to.copy_from_slice(&from[..left.wrapping_add(from.len())]);
 }
 
-/// Appends to the vector. If out of memory, the vector is unchanged.
-#[cfg(feature = "alloc")]
-impl Write for Vec<u8> {
-    const ALLOCATES: bool = true;
-
-    fn write(&mut self, buf: &[u8]) -> Result<usize, Error> {
-        match self.extend_from_slice(buf) {
-            Ok(()) => Ok(buf.len()),
-            Err(_) => Err(Error::out_of_memory()),
-        }
-    }
-
-    fn write_all(&mut self, buf: &[u8]) -> Result<(), Error> {
-        let extended = match buf {
-            [byte] => self.push(*byte).is_ok(),
-            _ => self.extend_from_slice(buf).is_ok(),
-        };
-        if extended {
-            Ok(())
-        } else {
-            Err(Error::out_of_memory())
-        }
-    }
-}
-
 /// For a borrowed writer `write` is the writer's own, and `write_all` is the default.
 impl<W: Write> Write for &mut W {
     const ALLOCATES: bool = W::ALLOCATES;

@@ -1,9 +1,9 @@
 //! The SCALE form: the code as eight bytes, lowest first; the digest's length as one byte; the digest.
 use crate::rattle::{std, *};
 
-use crate::proved::binary::write_digest;
-use crate::proved::no_std_io::{self, Read, Write};
-use crate::proved::{Error, Multihash, varint};
+use crate::binary::write_digest;
+use crate::no_std_io::{self, Read, Write};
+use crate::{Error, Multihash, varint};
 
 impl<const S: usize> Multihash<S> {
     /// Appends the SCALE form to `w`: nine bytes and the digest. Returns the number of bytes.

@@ -1,9 +1,8 @@
 //! Many multihashes in one stream, one after another.
 use crate::rattle::{std, *};
 
-use crate::proved::no_std_io::{Read, Write};
-use crate::proved::{Error, Multihash};
-use std::alloc::Global;
+use crate::no_std_io::{Read, Write};
+use crate::{Error, Multihash};
 
 /// Appends the encodings of the items to `w`, in order. For an empty list the writer is not called.
 ///
@@ -30,11 +29,11 @@ pub fn write_list<const S: usize, W: Write>(items: &[Multihash<S>], w: &mut W) -
 ///   the failed call consumed. The values that were read are dropped.
 #[cfg(feature = "alloc")]
 pub fn read_list<const S: usize, R: Read>(
-    alloc: Global,
     r: &mut R,
     count: usize,
 ) -> Result<Vec<Multihash<S>>, Error> {
-    let mut list = Vec::with_capacity(alloc, count)?;
+    use crate::rattle::fallible::Vec;
+    let mut list = Vec::with_capacity(count)?;
     for _ in 0..count {
         list.push_reserved(Multihash::read(r)?);
     }

@@ -1,7 +1,7 @@
 //! The library's error.
 use crate::rattle::{std, *};
 
-use crate::proved::no_std_io;
+use crate::no_std_io;
 use std::alloc::{AllocError, AllocFailed};
 use std::fmt;
 

@@ -1,79 +1,78 @@
-//! What the sources use of Rattle's `std` and is not in Rust's `core`, written by hand: a vector whose allocations may
-//! fail, and hidden here: vectors of bytes, the digits of a number, and what newer Rust has.
+//! What the sources use of Rattle's `std` and is not in Rust's `core`, written by hand: errors of vectors whose
+//! allocations may fail, vectors of bytes, the digits of a number, and what newer Rust has.
+#[cfg(feature = "alloc")]
+use crate::no_std_io::{Error, Write};
+#[cfg(feature = "alloc")]
+pub use alloc::vec::Vec;
 
-#[doc(hidden)]
 pub mod std {
     pub use core::*;
     #[cfg(feature = "std")] // `core` has it from Rust 1.81 on
     pub use ::host::error;
     pub mod alloc {
-        pub use crate::rattle::{AllocError, AllocFailed, Global};
+        pub use crate::rattle::{AllocError, AllocFailed};
     }
     pub mod simd {
         pub use crate::rattle::simd as prelude;
     }
 }
 
-/// The allocator.
-#[derive(Clone, Copy, Debug, Default)]
-pub struct Global;
-
 /// Out of memory.
-#[derive(Clone, Copy, Debug)]
 pub struct AllocError;
 
 /// Out of memory: the value that was not stored.
-#[derive(Debug)]
 pub struct AllocFailed<T>(pub T);
 
-/// A vector each of whose allocations may fail. Its field is the vector of `alloc`.
+/// What functions that return vectors call to make them: it may fail.
 #[cfg(feature = "alloc")]
-#[derive(Clone, Debug, Default, PartialEq, Eq)]
-#[repr(transparent)]
-pub struct Vec<T>(pub alloc::vec::Vec<T>);
+pub mod fallible {
+    pub struct Vec;
 
-#[cfg(feature = "alloc")]
-impl<T> Vec<T> {
-    /// Returns an empty vector, with capacity for that many values.
-    #[inline]
-    pub fn with_capacity(_: Global, capacity: usize) -> Result<Self, AllocError> {
-        let mut vec = alloc::vec::Vec::new();
-        vec.try_reserve_exact(capacity).map_err(|_| AllocError)?;
-        Ok(Self(vec))
-    }
-
-    /// Appends a value.
-    #[inline]
-    pub fn push(&mut self, value: T) -> Result<(), AllocFailed<T>> {
-        if self.0.len() == self.0.capacity() && self.0.try_reserve(1).is_err() {
-            return Err(AllocFailed(value));
+    impl Vec {
+        /// Returns an empty vector with capacity for exactly that many values.
+        #[inline]
+        pub fn with_capacity<T>(capacity: usize) -> Result<alloc::vec::Vec<T>, super::AllocError> {
+            let mut vec = alloc::vec::Vec::new();
+            vec.try_reserve_exact(capacity).map_err(|_| super::AllocError)?;
+            Ok(vec)
         }
-        self.0.push(value);
-        Ok(())
-    }
-
-    /// Appends a value, for which the vector has capacity.
-    #[inline]
-    pub fn push_reserved(&mut self, value: T) {
-        assert!(self.0.len() < self.0.capacity());
-        self.0.push(value);
     }
 }
 
+/// What a vector has in Rattle.
 #[cfg(feature = "alloc")]
-impl Vec<u8> {
-    /// Appends bytes.
+pub trait Reserved<T> {
+    /// Appends a value, for which the vector has capacity.
+    fn push_reserved(&mut self, value: T);
+}
+
+#[cfg(feature = "alloc")]
+impl<T> Reserved<T> for Vec<T> {
     #[inline]
-    pub fn extend_from_slice(&mut self, bytes: &[u8]) -> Result<(), AllocError> {
-        self.0.try_reserve(bytes.len()).map_err(|_| AllocError)?;
-        self.0.extend_from_slice(bytes);
+    fn push_reserved(&mut self, value: T) {
+        assert!(self.len() < self.capacity());
+        self.push(value);
+    }
+}
+
+/// Appends to the vector. If out of memory, the vector is unchanged.
+#[cfg(feature = "alloc")]
+impl Write for Vec<u8> {
+    const ALLOCATES: bool = true;
+
+    fn write(&mut self, buf: &[u8]) -> Result<usize, Error> {
+        self.write_all(buf).map(|()| buf.len())
+    }
+
+    fn write_all(&mut self, buf: &[u8]) -> Result<(), Error> {
+        self.try_reserve(buf.len()).map_err(|_| Error::out_of_memory())?;
+        self.extend_from_slice(buf);
         Ok(())
     }
 }
 
 // Vectors of bytes are arrays: the compiler compares these with the machine's vectors.
 #[allow(non_camel_case_types)]
-#[doc(hidden)]
 pub mod simd {
     pub type u8x16<'a> = Vector<'a, 16>;
     pub type u8x32<'a> = Vector<'a, 32>;
@@ -106,7 +105,6 @@ pub mod simd {
 }
 
 /// What slices have in newer Rust: `first_chunk` from 1.77 on, `as_array` from 1.93 on.
-#[doc(hidden)]
 pub trait Arrays {
     fn as_array<const N: usize>(&self) -> Option<&[u8; N]>;
     fn first_chunk<const N: usize>(&self) -> Option<&[u8; N]>;
@@ -130,7 +128,6 @@ impl Arrays for [u8] {
     }
 }
 
-#[doc(hidden)]
 pub mod itoa {
     pub struct Buffer([u8; 20]);
 

@@ -1,10 +1,9 @@
 //! The binary form: the varint of the code, the varint of the digest's length, and the digest.
 use crate::rattle::{std, *};
 
-use crate::proved::multihash::whole;
-use crate::proved::no_std_io::{self, Read, Write};
-use crate::proved::{Error, Head, Multihash, varint};
-use std::alloc::Global;
+use crate::multihash::whole;
+use crate::no_std_io::{self, Read, Write};
+use crate::{Error, Head, Multihash, varint};
 
 impl<const S: usize> Multihash<S> {
     /// Reads the multihash whose encoding comes next. It consumes exactly that encoding and leaves what
@@ -130,8 +129,9 @@ impl<const S: usize> Multihash<S> {
     ///
     /// [`Error::io`] if out of memory.
     #[cfg(feature = "alloc")]
-    pub fn to_bytes(&self, alloc: Global) -> Result<Vec<u8>, Error> {
-        let mut bytes = Vec::with_capacity(alloc, self.encoded_len())?;
+    pub fn to_bytes(&self) -> Result<Vec<u8>, Error> {
+        use crate::rattle::fallible::Vec;
+        let mut bytes = Vec::with_capacity(self.encoded_len())?;
         self.write(&mut bytes)?;
         Ok(bytes)
     }

@@ -9,9 +9,9 @@ use super::{Error, Write};
 /// can speak of those.
 pub struct SliceWriter<'a> {
     /// The slice: the bytes written so far, then its unchanged remainder.
-    pub buffer: &'a mut [u8],
+    buffer: &'a mut [u8],
     /// The number of bytes written.
-    pub filled: usize,
+    filled: usize,
 }
 
 impl<'a> SliceWriter<'a> {

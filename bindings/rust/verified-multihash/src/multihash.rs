@@ -1,7 +1,7 @@
 //! The type and its parts.
 use crate::rattle::{std, *};
 
-use crate::proved::{Error, varint};
+use crate::{Error, varint};
 use std::fmt;
 
 /// A code below 2^63 and a digest of at most `min(S, 255)` bytes, in a buffer of the capacity `S`.

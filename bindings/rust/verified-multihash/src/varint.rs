@@ -8,8 +8,8 @@ use crate::rattle::{std, *};
 
 pub(crate) mod word;
 
-use crate::proved::Error;
-use crate::proved::no_std_io::{self, Read, Write};
+use crate::Error;
+use crate::no_std_io::{self, Read, Write};
 
 // The most continuation bytes of a varint.
 const MAX_CONTINUATION: usize = 8;

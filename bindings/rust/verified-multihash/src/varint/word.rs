@@ -2,7 +2,7 @@
 use crate::rattle::{std, *};
 
 use super::{LAST_BYTE_LIMIT, MAX_CONTINUATION, MAX_LEN};
-use crate::proved::Error;
+use crate::Error;
 
 // The bytes of a word.
 const WORD_LEN: usize = 16;

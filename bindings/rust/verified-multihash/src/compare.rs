@@ -1,7 +1,7 @@
 //! Comparison and hashing.
 use crate::rattle::{std, *};
 
-use crate::proved::Multihash;
+use crate::Multihash;
 use std::cmp::Ordering;
 use std::hash::{Hash, Hasher};
 use std::simd::prelude::*;
