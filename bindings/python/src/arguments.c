@@ -9,6 +9,14 @@ PyObject *attribute_of(PyObject *object, const char *text)
     return found;
 }
 
+int set_attribute(PyObject *object, const char *text, PyObject *value)
+{
+    PyObject *name = PyUnicode_InternFromString(text);
+    int result = name == NULL ? -1 : PyObject_SetAttr(object, name, value);
+    Py_XDECREF(name);
+    return result;
+}
+
 PyObject *result_of(PyObject *object, const char *text)
 {
     PyObject *method = attribute_of(object, text);

@@ -8,10 +8,9 @@ long version;
 
 typedef struct state {
     PyObject *type;
-    PyObject *error;    /* MultihashError, its slot, */
+    PyObject *error; /* MultihashError, and its slot */
     newfunc new_error;
-    PyObject *statuses; /* the members of Status by their numbers, */
-    PyObject *names;    /* and the names of an error's attributes */
+    PyObject *statuses; /* the members of Status by their numbers */
 } state;
 
 static struct PyModuleDef definition;
@@ -39,10 +38,9 @@ static PyObject *raise_error(PyObject *module, multihash_status status, PyObject
                           status == MULTIHASH_INSUFFICIENT || status == MULTIHASH_UNEXPECTED_EOF ? Py_True : Py_False};
     PyObject *arguments = values[0] == NULL ? NULL : PyTuple_Pack(4, values[0], size, code, count);
     if (arguments != NULL) error = own->new_error((PyTypeObject *)own->error, arguments, NULL);
+    static const char *const names[] = {"status", "size", "code", "taken", "is_incomplete"};
     int is_whole = error != NULL;
-    for (Py_ssize_t at = 0; is_whole && at < 5; at++) {
-        is_whole = PyObject_SetAttr(error, PyTuple_GetItem(own->names, at), values[at]) == 0;
-    }
+    for (int at = 0; is_whole && at < 5; at++) is_whole = set_attribute(error, names[at], values[at]) == 0;
     if (is_whole) PyErr_SetObject(own->error, error);
     Py_XDECREF(error);
     Py_XDECREF(arguments);
@@ -60,19 +58,20 @@ PyObject *encoding_error(PyObject *module, multihash_status status, PyObject *le
     return is_size ? raise_error(module, status, length, none, 0) : raise_error(module, status, none, code, 0);
 }
 
-/* For the package, once: how errors are made. */
+/* For the package: the class of errors, and the members of Status. */
 static PyObject *set_error(PyObject *module, PyObject *arguments)
 {
     state *own = PyModule_GetState(module);
-    PyObject *class, *statuses, *names;
-    if (!PyArg_ParseTuple(arguments, "OOO:set_error", &class, &statuses, &names)) return NULL;
-    own->error = class;
-    own->new_error = (newfunc)PyType_GetSlot((PyTypeObject *)class, Py_tp_new);
-    own->statuses = statuses;
-    own->names = names;
-    Py_INCREF(class);
-    Py_INCREF(statuses);
-    Py_INCREF(names);
+    PyObject *class, *statuses;
+    if (!PyArg_ParseTuple(arguments, "O!O!:set_error", &PyType_Type, &class, &PyTuple_Type, &statuses)) return NULL;
+    newfunc new_error = (newfunc)PyType_GetSlot((PyTypeObject *)class, Py_tp_new);
+    if (new_error == NULL) return PyErr_Format(PyExc_TypeError, "%R has no instances", class);
+    PyObject *old[] = {own->error, own->statuses}; /* of a package that is loaded again */
+    own->new_error = new_error;
+    Py_INCREF(own->error = class);
+    Py_INCREF(own->statuses = statuses);
+    Py_XDECREF(old[0]);
+    Py_XDECREF(old[1]);
     Py_RETURN_NONE;
 }
 
@@ -301,7 +300,6 @@ static int clear_state(PyObject *module)
     Py_CLEAR(own->type);
     Py_CLEAR(own->error);
     Py_CLEAR(own->statuses);
-    Py_CLEAR(own->names);
     return 0;
 }
 

@@ -26,6 +26,9 @@ PyObject *decoded(PyObject *module, const uint8_t *bytes, multihash_decoded foun
 /* An attribute, by a name that is there once: CPython's cache keeps each new one. */
 PyObject *attribute_of(PyObject *object, const char *text);
 
+/* Sets an attribute by such a name; -1 is a failure that has raised an error. */
+int set_attribute(PyObject *object, const char *text, PyObject *value);
+
 /* What that attribute returns, without arguments. */
 PyObject *result_of(PyObject *object, const char *text);
 

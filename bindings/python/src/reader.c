@@ -12,6 +12,8 @@ typedef struct reader_object {
     uint8_t rest[MULTIHASH_HEAD_MAX + MULTIHASH_DIGEST_MAX];
 } reader_object;
 
+static const char is_busy[] = "another call of the reader has not ended";
+
 static int reader_init(PyObject *self, PyObject *arguments, PyObject *named)
 {
     static char *names[] = {"file", "limit", NULL};
@@ -23,10 +25,15 @@ static int reader_init(PyObject *self, PyObject *arguments, PyObject *named)
     Py_XDECREF(most);
     if ((module = module_of_type(Py_TYPE(self))) == NULL) return -1;
     if ((read = attribute_of(file, "read")) == NULL) return -1;
+    if (reader->is_busy) {
+        Py_DECREF(read);
+        PyErr_SetString(PyExc_RuntimeError, is_busy);
+        return -1;
+    }
     if (reader->module == NULL) Py_INCREF(reader->module = module);
     reader->limit = limit;
     reader->length = 0;
-    reader->has_lost = reader->is_busy = 0;
+    reader->has_lost = 0;
     PyObject *old = reader->read; /* now: `file` may begin this reader anew, too */
     reader->read = read;
     Py_XDECREF(old);
@@ -74,7 +81,7 @@ static Py_ssize_t wanted(const reader_object *reader)
     if (count > 0 && reader->read == NULL) {
         PyErr_SetString(PyExc_ValueError, "not initialized");
     } else if (count > 0 && reader->is_busy) {
-        PyErr_SetString(PyExc_RuntimeError, "another call of the reader has not ended");
+        PyErr_SetString(PyExc_RuntimeError, is_busy);
     } else if (count > 0 && reader->has_lost) {
         PyErr_SetString(PyExc_ValueError, "the file failed before, so bytes may be lost");
     } else {

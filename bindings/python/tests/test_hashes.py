@@ -35,6 +35,11 @@ class Hashes(unittest.TestCase):
                 self.assertIs(hashes.verify(found, data), True)
                 self.assertIs(hashes.verify(bytes(found), bytes(data) + b"d"), False)
 
+    def test_constant(self):
+        for names in (hashes.CODES, hashes.NAMES):
+            for call in ("__setitem__", "__delitem__", "update", "clear"):
+                self.assertFalse(hasattr(names, call))
+
     def test_verify(self):
         """A digest that is truncated, longer or different is not that of the data."""
         right = hashes.digest(b"abc", "sha2-256").digest

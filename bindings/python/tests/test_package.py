@@ -1,6 +1,8 @@
 """Wrong arguments, errors, values, costs, the names of the package, README.md's examples."""
 
+import abc
 import array
+import collections.abc
 import copy
 import ctypes
 import doctest
@@ -15,6 +17,7 @@ import resource
 import subprocess
 import sys
 import tempfile
+import typing
 import unittest
 import weakref
 from concurrent.futures import ThreadPoolExecutor
@@ -23,7 +26,7 @@ from unittest.mock import MagicMock
 
 import verified_multihash as vm
 from test_readers import Awaited
-from verified_multihash import Multihash, MultihashError, Status
+from verified_multihash import Multihash, MultihashError, Status, hashes
 
 README = Path(__file__).resolve().parents[1] / "README.md"
 BYTES_CALLS = [
@@ -289,11 +292,37 @@ class Module(unittest.TestCase):
             self.assertEqual(found, (version >= 0x30C0000 > sys.hexversion,) * 2, version)
 
     def test_another_module(self):
-        """A module that the package has not imported knows no error."""
+        """A module that the package has not imported knows no error, or another one."""
         again = importlib.util.module_from_spec(vm._core.__spec__)
         vm._core.__loader__.exec_module(again)
         for call, arguments in ((again.decode, [b""]), (again.head, [b""]), (again.encode, [1 << 63, b""])):
             self.assertRaisesRegex(RuntimeError, "^verified_multihash was not imported$", call, *arguments)
+        generator = type(each for each in ())  # which has no instances
+        for wrong in ((vm.MultihashError, [1]), ("MultihashError", ()), (generator, ())):
+            self.assertRaises(TypeError, again.set_error, *wrong)
+        own = type("Own", (ValueError,), {"__slots__": ("status",)})
+        for statuses, error in (((1,), IndexError), (tuple(range(8)), own)):
+            again.set_error(own, statuses)
+            self.assertRaises(error, again.decode, b"")
+
+    def test_abstract_classes(self):
+        """An abstract class may be a base too: CPython 3.8 has the flag in its own headers, later ones do not."""
+        for kind in (Multihash, vm._core.Reader):
+            self.assertTrue(kind.__flags__ & 1 << 18, "Py_TPFLAGS_HAVE_VERSION_TAG")
+        for kind in (Multihash, vm.MultihashReader, vm.AsyncMultihashReader):
+            own = type("Own", (kind, collections.abc.Sized), {"__len__": id})
+            self.assertTrue(issubclass(own, collections.abc.Sized))
+            self.assertFalse(issubclass(abc.ABCMeta("Other", (), {}), own))
+
+    def test_hints(self):
+        """Tools that evaluate annotations find what they name."""
+        tried = 0
+        for module in (vm, hashes):
+            public = [vars(module)[name] for name in module.__all__]
+            methods = [it for each in public if isinstance(each, type) for it in vars(each).values()]
+            for call in filter(inspect.isfunction, public + methods):
+                tried += "return" in typing.get_type_hints(call)
+        self.assertGreater(tried, 9)
 
     def test_exports(self):
         module = ctypes.CDLL(vm._core.__file__)

@@ -78,7 +78,7 @@ class MultihashError(ValueError):
 
 
 # The library's errors are made by _core, as __init__ does it.
-_core.set_error(MultihashError, tuple(Status), MultihashError.__slots__)
+_core.set_error(MultihashError, tuple(Status))
 
 
 def _shown(number: int) -> str:

@@ -4,6 +4,7 @@ from __future__ import annotations
 
 import hashlib
 import hmac
+from types import MappingProxyType
 from typing import TYPE_CHECKING, Dict, Mapping, Union
 
 from . import Multihash, decode
@@ -27,13 +28,15 @@ def _in_hashlib(name: str) -> str:
 
 
 # The code of each name, and the name of each code.
-CODES: Mapping[str, int] = {
-    "identity": 0,
-    **{name: code for name, code in _CODES.items() if _in_hashlib(name) in hashlib.algorithms_available},
-    **{"blake2b-%d" % (8 * size): 0xB200 + size for size in range(1, 65)},
-    **{"blake2s-%d" % (8 * size): 0xB240 + size for size in range(1, 33)},
-}
-NAMES: Mapping[int, str] = {code: name for name, code in CODES.items()}
+CODES: Mapping[str, int] = MappingProxyType(
+    {
+        "identity": 0,
+        **{name: code for name, code in _CODES.items() if _in_hashlib(name) in hashlib.algorithms_available},
+        **{"blake2b-%d" % (8 * size): 0xB200 + size for size in range(1, 65)},
+        **{"blake2s-%d" % (8 * size): 0xB240 + size for size in range(1, 33)},
+    }
+)
+NAMES: Mapping[int, str] = MappingProxyType({code: name for name, code in CODES.items()})
 
 
 def _hashed(data: Buffer, name: str) -> bytes:
