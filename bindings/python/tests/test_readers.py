@@ -48,10 +48,10 @@ class Readers(unittest.TestCase):
         closed = io.BytesIO(b"\0\0")
         closed.close()
         for call in (vm.MultihashReader, vm.AsyncMultihashReader, vm.read_from):
-            self.assertRaises(AttributeError, call, object())
+            self.assertRaises(TypeError, call, object())
         for kind in self.readers:
-            self.assertRaisesRegex(ValueError, "^not initialized$", kind.__new__(kind).read)
-            self.assertRaisesRegex(ValueError, "^not initialized$", kind.__new__(kind)._keep, b"\1\0")
+            self.assertRaisesRegex(ValueError, "__init__ was not called$", kind.__new__(kind).read)
+            self.assertRaisesRegex(RuntimeError, "has begun$", kind.__new__(kind)._end, b"\1\0")
             self.assertRaisesRegex(ValueError, "closed file", kind(closed).read)
             self.assertRaisesRegex(ValueError, "returned 3 bytes", kind(turns(b"abc")).read)
             self.assertRaises(TypeError, kind(turns(2)).read)
