@@ -19,6 +19,7 @@ builds() {
   env -C "$clone/bindings/python" tee LICENSE multihash_c/multihash.{c,h} \
     tests/{earlier.pyc,{hashes,rows,verdicts}.tsv} src/verified_multihash.egg-info/PKG-INFO < /dev/null
   echo pack.sh > "$clone/bindings/python/src/verified_multihash.egg-info/SOURCES.txt"
+  touch "$clone/bindings/python/src/verified_multihash/_core.abi3.so" # of pip install -e
   [ $UID != 0 ] || chown -R 1:2 "$clone"
   chmod -R g+w "$clone"
   CC="cc $warnings" "$here/pack.sh" "$work/dist" "$(uname -m)"

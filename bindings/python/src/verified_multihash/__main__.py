@@ -57,6 +57,8 @@ def main() -> int:
         return 0
     except OSError:
         pass
+    except MultihashError as error:
+        reason = str(MultihashError(error.status, error.size, error.code))  # the text of mh_show
     except ValueError as error:
         reason = str(error)
     try:
