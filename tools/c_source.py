@@ -108,7 +108,7 @@ class Translation(Program):
                 tags = dict.fromkeys(re.findall(rf"\b{name.upper()}_\w+", "\n".join(code)))
                 payloads = [it for it in lines[3:-1] if uses(re.findall(r"\w+", it)[1], code)]
                 lines[1:-1] = [f"enum {{ {', '.join(tags)} }};", "", *lines[1:3], *payloads]
-        about = "/* Made by tools/generate from the proved source in crates/: not to be edited. */\n\n"
+        about = "/* Written by tools/generate from the proved functions in crates/. Edit these instead. */\n\n"
         names = {name: made.name for (_, name), made in self.made.items()}
         code = [re.sub(r"`(\w+)`", lambda found: f"`{names.get(str(found[1]), found[1])}`", line) for line in code]
         typed = [line for lines in self.types.values() for line in lines]

@@ -1,4 +1,5 @@
-/* What tools/c_source.py writes before the functions: what they need of Rust's library, by its names. */
+/* The library for C, in one file beside multihash.h. What is `Proved:` before a function or a statement is proved of
+ * each call: so no test of it is left. First comes what the functions need of Rust's library, by its names. */
 #include "multihash.h"
 
 #include <stdbool.h>
