@@ -59,10 +59,10 @@ in_project() {
   { printf '%s\n' "$(grep ^cmake_minimum_required CMakeLists.txt)" 'project(example VERSION 7 LANGUAGES C)' \
     'add_executable(program ${source})'; cat; } > "$to/CMakeLists.txt"
   for kind in shared static; do
-    cmake -S "$to" -B "$to/$kind" -Dsource="$c/examples/show.c" -Dkind=$kind \
+    cmake -S "$to" -B "$to/$kind" -Dsource="$c/examples/mh_show.c" -Dkind=$kind \
       -DBUILD_SHARED_LIBS="$([ $kind = static ] || echo ON)" "${@:2}"
     cmake --build "$to/$kind"
-    "$to/$kind/program" | diff - "$expected"
+    "$to/$kind/program" < crates/mh_show/stdin | diff - "$expected"
   done
 }
 
@@ -76,7 +76,7 @@ by_subdirectory() {
   has_flags "$to/prefix" lib
   grep "^set(PACKAGE_VERSION \"$version\")" "$to"/prefix/lib/cmake/multihash_c/*-version.cmake
   (cd "$to/prefix"; find . ! -type d | sort) |
-    diff <(files_in lib | sed -E '/\/share\/|\.so/d; s/-release/-noconfig/' | sort) -
+    diff <(files_in lib | sed -E '/\/(bin|share)\/|\.so/d; s/-release/-noconfig/' | sort) -
 }
 
 # As the page says, over what find_package finds. A later minor version is compatible, an earlier major one is not.

@@ -32,6 +32,7 @@ builds_for_windows() {
   local -x WINEPREFIX=$work/wine WINEDEBUG=-all
   build windows -DCMAKE_SYSTEM_NAME=Windows -DCMAKE_C_COMPILER=x86_64-w64-mingw32-gcc -DCMAKE_C_FLAGS="${c_flags[*]}" \
     -DCMAKE_CROSSCOMPILING_EMULATOR=wine
+  wine "$work/windows/mh_show.exe" < crates/mh_show/stdin | diff --strip-trailing-cr - "$expected"
   { wineserver -k || true; }
 }
 
@@ -39,13 +40,30 @@ builds_for_windows() {
 # the shared library. Without tests none are built, and without Python no man pages.
 with_flags() {
   CFLAGS="-fvisibility=hidden -fno-pie -g3" LDFLAGS=-Wl,--build-id=0x01234567 cmake -S "$top" -B "$work/flags" \
-    -DBUILD_TESTING=OFF -DCMAKE_DISABLE_FIND_PACKAGE_Python3=ON
+    -DCMAKE_EXE_LINKER_FLAGS=-no-pie -DBUILD_TESTING=OFF -DCMAKE_DISABLE_FIND_PACKAGE_Python3=ON
   prints '-fvisibility=hidden -fno-pie -g3 -O3 -DNDEBUG ' cmake --build "$work/flags" --verbose
   exports_exactly "$work/flags/libmultihash_c.so" bindings/c/src/multihash_c.map
   prints 'Build ID: 01234567' readelf -n "$work/flags/libmultihash_c.so"
   rejects 'No tests were found' build flags
   cmake --install "$work/flags" --prefix "$work/no pages"
   [ ! -e "$work/no pages/$man" ]
+}
+
+# The variables that a project sets before it adds the repository count each time that it is configured.
+has_options_of_project() {
+  local to=$work/project
+  mkdir "$to"
+  cc -c -xc /dev/null -o "$to/own.o"
+  ar rc "$to/own.a" "$to/own.o"
+  printf '%s\n' "$(grep ^cmake_minimum_required CMakeLists.txt)" 'project(project LANGUAGES C)' \
+    "set(MULTIHASH_C_ARCHIVE \"$to/own.a\")" 'set(MULTIHASH_C_SHARED OFF)' \
+    "add_subdirectory(\"$top\" multihash_c)" > "$to/CMakeLists.txt"
+  for _ in first second; do
+    cmake -S "$to" -B "$to/built"
+    cmake --build "$to/built"
+    cmp "$to"/{own.a,built/multihash_c/libmultihash_c.a}
+    [ ! -e "$to/built/multihash_c/libmultihash_c.so" ]
+  done
 }
 
 # By a generator of several configurations, each of which has a name of the library.
@@ -61,6 +79,7 @@ has_configurations() {
   paste -sd ' ' "$work/names" | tr -s ' ' | diff <(echo "-lmultihash_cd -lmultihash_c ") -
 }
 
+needs="ar cmake=3.21+" try "options of a project" has_options_of_project
 needs="ninja pkg-config" try "several configurations" has_configurations
 needs=clang try "other systems" systems
 try "flags of a distribution" with_flags

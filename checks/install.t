@@ -14,6 +14,7 @@ installs() {
   readelf -d "$work"/built/*_test | grep -cF "[libmultihash_c.so.$major]" | diff - <(echo 1)
   cmake --install "$work/built"
   is_installed "$prefix" lib
+  "$prefix/bin/mh_show" < crates/mh_show/stdin | diff - "$expected"
   eval "echo $(PKG_CONFIG_PATH=$prefix/lib/pkgconfig pkg-config --variable=prefix multihash_c)" |
     diff - <(echo "$prefix")
 }
@@ -22,18 +23,19 @@ installs() {
 # another one here. The folder of the build has a name that a shell would not read as one word.
 installs_below() {
   local -x PKG_CONFIG_SYSROOT_DIR=below # from the work folder: pkg-config escapes no blank of it
-  local include=headers/c document=pages/c man=manual to=/opt/multihash
+  local bin=other/bin include=headers/c document=pages/c man=manual to=/opt/multihash
   build "built (64)" -DMULTIHASH_C_PROGRAM="$(type -P true)" \
     -DCMAKE_INSTALL_{PREFIX=$to,LIBDIR=$to/lib/64,INCLUDEDIR=$to/$include,DOCDIR=$to/$document,MANDIR=$to/$man} \
-    -DCMAKE_INSTALL_BINDIR=$to/other/bin
+    -DCMAKE_INSTALL_BINDIR=$to/$bin
   DESTDIR=$work/below cmake --install "$work/built (64)"
-  is_installed "$work/below$to" lib/64 other/bin/mh_show "$man/man1/mh_show.1"
+  is_installed "$work/below$to" lib/64
+  cmp "$(type -P true)" "$work/below$to/$bin/mh_show"
   (cd "$work"; installed_test "$work/below$to")
 }
 
-# Under a name for debugging, by a compiler whose default is C90.
+# Under a name for debugging, by a compiler whose default is C90, with the sources of each target as one unit.
 debug_build() {
-  build debug -DCMAKE_C_STANDARD=90 -DCMAKE_BUILD_TYPE=Debug -DCMAKE_DEBUG_POSTFIX=d \
+  build debug -DCMAKE_C_STANDARD=90 -DCMAKE_BUILD_TYPE=Debug -DCMAKE_DEBUG_POSTFIX=d -DCMAKE_UNITY_BUILD=ON \
     -DCMAKE_INSTALL_PREFIX="$work/debug.prefix"
   cmake --install "$work/debug"
   [ -e "$work/debug.prefix/lib/libmultihash_cd.a" ]
@@ -61,8 +63,8 @@ packs() {
   mv "$prefix" "$work/moved"
   works "$work/un packed built" lib
   cmp "$archive" "$work/un packed other/lib/other/libmultihash_c.a"
-  local include=headers/c document=pages/c man=manual
-  works "$work/un packed other" lib/other other/bin/mh_show manual/man1/mh_show.1
+  local bin=other/bin include=headers/c document=pages/c man=manual
+  works "$work/un packed other" lib/other
   mv "$work/moved" "$prefix"
 }
 

@@ -4,7 +4,7 @@
 It runs each by itself while its Nth allocation fails, N counted upwards until it makes fewer. A test in which one
 failed, and that found all as it should be, fails with FAILED; mh_show has to print that it is out of memory, and
 nothing else. Each run has to free what it allocated. memory.c, which is loaded before malloc, makes allocations fail
-and counts them. The programs are those that 'rt ci' built, if BUILT says so; otherwise they are built here.
+and counts them. The programs are those that 'rt ci' built in the same run of .ci/run; otherwise they are built here.
 """
 import os
 import re

@@ -1,5 +1,6 @@
 #!/usr/bin/env python3
 """Runs README.md's commands and programs, and the programs of the languages' pages, by lib/start.py."""
+import re
 import subprocess
 import sys
 import tempfile
@@ -13,13 +14,12 @@ from start import FENCE, LANGUAGES, SHOWN, TOP
 
 
 def command_errors(readme: str, copy: Path) -> Iterator[str]:
-    """Runs the commands of README.md, each of which prints what mh_show prints."""
+    """Runs the commands of README.md. Those that read a line print what mh_show prints."""
     shown = (TOP / "crates/mh_show/stdout").read_text("utf-8")
-    commands = "".join(body for language, body in FENCE.findall(readme) if language == "sh").splitlines()
-    for command in commands:
-        ran = subprocess.run(["bash", "-c", command], cwd=copy, capture_output=True, text=True)
-        if ran.returncode != 0 or ran.stdout != shown:
-            yield f"{command}: status {ran.returncode}, printed {ran.stdout!r}, {ran.stderr[-300:]!r}"
+    commands = "".join(body for language, body in FENCE.findall(readme) if language == "sh")
+    ran = subprocess.run(["bash", "-exc", commands], cwd=copy, capture_output=True, text=True)
+    if ran.returncode != 0 or ran.stdout != shown * len(re.findall(" [<|] ", commands)):
+        yield f"status {ran.returncode}, printed {ran.stdout!r}, {ran.stderr[-900:]}"
 
 
 def row_errors(readme: str) -> Iterator[str]:

@@ -35,9 +35,10 @@ has_files() {
   cd "$1"
   are_plain
   sha256sum --check --strict --quiet SHA256SUMS
-  printf '%s\n' libmultihash-c{"$major",-dev}_"$version-1"_{amd64,arm64}.deb "multihash-$version".{spdx.json,tar.gz} \
+  printf '%s\n' {libmultihash-c{"$major",-dev},mh-show}_"$version-1"_{amd64,arm64}.deb \
+    "multihash-$version".{spdx.json,tar.gz} \
     "multihash-$upstream.crate" "multihash_c-$version-"{aarch64,source,x86_64}.tar.gz \
-    "verified-multihash-$version.tgz" "verified_multihash-$version.tar.gz" \
+    "verified-multihash-$version."{crate,tgz} "verified_multihash-$version.tar.gz" \
     "verified_multihash-$version-cp3$minor-abi3-manylinux2014_"{aarch64,x86_64}.whl | sort > "$work/files"
   sed 's/^[^ ]*  //' SHA256SUMS | sort | diff "$work/files" -
   find . -mindepth 1 -printf '%P\n' | grep -vx SHA256SUMS | sort | diff "$work/files" -
@@ -84,7 +85,7 @@ END
     dpkg-deb --fsys-tarfile "$package" | tar -xO --wildcards '*/changelog.Debian.gz' | zcat | sed -n 's/>  .*/>/p'
     tar -xOf "$packed.tar.gz" "$packed/lib/pkgconfig/multihash_c.pc" | grep ^URL
     tar -xOf "verified-multihash-$version.tgz" package/package.json | grep '"repository"'
-    tar -xOf "multihash-$upstream.crate" "multihash-$upstream/Cargo.toml" | grep '^repository'
+    tar -xOf "verified-multihash-$version.crate" "verified-multihash-$version/Cargo.toml" | grep '^repository'
   } | diff - "$work/wanted"
 }
 

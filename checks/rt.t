@@ -7,6 +7,8 @@
 passes() {
   mkdir "$work/ran"
   rt ci < /dev/null 2>&1 | tee "$work/ran/out"
+  # For the checks that read what it built.
+  [ -z "${KEPT-}" ] || touch "$KEPT/built"
 }
 
 # A line for each crate with tests, and their number: in the sources, and as 'rt ci' ran them.

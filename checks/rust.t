@@ -1,6 +1,6 @@
 #!/usr/bin/env bash
-# The tests of the package for Rust: with other versions and on other targets, of drawn inputs beside the library for C,
-# and over faults.
+# The tests of the packages for Rust: with other versions and on other targets, and of drawn inputs beside the library
+# for C.
 # shellcheck source=checks/lib/tap.sh
 . "$(dirname "$0")/lib/tap.sh"
 # shellcheck source=checks/lib/rust.sh
@@ -10,29 +10,36 @@ core=$rust/src/rust/library/core
 
 # The tests pass, optimized too, and the pages have no warnings.
 rust_tests() {
-  in_crate cargo doc --no-deps --features serde
-  tests cargo test
-  tests cargo test --features serde --release
+  in_crate verified-multihash cargo doc --no-deps
+  in_crate multihash cargo doc --no-deps --features serde
+  all_tests cargo test
+  tests verified-multihash cargo test --release
+  tests multihash cargo test --features serde --release
 }
 
 without_std() {
-  tests cargo test --no-default-features
-  tests cargo test --no-default-features --features alloc
+  all_tests cargo test --no-default-features
+  all_tests cargo test --no-default-features --features alloc
 }
 
-# The package and the library for C have the results of a list. In a build for debugging sums that overflow are errors.
+debians_rust() {
+  tests verified-multihash PATH=/usr/bin:/bin CARGO_TARGET_DIR="$work/debian" cargo test
+  tests multihash PATH=/usr/bin:/bin CARGO_TARGET_DIR="$work/debian" cargo test --features serde
+}
+
+# The packages and the library for C have the results of a list. In a build for debugging sums that overflow are errors.
 beside_c() {
   cc -O2 -I bindings/c/include bindings/c/tests/{test,verdicts,models,draws,buffer}.c bindings/c/src/multihash.c -o "$work/c"
   prints "$(sed 1d "$work/list" | wc -l) lines" "$work/c" "$work/list" 0 0 vectors
-  tests MULTIHASH_VERDICTS="$work/list" cargo test --test vectors
-  tests MULTIHASH_VERDICTS="$work/list" cargo test --test vectors --release
+  all_tests MULTIHASH_VERDICTS="$work/list" cargo test --test vectors
+  all_tests MULTIHASH_VERDICTS="$work/list" cargo test --test vectors --release
 }
 
 # The list and the other tests on a target with another byte order or word: by an emulator.
 beside_on_target() {
   local variable=CARGO_TARGET_${1^^}
   variable=${variable//-/_}
-  tests RUSTFLAGS="-C target-feature=+crt-static" MULTIHASH_VERDICTS="$work/list" "${variable}_LINKER=$2" \
+  all_tests RUSTFLAGS="-C target-feature=+crt-static" MULTIHASH_VERDICTS="$work/list" "${variable}_LINKER=$2" \
     "${variable}_RUNNER=$3" cargo test --target "$1" --tests
 }
 
@@ -52,10 +59,11 @@ on_target() {
   local target=$1 type=$2 linker=() to=$work/target/$1/release
   [ "$type" != cdylib ] || linker=(-C linker=wasm-ld)
   compgen -G "$rust/$target/lib/libcore-*.rlib" || make_core "$target"
-  in_crate RUSTFLAGS="-L $to/deps" cargo build --release --no-default-features --target "$target"
+  in_crate multihash RUSTFLAGS="-L $to/deps" cargo build --release --no-default-features --target "$target"
   MULTIHASH_VERDICTS=$work/list rustc --edition 2021 -D warnings -O --target "$target" bindings/rust/tests/target.rs \
-    --crate-type "$type" --extern multihash="$to/libmultihash.rlib" -L "$to/deps" -C panic=abort -o "$work/vectors" \
-    "${linker[@]}"
+    --crate-type "$type" --extern multihash="$to/libmultihash.rlib" \
+    --extern verified_multihash="$(echo "$to"/deps/libverified_multihash-*.rlib)" -L "$to/deps" -C panic=abort \
+    -o "$work/vectors" "${linker[@]}"
   "${@:3}" | diff - <(sed 1d "$work/list" | wc -l)
 }
 
@@ -97,8 +105,7 @@ core_of() { compgen -G "$core/src/lib.rs" || echo "$rust/$1/lib/libcore-*.rlib";
 crates/vectors/verdicts.py --more 1 10000 > "$work/list"
 needs=$cargo try "the tests" rust_tests
 needs=$bare try "the tests without std" without_std
-needs="/usr/bin/cargo /usr/bin/rustc $crates" try "the tests with Debian's Rust" \
-  tests PATH=/usr/bin:/bin CARGO_TARGET_DIR="$work/debian" cargo test --features serde
+needs="/usr/bin/cargo /usr/bin/rustc $crates" try "the tests with Debian's Rust" debians_rust
 needs="$cargo cc" try "drawn inputs, beside the library for C" beside_c
 test_targets
 finish

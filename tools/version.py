@@ -25,6 +25,8 @@ LINES = (
     ("bindings/js/core.js", "export const version = '{version}';"),
     ("bindings/js/package.json", '"version": "{version}",'),
     ("bindings/python/src/verified_multihash/__init__.py", '__version__ = "{version}"'),
+    ("bindings/rust/verified-multihash/Cargo.toml", '\nversion = "{version}"\n'),
+    ("bindings/rust/multihash/Cargo.toml", '\nverified-multihash = {{ version = "{version}", '),
     ("crates/multihash_c/specs/Version.antt", "\nmajor = {major}\n"),
     ("crates/multihash_c/specs/Version.antt", "\nminor = {minor}\n"),
     ("crates/multihash_c/specs/Version.antt", "\npatch = {patch}\n"),

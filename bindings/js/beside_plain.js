@@ -8,7 +8,7 @@ const ROUNDS = 300;
 const CALLS = 100;
 const { MultihashError } = ours;
 const fail = (status, details) => {
-  throw new MultihashError(status, details);
+  throw new MultihashError('plain', { status, ...details });
 };
 
 // ---- plain JavaScript
@@ -25,8 +25,9 @@ class Multihash {
     return new Multihash(code, digest.slice());
   }
 
+  #bytes;
   get bytes() {
-    return encode(this.code, this.digest);
+    return (this.#bytes ??= encode(this.code, this.digest));
   }
 
   equals(other) {
@@ -106,6 +107,8 @@ function encode(code, digest) {
 }
 
 function compare(left, right) {
+  if (!(left instanceof Multihash && right instanceof Multihash)) throw new TypeError('multihashes');
+  if (left.size !== left.digest.length || right.size !== right.digest.length) throw new TypeError('digests');
   if (left.code !== right.code) return left.code < right.code ? -1 : 1;
   if (left.size !== right.size) return left.size < right.size ? -1 : 1;
   for (let index = 0; index < left.size; index++) {
@@ -122,9 +125,14 @@ const plain = { Multihash, compare, decode, encode, encodedLength, head, read };
 const digest = new Uint8Array(32).map((_, index) => index * 7);
 const bytes = Uint8Array.of(18, 32, ...digest);
 const long = Uint8Array.of(18, 255, 1, ...new Uint8Array(255).fill(7));
+const random = Array.from({ length: 256 }, () => crypto.getRandomValues(new Uint8Array(32)));
+const like = random.map((each) => Uint8Array.of(...random[0].subarray(0, 31), each[31])); // differ in the last byte
 
 function callsOf(library) {
   const [left, right, cut] = [library.decode(bytes), library.decode(bytes), bytes.subarray(0, 20)];
+  const [unlike, alike] = [random, like].map((digests) => digests.map((each) => library.Multihash.of(18, each)));
+  let at = 0;
+  const next = (all, call) => call(all[at % 256], all[(at = (at + 1) % 256)]);
   return {
     '`decode` of 34 bytes': () => library.decode(bytes),
     '`decode` of 258 bytes': () => library.decode(long),
@@ -132,10 +140,13 @@ function callsOf(library) {
     '`head`': () => library.head(bytes),
     '`encode` of 32 bytes': () => library.encode(18, digest),
     '`encodedLength`': () => library.encodedLength(18, 32),
-    '`compare`': () => library.compare(left, right),
+    '`compare` of equal digests': () => library.compare(left, right),
+    '`compare` of random digests': () => next(unlike, library.compare),
+    '`compare` of digests with 31 equal bytes': () => next(alike, library.compare),
     '`Multihash.of`': () => library.Multihash.of(18, digest),
-    '`bytes`': () => left.bytes,
-    '`equals`': () => left.equals(right),
+    '`Multihash.of` and `bytes`': () => library.Multihash.of(18, digest).bytes,
+    '`equals` of equal digests': () => left.equals(right),
+    '`equals` of random digests': () => next(unlike, (one, other) => one.equals(other)),
     '`toJSON`': () => left.toJSON(),
     'an error': () => errorOf(library, cut),
   };
@@ -162,7 +173,7 @@ function agree(what, ...calls) {
     try {
       return JSON.stringify(call());
     } catch (error) {
-      return JSON.stringify([error.name, error]);
+      return JSON.stringify([error.name, { ...error }]);
     }
   });
   same(...texts, what);
@@ -170,7 +181,7 @@ function agree(what, ...calls) {
 const both = (what, call) => agree(what, () => call(ours), () => call(plain));
 
 const [mine, theirs] = [callsOf(ours), callsOf(plain)];
-for (const name of Object.keys(mine)) agree(name, mine[name], theirs[name]);
+for (const name of Object.keys(mine)) if (name !== 'an error') agree(name, mine[name], theirs[name]);
 for (const [code, ...rest] of [[17, 5, 6], [19, 5, 6], [18, 5], [18, 5, 6, 7], [18, 4, 7], [18, 5, 7]]) {
   both(`order of ${code}, ${rest}`, (library) => {
     const one = library.Multihash.of(18, Uint8Array.of(5, 6));

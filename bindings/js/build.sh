@@ -1,7 +1,7 @@
 #!/usr/bin/env bash
-# Builds multihash.wasm from crates/multihash_c, by wasm-opt (Binaryen), and from it bytes.js and a line of demo.html.
+# Builds multihash.wasm from crates/multihash_c, by wasm-opt (Binaryen), and from it bytes.js.
 #
-#   bindings/js/build.sh            writes the three files
+#   bindings/js/build.sh            writes both files
 #   bindings/js/build.sh --check    builds them elsewhere, and compares them byte for byte with those here, and
 #                                   the module's instructions with those that were linked. Needs wasm2wat (WABT)
 #
@@ -68,23 +68,11 @@ differs_in_wraps() {
   diff <(echo $((linked + operands))) <(echo "$lowered")
 }
 
-# demo.html, whose function `load` has the code of core.js on one line, without its comments, over the module's bytes.
-build_page() {
-  {
-    sed -e '/^ *\/\*\*.*\*\/$/d' -e 's/\(^\| \+\)\/\/ .*$//' -e 's/^export //' -e 's/^ *//' "$here/core.js" |
-      tr '\n' ' '
-    printf "connect(Uint8Array.from(atob('%s'), (letter) => letter.charCodeAt(0)));\n" "$(base64 -w 0 "$1")"
-  } > "$work/module.js"
-  sed -e "/^function load() {$/{n;r $work/module.js" -e 'd}' "$here/demo.html"
-}
-
 build_into() {
   "$top/tools/link_wasm" "$work/linked.wasm"
   lower_wasm "$work/linked.wasm" "$1/multihash.wasm"
   printf "// Made by build.sh: multihash.wasm in base64.\nexport default '%s';\n" "$(base64 -w 0 "$1/multihash.wasm")" \
     > "$1/bytes.js"
-  build_page "$1/multihash.wasm" > "$work/demo.html"
-  cp "$work/demo.html" "$1"
 }
 
 case $* in
@@ -95,7 +83,7 @@ case $* in
     differs_in_wraps "$work/linked.wasm" "$work/new/multihash.wasm"
     (cd "$work/new"; sha256sum -- *) | (cd "$here"; sha256sum --check --quiet) ||
       { echo "not what bindings/js/build.sh writes" >&2; exit 1; }
-    echo "multihash.wasm, bytes.js and demo.html are the same, byte for byte"
+    echo "multihash.wasm and bytes.js are the same, byte for byte"
     ;;
   *)
     sed -n '2,/^[^#]/s/^# \{0,1\}//p' "${BASH_SOURCE[0]}" >&2

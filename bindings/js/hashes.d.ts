@@ -1,27 +1,39 @@
-// Hash functions of WebCrypto. A program also imports an entry, such as 'verified-multihash'.
-import type { Multihash } from './index.js';
+// Hash functions of node:crypto, or of WebCrypto in browsers.
+import type { ByteStream, Multihash, MultihashDigest } from './index.js';
 
-/** The code of each function here by its name in the multicodec table. */
+/** The codes of the hash functions in the multicodec table, by their names. */
 export const CODES: Readonly<Record<string, number | undefined>>;
-/** The name of each code. */
+/** The names of these functions, by their codes. */
 export const NAMES: Readonly<Record<number, string | undefined>>;
+
+/** What is hashed: bytes, or the chunks of a stream, such as `createReadStream(path)` or `blob.stream()`. */
+export type Content = Uint8Array | ByteStream | AsyncIterable<Uint8Array>;
 
 /** A hash function, with the properties of `MultihashHasher` in js-multiformats. */
 export interface MultihashHasher<Code extends number = number> {
   readonly name: string;
   readonly code: Code;
-  /** Returns the multihash of the bytes, with the first `truncate` bytes of the digest if that is given. */
-  digest(bytes: Uint8Array, options?: { truncate?: number }): Promise<Multihash<Code>>;
+  /**
+   * Returns the multihash of the content, with the first `truncate` bytes of the digest if that is given. The memory
+   * of content above 1 MiB must not change until then. A browser holds a whole stream in memory.
+   */
+  digest(content: Content, options?: { truncate?: number }): Promise<Multihash<Code>>;
 }
 
-/** The bytes themselves, at most 255 of them, are the digest. */
+/**
+ * The functions that this platform has, by their names: in Node.js those of its OpenSSL, in browsers SHA-1 and SHA-2;
+ * in both `identity` and `dbl-sha2-256`.
+ */
+export const hashers: Readonly<Record<string, MultihashHasher | undefined>>;
+/** The content itself, at most 255 bytes, is the digest. */
 export const identity: MultihashHasher<0>;
 export const sha256: MultihashHasher<0x12>;
 export const sha384: MultihashHasher<0x20>;
 export const sha512: MultihashHasher<0x13>;
 
 /**
- * Returns whether a multihash, or its encoding, is that of the bytes by a function above; false for a truncated digest.
- * Another code is a `RangeError`. The time for digests of equal lengths does not depend on their bytes.
+ * Returns whether a multihash, or its encoding, is that of the content. Returns false for a truncated digest. Throws a
+ * `RangeError` if the platform does not have the function. The time for digests of equal lengths does not depend on
+ * their bytes.
  */
-export function verify(multihash: Multihash | Uint8Array, bytes: Uint8Array): Promise<boolean>;
+export function verify(multihash: MultihashDigest | Uint8Array, content: Content): Promise<boolean>;

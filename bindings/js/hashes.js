@@ -1,51 +1,155 @@
-// Hash functions of WebCrypto, which make and verify multihashes. A program also imports an entry, which connects
-// core.js.
-import { DIGEST_MAX, Multihash, checkedLength, decode } from './core.js';
+// Hash functions of node:crypto or WebCrypto, which make and verify multihashes.
+import { bufferOf, checkedLength, checkedOptions, isBytes, viewOf, wrongType } from './arguments.js';
+import { CODES, NAMES } from './codes.js';
+import { DIGEST_MAX, Multihash, decode, encodedLength } from './core.js';
+import { sourceOf } from './sources.js';
 
-/** The code of each function here by its name in the multicodec table. */
-export const CODES = { __proto__: null };
-/** The name of each code. */
-export const NAMES = { __proto__: null };
-const algorithms = { __proto__: null }; // of WebCrypto, by code; that of identity is empty
+export { CODES, NAMES };
 
-function hasher(name, code, algorithm) {
-  CODES[name] = code;
-  NAMES[code] = name;
-  algorithms[code] = algorithm;
+// Absent in browsers. Bundlers follow no `import` here.
+const node = globalThis.process?.getBuiltinModule?.('node:crypto');
+
+const PIECE = node ? 2 ** 20 : Infinity; // bytes that are hashed at once: WebCrypto hashes in a thread of its own
+const later = () => new Promise((resolve) => globalThis.setImmediate(resolve));
+
+/** Hashes pieces with a function of node:crypto. */
+function byNode(algorithm, outputLength) {
+  const hash = node.createHash(algorithm, outputLength && { outputLength });
+  return { update: (piece) => hash.update(piece), digest: () => new Uint8Array(hash.digest()) };
+}
+
+/** Hashes pieces with WebCrypto, which needs all of them at once, not in shared or resizable memory. */
+function byWeb(algorithm) {
+  const pieces = [];
+  return {
+    update(piece) {
+      const buffer = bufferOf.call(piece);
+      pieces.push(buffer instanceof ArrayBuffer && !buffer.resizable ? piece : new Uint8Array(piece));
+    },
+    async digest() {
+      const { subtle } = globalThis.crypto ?? {};
+      if (!subtle) throw new TypeError('WebCrypto is missing: a page has it only over HTTPS or on localhost');
+      const whole = pieces.length === 1 ? pieces[0] : await new Blob(pieces).arrayBuffer();
+      return new Uint8Array(await subtle.digest(algorithm, whole));
+    },
+  };
+}
+
+/** The content itself, or an object with its length if that is the length of no digest. */
+function byNothing() {
+  const content = new Uint8Array(DIGEST_MAX);
+  let length = 0;
+  return {
+    update(piece) {
+      if (length + piece.length <= DIGEST_MAX) content.set(piece, length);
+      length += piece.length;
+    },
+    digest: () => (length > DIGEST_MAX ? { length } : content.slice(0, length)),
+  };
+}
+
+/** Hashes the digest of the pieces. */
+function twice(begin) {
+  const hash = begin();
+  return {
+    update: hash.update,
+    async digest() {
+      const second = begin();
+      second.update(await hash.digest());
+      return second.digest();
+    },
+  };
+}
+
+/** The digest of bytes, or of the chunks of a source. */
+async function digestOf(begin, content) {
+  const hash = begin();
+  if (isBytes(content)) {
+    const length = checkedLength(content, 'content');
+    if (length === 0) new Uint8Array(content); // throws a TypeError if they are detached
+    for (let at = 0; at === 0 || at < length; at += PIECE) {
+      if (at > 0) await later();
+      hash.update(viewOf(content, at, Math.min(PIECE, length - at)));
+    }
+    return hash.digest();
+  }
+  const source = sourceOf(content, 'content', 'a Uint8Array, ');
+  try {
+    for (let chunk; !(chunk = await source.next()).done; ) {
+      checkedLength(chunk.value, 'a chunk of the content');
+      hash.update(new Uint8Array(chunk.value)); // a copy, since sources may use their memory again
+    }
+  } catch (error) {
+    await (async () => source.close())().catch(() => {}); // the first error is the one to know
+    throw error;
+  }
+  source.release();
+  return hash.digest();
+}
+
+/** What begins to hash with a function, or undefined if the platform does not have it. */
+function beginningOf(name, available) {
+  if (name === 'identity') return byNothing;
+  if (name === 'dbl-sha2-256') return () => twice(beginnings['sha2-256']);
+  if (!node) {
+    const algorithm = name.replace(/^sha2?-?/, 'SHA-');
+    return /^SHA-(1|256|384|512)$/.test(algorithm) ? () => byWeb(algorithm) : undefined;
+  }
+  const algorithm = name.replace('sha2-', 'sha').replace(/^(shake|ripemd|blake2.)-/, '$1').replace('sm3-256', 'sm3');
+  const length = { __proto__: null, shake128: 32, shake256: 64 }[algorithm];
+  return available.includes(algorithm) ? () => byNode(algorithm, length) : undefined;
+}
+
+const beginnings = { __proto__: null };
+const available = node?.getHashes();
+for (const name of Object.keys(CODES)) {
+  const begin = beginningOf(name, available);
+  if (begin) beginnings[name] = begin;
+}
+
+function hasher(name) {
+  const code = CODES[name];
   return Object.freeze({
     name,
     code,
-    async digest(bytes, { truncate } = {}) {
-      const whole = await digestOf(algorithm, bytes);
+    async digest(content, options = {}) {
+      const { truncate } = checkedOptions(options);
+      const whole = await digestOf(beginnings[name], content);
+      if (whole.length > DIGEST_MAX) encodedLength(code, whole.length); // throws
       const size = truncate ?? whole.length;
-      if (!Number.isInteger(size) || size < 0 || size > whole.length) throw new RangeError('truncate is out of range');
+      if (!Number.isInteger(size) || size < 0 || size > whole.length)
+        throw new RangeError(`truncate must be a whole number from 0 to ${whole.length}, got ${String(size)}`);
       return Multihash.of(code, whole.subarray(0, size));
     },
   });
 }
 
-async function digestOf(algorithm, bytes) {
-  const length = checkedLength(bytes);
-  if (length === 0) new Uint8Array(bytes); // throws a TypeError if they are detached, which WebCrypto takes for none
-  if (algorithm !== '') return new Uint8Array(await crypto.subtle.digest(algorithm, bytes));
-  return length > DIGEST_MAX ? bytes : new Uint8Array(bytes); // what is too long is no digest, and not copied
+/** The functions that this platform has, by their names. */
+export const hashers = { __proto__: null };
+for (const name of Object.keys(beginnings)) hashers[name] = hasher(name);
+Object.freeze(hashers);
+export const { identity, 'sha2-256': sha256, 'sha2-384': sha384, 'sha2-512': sha512 } = hashers;
+
+/** The code and the digest that are claimed. */
+function claimOf(multihash) {
+  if (isBytes(multihash)) return decode(multihash);
+  if (multihash instanceof Multihash) return multihash;
+  if (!isBytes(multihash?.digest)) throw wrongType('multihash', 'a Multihash or its encoding', multihash);
+  return Multihash.of(multihash.code, multihash.digest);
 }
 
-export const identity = hasher('identity', 0, '');
-export const sha256 = hasher('sha2-256', 0x12, 'SHA-256');
-export const sha384 = hasher('sha2-384', 0x20, 'SHA-384');
-export const sha512 = hasher('sha2-512', 0x13, 'SHA-512');
-Object.freeze(CODES);
-Object.freeze(NAMES);
-
 /**
- * Returns whether a multihash, or its encoding, is that of the bytes. The time for digests of equal lengths does not
+ * Returns whether a multihash, or its encoding, is that of the content. The time for digests of equal lengths does not
  * depend on their bytes.
  */
-export async function verify(multihash, bytes) {
-  const { code, digest } = multihash instanceof Multihash ? multihash : decode(multihash);
-  if (!(code in algorithms)) throw new RangeError(`no function here has the code 0x${code.toString(16)}`);
-  const wanted = await digestOf(algorithms[code], bytes);
+export async function verify(multihash, content) {
+  const { code, digest } = claimOf(multihash);
+  const begin = beginnings[NAMES[code]];
+  if (!begin) {
+    const name = NAMES[code] ? ` (${NAMES[code]})` : '';
+    throw new RangeError(`this platform has no function for the code 0x${code.toString(16)}${name}`);
+  }
+  const wanted = await digestOf(begin, content);
   if (digest.length === 0) new Uint8Array(digest); // throws a TypeError if it is detached
   if (digest.length !== wanted.length) return false;
   let difference = 0;

@@ -1,60 +1,63 @@
-/** The most bytes of a digest. */
+export * from './hashes.js';
+
+/** The maximum length of a digest, in bytes. */
 export const DIGEST_MAX: 255;
-/** The most bytes of the two varints before a digest. */
+/** The maximum length of the two varints before a digest, in bytes. */
 export const HEAD_MAX: 18;
-/** The most bytes of an encoding. */
+/** The maximum length of an encoding, in bytes. */
 export const LENGTH_MAX: 266;
-/** The most bytes of a SCALE form. */
+/** The maximum length of a SCALE encoding, in bytes. */
 export const SCALE_LENGTH_MAX: 264;
-/** The version of the library: three numbers with dots between them. */
+/** The version of the library: three numbers separated by dots. */
 export const version: string;
 
 /**
- * A whole number of 64 bits. A result is a `number` up to `Number.MAX_SAFE_INTEGER`, else a `bigint`. An
- * argument may be a `bigint` of any size in range, or a safe integer.
+ * A whole number of 64 bits. A result is a `number` up to `Number.MAX_SAFE_INTEGER`, and a `bigint` above. An argument
+ * is a safe integer, or a `bigint`.
  */
 export type Wide = number | bigint;
 
 /** Why a call failed. */
 export type Status =
-  | 'insufficient' // the input ends within or before a varint
-  | 'overflow' // a varint has more than nine bytes, as every number of 2^63 or more needs
+  | 'insufficient' // the input ends before or inside a varint
+  | 'overflow' // a varint has more than nine bytes; numbers of 2^63 and above do
   | 'not_minimal' // a varint of more than one byte ends in a zero byte
-  | 'invalid_size' // a digest is too long: `size` is its length; or bytes follow the encoding: `size` is their number
+  | 'invalid_size' // the digest is too long, and `size` is its length; or `size` bytes follow the multihash
   | 'invalid_code' // `code` is 2^63 or more
-  | 'unexpected_eof' // the input ends within the digest, or before it in the SCALE form
-  | 'no_room'; // an output is too short: no function here returns it
+  | 'unexpected_eof' // the input ends inside the digest or, in SCALE, before it
+  | 'not_hexadecimal'; // a text is not an even number of hexadecimal digits
 
 /** The fields of an error. */
 export interface Details {
-  /** At `invalid_size`: the size that is rejected, or the number of trailing bytes. */
+  readonly status: Status;
+  /** With `invalid_size`: the digest's length, or the number of trailing bytes. */
   readonly size?: Wide;
-  /** At `invalid_code`: the code that is rejected. */
+  /** With `invalid_code`: the code. */
   readonly code?: Wide;
-  /** Of a decoding: the number of bytes consumed. */
+  /** The number of bytes that a decoding consumed. */
   readonly taken?: number;
 }
 
-/** The error of each function. A wrong argument is a `TypeError`, or a `RangeError` if it is out of range. */
+/** The error of invalid input. Arguments of a wrong type or range throw a `TypeError` or a `RangeError` instead. */
 export class MultihashError extends Error implements Details {
-  constructor(status: Status, details?: Details);
+  constructor(message: string, details: Details);
   readonly status: Status;
   readonly size?: Wide;
   readonly code?: Wide;
   readonly taken?: number;
   /**
-   * Whether the input is truncated: it ends inside or before a varint, or inside the digest. In `read`, `head`,
-   * `scaleDecode` and `MultihashReader` only then can more input change the result.
+   * Whether the input is truncated: it ends before or inside a varint, or inside the digest. In `read`, `head`,
+   * `scaleDecode` and `MultihashReader` more input can change the result only then.
    */
   readonly isIncomplete: boolean;
   /** The same fields as a plain object, which `structuredClone` and `postMessage` keep in most engines. */
-  readonly cause: Details & { readonly status: Status };
+  readonly cause: Details;
   /**
-   * The error of which `value` is a clone, by its `cause`; `value` itself if it is a `MultihashError`; undefined for a
-   * value without such a `cause`.
+   * Restores an error from its clone, by the clone's `cause`. Returns `value` itself if it is a `MultihashError`, and
+   * undefined if it has no such `cause`.
    */
   static from(value: unknown): MultihashError | undefined;
-  /** The name, the text and the fields, a bigint as decimal text. */
+  /** Returns the name, the text and the fields, a bigint as decimal text. */
   toJSON(): {
     name: string;
     message: string;
@@ -65,32 +68,41 @@ export class MultihashError extends Error implements Details {
   };
 }
 
+/** A code and a digest: a `Multihash`, its clone, or a digest of js-multiformats. */
+export interface MultihashDigest {
+  readonly code: Wide;
+  readonly digest: Uint8Array;
+}
+
 /**
  * A code, which names a hash function, and a digest. A `Multihash<number>` has the properties of `MultihashDigest`
- * in js-multiformats.
+ * in js-multiformats. Do not write to the bytes of `digest` and `bytes`: that would make the two differ.
  */
-export class Multihash<Code extends Wide = Wide> {
+export class Multihash<Code extends Wide = Wide> implements MultihashDigest {
   private constructor();
   /** Makes the multihash of a code and a digest, which is copied. Throws what `encode` throws. */
   static of(code: number, digest: Uint8Array): Multihash<number>;
   static of(code: Wide, digest: Uint8Array): Multihash;
-  /** Below 2^63. A `number` up to `Number.MAX_SAFE_INTEGER`, else a `bigint`. */
+  /** Decodes exactly one multihash from hexadecimal digits of either case. Throws what `decode` throws. */
+  static fromHex(text: string): Multihash;
+  /** Below 2^63. A `number` up to `Number.MAX_SAFE_INTEGER`, and a `bigint` above. */
   readonly code: Code;
-  /** The digest's length. */
+  /** The digest's length in bytes. */
   readonly size: number;
-  /** The bytes of this object, which are not frozen: to write to them changes the multihash. */
   readonly digest: Uint8Array;
-  /** The encoding, a new array each time. */
+  /** The encoding. It is made at first use, and then the same array each time. */
   readonly bytes: Uint8Array;
-  /** Whether `other` has the same code and digest. An empty digest beside a detached one is a `TypeError`. */
+  /** Returns the encoding in hexadecimal: a key for a `Map`, a log or a URL. */
+  toString(): string;
+  /** Returns whether `other` has the same code and digest. Throws a `TypeError` if a digest is detached. */
   equals(other: unknown): boolean;
   /** Returns this multihash, whose code is a `number`. Throws a `RangeError` if it is a `bigint`. */
   narrow(): Multihash<number>;
-  /** The code, a bigint as decimal text, and the digest in hexadecimal. */
+  /** Returns the code, a bigint as decimal text, the size, and the digest in hexadecimal. */
   toJSON(): { code: number | string; size: number; digest: string };
 }
 
-/** A decoding of a prefix, and the prefix's length. */
+/** A multihash, and the number of bytes that were decoded. */
 export interface Read {
   readonly multihash: Multihash;
   readonly taken: number;
@@ -99,15 +111,15 @@ export interface Read {
 /** The two varints before a digest. */
 export interface Head {
   readonly code: Wide;
-  /** Below 2^63, also above 255. */
+  /** Below 2^63. It may exceed 255, the maximum of a multihash. */
   readonly digestLength: Wide;
   /** The length of both varints. */
   readonly taken: number;
 }
 
-/** Decodes the multihash whose encoding is the whole of the bytes. */
+/** Decodes `bytes`, which must be exactly one multihash. */
 export function decode(bytes: Uint8Array): Multihash;
-/** Decodes the multihash whose encoding is a prefix of the bytes. Its digest has at most `limit` bytes. */
+/** Decodes the multihash at the start of `bytes`, with a digest of at most `limit` bytes, by default 255. */
 export function read(bytes: Uint8Array, limit?: Wide): Read;
 /** Decodes the two varints before a digest. */
 export function head(bytes: Uint8Array): Head;
@@ -115,14 +127,14 @@ export function head(bytes: Uint8Array): Head;
 export function encode(code: Wide, digest: Uint8Array): Uint8Array;
 /** Returns the length of the encoding of a code and a digest of that length. */
 export function encodedLength(code: Wide, digestLength: Wide): number;
-/** Compares by the code, then by the digest's length, then by the first byte that differs. */
+/** Compares by code, then by digest length, then by the first digest byte that differs. */
 export function compare(left: Multihash, right: Multihash): -1 | 0 | 1;
-/** Decodes the multihash whose SCALE form is a prefix of the bytes. */
+/** Decodes the multihash at the start of `bytes` from SCALE. */
 export function scaleDecode(bytes: Uint8Array): Read;
-/** Returns the SCALE form of a code and a digest: eight bytes of the code, one of the length, the digest. */
+/** Returns the SCALE encoding: the code in eight bytes, the digest's length in one byte, the digest. */
 export function scaleEncode(code: Wide, digest: Uint8Array): Uint8Array;
 
-/** What a reader needs of a `ReadableStream`. */
+/** The part of `ReadableStream` that this package uses. */
 export interface ByteStream {
   readonly locked: boolean;
   getReader(): {
@@ -135,29 +147,29 @@ export interface ByteStream {
 
 /** Reads concatenated encodings from a `ReadableStream` or an async iterable. */
 export class MultihashReader implements AsyncIterable<Multihash> {
-  /** `limit`: the most bytes of a digest. `rest`: bytes before the source's, left by another reader. */
+  /** `limit` is the maximum length of a digest. `rest` has bytes that precede the source, left by another reader. */
   constructor(source: ByteStream | AsyncIterable<Uint8Array>, options?: { limit?: Wide; rest?: Uint8Array });
-  /** A copy of the bytes that were received and belong to no multihash that was returned. */
+  /** A copy of the bytes received that belong to no multihash returned so far. */
   readonly rest: Uint8Array;
   /**
-   * Returns the next multihash, or null where the source ends after the last one. After an error each call gives that
-   * error. The source is released then, as it is after null.
+   * Returns the next multihash, or null if the source has ended after the last one. After an error every call rejects
+   * with that error. After an error or null the source is released.
    */
   read(): Promise<Multihash | null>;
   /**
-   * Unlocks a `ReadableStream`, for another reader. `rest` has the bytes that were received, and each `read` is
-   * rejected with a `TypeError` from then on, also one that waits, unless the reader has ended before. Nothing cancels
-   * the source then. Over an async iterable a call that waits is rejected when its chunk is there, which `rest` has.
+   * Unlocks a `ReadableStream` for another reader; `rest` has the bytes received. From then on every `read`, including
+   * a pending one, rejects with a `TypeError`, unless the reader had already ended. The source is not cancelled. With
+   * an async iterable, a pending `read` rejects only once its chunk has arrived; `rest` then includes the chunk.
    */
   release(): void;
   /**
-   * Cancels the source: `read` returns null from then on, also a call that waits. The promise waits for the source: an
-   * async generator ends only when what it awaits is there; a Node.js `Readable` is destroyed.
+   * Cancels the source. From then on every `read`, including a pending one, returns null. The promise waits for the
+   * source: an async generator ends only once what it awaits has arrived. A Node.js `Readable` is destroyed.
    */
   cancel(reason?: unknown): Promise<void>;
   /** The same, in engines that have `Symbol.asyncDispose`. */
   [Symbol.asyncDispose](): Promise<void>;
-  /** Where the loop is left, the source is cancelled. An error of that is thrown only if nothing else was. */
+  /** Leaving the loop cancels the source. If that fails, its error is thrown only if the loop itself threw none. */
   [Symbol.asyncIterator](): AsyncGenerator<Multihash, void, void>;
 }
 

@@ -8,7 +8,6 @@ here=$(dirname "$(readlink -f "${BASH_SOURCE[0]}")")
 top=$PWD
 vectors=$top/crates/vectors/data
 node=node=20.16+ # that of package.json
-demo_page=node_modules/verified-multihash/demo.html # packed
 export MULTIHASH_VERDICTS=$vectors/verdicts.tsv
 
 # All tests of a folder, or those that other words choose. No process may take more than that CPU time.
@@ -20,6 +19,7 @@ drawn() {
   mkdir "$work/drawn"
   cp "$vectors/hashes.tsv" "$work/drawn"
   crates/vectors/verdicts.py --draw 1 3000 > "$work/drawn/verdicts.tsv"
+  crates/vectors/verdicts.py --more 1 3000 | sed -n '/^order/p' >> "$work/drawn/verdicts.tsv"
   npm_test "$here" --test-name-pattern=vectors tests/index.test.js
 }
 
@@ -31,20 +31,25 @@ old_module() {
   wasm-validate ${later/--disable-bulk-memory/} "$here/multihash.wasm"
 }
 
-# What is packed, unpacked elsewhere, runs the script of README.md, and is imported from CommonJS.
+# The command of README.md installs the package in a folder of a user's own. Its links lead to no other file.
+page_install() {
+  mkdir "$work/own"
+  cd "$work/own"
+  npm_config_offline=true npm_config_cache=$work/npm MH=$top bash -c "$(block_of "$here/README.md" sh)"
+  node --input-type=module -e "import 'verified-multihash'"
+  ! grep -nE '\]\(([^h#]|h[^t])' "$here/README.md" || return 1
+}
+
+# What is packed is installed elsewhere and imported from CommonJS.
 packed_script() {
   local at=$work/elsewhere
   (cd "$here"; npm pack --loglevel=error --pack-destination "$work")
-  mkdir -p "$at/node_modules/verified-multihash"
-  tar xzf "$work"/verified-multihash-*.tgz --strip-components 1 -C "$at/node_modules/verified-multihash"
-  block_of "$here/README.md" js > "$at/script.mjs"
-  block_of "$here/README.md" html > "$at/page.html"
+  mkdir "$at"
   cd "$at"
-  node script.mjs > out 2> err
+  npm_config_offline=true npm_config_cache=$work/npm npm install --loglevel=error "$work"/verified-multihash-*.tgz
+  block_of "$here/README.md" html > page.html
   cmp "$top/LICENSE" node_modules/verified-multihash/LICENSE
   has_all_but '^tests/|\.sh$|^beside_plain' "$here" node_modules/verified-multihash
-  diff out "$top/crates/mh_show/stdout"
-  grep -x 'invalid_size 34' err
   node --no-warnings --input-type=commonjs -e "
     require('verified-multihash/package.json');
     if (process.features.require_module) require('verified-multihash/inline').decode(Uint8Array.of(1, 0));
@@ -71,55 +76,15 @@ packed_types() {
   tsc --noEmit --strict --target es2022 --module es2022 --moduleResolution node entries.ts
 }
 
-# In a browser, pages show texts, after a minute at most or `$2` times 50 ms: each line of standard input is a page, and
-# texts after tabs, some of which are actions of page.html.
-shows() {
-  mkdir -p "$work/frames"
-  cat > "$work/frames/frames"
-  node "$here/tests/browser.js" "$1" "tests/page.html?frames=${2:-1200}" "$here" "$work/frames" "$work/elsewhere"
-}
-
 # The page of README.md, over the unpacked package.
 packed_page() {
-  printf 'page.html\tcode 18, size 2\n' | shows "$1"
-}
-
-demo() {
-  local example bytes
-  example=$(cat "$top/crates/mh_show/stdin")
-  bytes=$(printf '07%.0s' {1..301})
-  sed "s|^|$demo_page#|; s/|/\t/g" << END | shows "$1"
-$example|Valid: code 22, digest of 32 bytes.|3 to 34|~ #input[aria-invalid=false]|~ .digest [title='Byte 34']
-${example}00|1 byte follows the multihash.|Byte 35 of 35: 00|The first 34 bytes are a multihash.
-${example}0000|2 bytes follow|invalid_size: Invalid multihash size 2.
-16|The input ends inside or before a varint.|at least 1 byte.|~ #input[aria-invalid=true]
-80|No byte: the input ends after 1 byte, and more input can change the result.
-7f80|a varint that is not complete
-1620ab|The input ends inside the digest.|Still needed: 31 bytes.
-168002|A digest of 256 bytes is too long: it may have 255.|! empty
-16ffffffffffffffff7f|A digest of 9223372036854775807 bytes is too long
-12808000|A varint is longer than needed: it ends in a zero byte.
-ffffffffffffffffff01|A varint has more than nine bytes, as every number of 2^63 or more needs.
-%|, after 0 digits, is not
-12%F0%9D%9F%8E0|𝟎|, after 2 digits, is not a hexadecimal digit.
-120|The number of digits, 3, is odd: each byte has two.
-1200|Valid: code 18, digest of 0 bytes.
-0X1E01|30 (0x1e)|The whole input can begin a multihash. Still needed: 1 byte.
-%200x12%2001|Still needed: 1 byte.|= |Paste a multihash
-1200${bytes}|301 bytes follow|… and 1 byte more
-ffffffffffffffff7fff01${bytes::508}|9223372036854775807|! following|Still needed: 1 byte.
-168002|> Keep the first 2 bytes|~ #input:focus|The whole input can begin|! Keep|= 0x1300|Valid: code 19|# 12 01|1 byte.
-|Valid: code 22|= |Paste|! The parts|> Trailing bytes|3 bytes follow|> A multihash|Valid: code 22
-|> Truncated digest|inside the|> Unfinished varint|before a varint|> Not minimal|a varint that is longer than needed
-|> Code too large|a varint of more than nine bytes|> Digest too long|is too long|= |! What is wrong
-END
+  node "$here/tests/browser.js" "$1" "tests/page.html?shown=page.html&shown=code+18,+size+2" "$here" "$work/elsewhere"
 }
 
 test_browser() {
   local name=$1 tools="$node $2"
   needs=$tools try "in $name" node "$here/tests/browser.js" "$name" tests/page.html "$here" "$vectors"
   needs=$tools try "the packed package's page in $name" packed_page "$name"
-  needs=$tools try "the demo page in $name" demo "$name"
 }
 
 # shellcheck source=tools/makers
@@ -129,7 +94,8 @@ needs=wasm-validate try "the WebAssembly for old engines" old_module
 needs="$node npm" try "in Node.js" npm_test "$here"
 needs="$node npm" try "drawn inputs" drawn
 needs=$node try "the results of plain JavaScript" node "$here/beside_plain.js"
-ONLY='' needs="$node npm" try "the packed package's script" packed_script
+needs="$node npm" try "the page's installation" page_install
+ONLY='' needs="$node npm" try "the packed package" packed_script
 needs="$node npm tsc" try "the packed package's types" packed_types
 test_browser chromium chromium
 test_browser firefox firefox-esr

@@ -43,8 +43,8 @@ wheel() (
 )
 
 mkdir "$work/repository"
-tar -c --exclude='*.egg-info' -C "$here/../.." LICENSE bindings/python checks/lib/not_shown.txt \
-  bindings/c/include bindings/c/src crates/vectors/data | tar -x -C "$work/repository"
+tar -c --exclude='*.egg-info' -C "$here/../.." LICENSE bindings/python bindings/c/{include,src} \
+  crates/mh_show/rows.tsv crates/vectors/data | tar -x -C "$work/repository"
 build -s -o "$work" "$work/repository/bindings/python"
 name=verified_multihash-$(sed -n 's/^__version__ = "\(.*\)"$/\1/p' "$here/src/verified_multihash/__init__.py")
 mkdir "$work/$name"

@@ -15,8 +15,8 @@ COPIES = {
     "LICENSE": "LICENSE",
     "multihash_c/multihash.c": "bindings/c/src/multihash.c",
     "multihash_c/multihash.h": "bindings/c/include/multihash.h",
-    "tests/not_shown.txt": "checks/lib/not_shown.txt",
     "tests/hashes.tsv": "crates/vectors/data/hashes.tsv",
+    "tests/rows.tsv": "crates/mh_show/rows.tsv",
     "tests/verdicts.tsv": "crates/vectors/data/verdicts.tsv",
 }
 if not os.path.exists("PKG-INFO"):

@@ -1,10 +1,12 @@
 #!/usr/bin/env bash
-# Packs the package into WORK/target/package, by offline.sh, with the licence.
+# Packs the packages into WORK/target/package, by offline.sh, with the licence.
 #
 #   bindings/rust/pack.sh WORK
 set -euo pipefail
 [[ $# = 1 && $1 != -* ]] || { sed -n '2,/^[^#]/s/^# \{0,1\}//p' "${BASH_SOURCE[0]}" >&2; exit 2; }
 # Some versions of Cargo add a lock file, unless they are told not to.
 lock=$(cargo package --help | grep -om1 -e --exclude-lockfile || true)
-# shellcheck disable=SC2086 # no word or one
-"$(dirname "$(readlink -f "$0")")/offline.sh" "$1" cargo package --no-verify $lock
+for package in verified-multihash multihash; do
+  # shellcheck disable=SC2086 # no word or one
+  "$(dirname "$(readlink -f "$0")")/offline.sh" "$1" "$package" cargo package --no-verify $lock
+done

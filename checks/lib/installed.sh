@@ -8,7 +8,7 @@ version=$(sed -n 's/^#define MULTIHASH_VERSION "\([0-9.]*\)"$/\1/p' "$header")
 major=${version%%.*}
 expected=$top/crates/mh_show/stdout
 # The folders of an installation but that for libraries, which another one may have elsewhere.
-include=include document=share/doc/multihash_c man=share/man
+bin=bin include=include document=share/doc/multihash_c man=share/man
 umask 022
 unset "${!CMAKE_@}"
 export CXX=none # CMake needs no compiler for C++
@@ -21,12 +21,13 @@ build() {
   prints '100% tests passed, 0 tests failed out of ' ctest --output-on-failure --test-dir "$to"
 }
 
-# The files of an installation, as paths from the prefix. Words after the libraries' folder are more files.
+# The files of an installation, as paths from the prefix.
 files_in() {
   local libdir=$1
   printf './%s\n' "$include"/multihash.h "$libdir"/libmultihash_c.{a,so,so."$major",so."$version"} \
     "$libdir"/cmake/multihash_c/multihash_c-config{,-release,-version}.cmake "$libdir/pkgconfig/multihash_c.pc" \
-    "$document"/{README.md,changelog,copyright,examples/{show.c,stream.c,test.sh,verify.c}} "${@:2}"
+    "$document"/{README.md,changelog,copyright,examples/{mh_show.c,stream.c,test.sh,verify.c}} \
+    "$bin/mh_show" "$man/man1/mh_show.1"
   { exported; printf '%s\n' multihash{,_status_text}; } | sed "s,.*,./$man/man3/&.3,"
 }
 
@@ -70,10 +71,9 @@ has_modes() {
     ! \( -perm 644 -type f ! -name '*.sh' ! -path '*/bin/*' \) | diff /dev/null -
 }
 
-# A prefix has what it should have, with that folder for libraries, and further files. The documents are the
-# repository's.
+# A prefix has what it should have, with that folder for libraries. The documents are the repository's.
 is_installed() {
-  env -C "$1" find . ! -type d | sort | diff <(files_in "${@:2}" | sort) -
+  env -C "$1" find . ! -type d | sort | diff <(files_in "$2" | sort) -
   find "$1" -xtype l | diff /dev/null -
   has_modes "$1"
   cmp "$header" "$1/$include/multihash.h"
@@ -81,6 +81,7 @@ is_installed() {
   cmp bindings/c/README.md "$1/$document/README.md"
   cmp CHANGES "$1/$document/changelog"
   cmp LICENSE "$1/$document/copyright"
+  cmp crates/mh_show/mh_show.1 "$1/$man/man1/mh_show.1"
   (cd "$work" || exit; has_flags "$1" "$2")
   has_shared_library "$1/$2/libmultihash_c.so"
 }

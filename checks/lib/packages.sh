@@ -11,17 +11,21 @@ upstream=$(sed -n 's/^version = "\(.*\)"/\1/p' bindings/rust/multihash/Cargo.tom
 # The packages of a folder for an architecture, unpacked together, have what is installed, the licence, and no more.
 has_packages() {
   local architecture=$2 lib=lib/$3 root=$work/root-$2 package file
-  printf 'root/root ./%s\n' "$lib"/libmultihash_c.so.{"$major","$version"} \
-    share/doc/libmultihash-c1/{changelog{.Debian,}.gz,copyright} > "$work/files.c1"
-  files_in "$lib" share/doc/multihash_c/changelog.Debian | sed -E -e '/\.so\./d' -e 's,^,root/root ,' \
-    -e 's/-release\./-none./; s,doc/multihash_c/,doc/libmultihash-c-dev/,' \
-    -e 's/(\.3|\.md|changelog|\.Debian)$/&.gz/' > "$work/files.c-dev"
-  for package in c1 c-dev; do
-    file=$1/libmultihash-${package}_$version-1_$architecture.deb
-    dpkg -c "$file" | awk '!/^d/ { sub(/\/usr/, "", $6); print $2, $6 }' | sort | diff <(sort "$work/files.$package") -
+  printf '%s\n' "$lib"/libmultihash_c.so.{"$major","$version"} > "$work/files.libmultihash-c1"
+  printf '%s\n' bin/mh_show share/man/man1/mh_show.1.gz > "$work/files.mh-show"
+  files_in "$lib" | sed -E -e '/\.so\.|mh_show(\.1)?$|\/(changelog|copyright)$/d' -e 's,^\./,,; s/-release\./-none./' \
+    -e 's,doc/multihash_c/,doc/libmultihash-c-dev/,; s/(\.3|\.md)$/&.gz/' > "$work/files.libmultihash-c-dev"
+  for package in mh-show libmultihash-c1 libmultihash-c-dev; do
+    file=$1/${package}_$version-1_$architecture.deb
+    printf '%s\n' "share/doc/$package"/{changelog{.Debian,}.gz,copyright} >> "$work/files.$package"
+    dpkg -c "$file" | awk '!/^d/ { sub(/^\.\/usr\//, "", $6); print $2, $6 }' | sort |
+      diff <(sed 's,^,root/root ,' "$work/files.$package" | sort) -
     dpkg -x "$file" "$root"
-    cmp LICENSE "$root/usr/share/doc/libmultihash-$package/copyright"
-    dpkg-deb -f "$file" Multi-Arch | diff - <(echo same) # those of two architectures can be installed at once
+    cmp LICENSE "$root/usr/share/doc/$package/copyright"
+  done
+  for package in c1 c-dev; do # those of two architectures can be installed at once
+    file=$1/libmultihash-${package}_$version-1_$architecture.deb
+    dpkg-deb -f "$file" Multi-Arch | diff - <(echo same)
   done
   dpkg-deb -f "$file" Depends | diff - <(echo "libmultihash-c$major (= $version-1)")
   has_modes "$root"
@@ -32,18 +36,19 @@ has_packages() {
       sed -E 's/(.*)@@MULTIHASH_C_(.*)/ \1@MULTIHASH_C_\2 \2.0/' "$work/versions")
 }
 
-# Both libraries work from where the packages were unpacked.
+# Both libraries and the program work from where the packages were unpacked.
 try_packages() {
   local root=$work/root-$1 flags option
   local -x PKG_CONFIG_SYSROOT_DIR=$root PKG_CONFIG_LIBDIR=$root/usr/lib/$2/pkgconfig
   flags=$(pkg-config --cflags --libs multihash_c)
   eval "flags=($flags)"
   for option in -O2 -static; do
-    "$3" "$option" bindings/c/examples/show.c "${flags[@]}" -L"$root/usr/lib/$2" -o "$work/packaged"
-    "${@:4}" -E LD_LIBRARY_PATH="$root/usr/lib/$2" "$work/packaged" | diff - "$expected"
+    "$3" "$option" bindings/c/examples/mh_show.c "${flags[@]}" -L"$root/usr/lib/$2" -o "$work/packaged"
+    "${@:4}" -E LD_LIBRARY_PATH="$root/usr/lib/$2" "$work/packaged" < crates/mh_show/stdin | diff - "$expected"
     readelf -d "$work/packaged" | sed -n "s/.*NEEDED.*\[\(libmultihash.*\)\]/$option \1/p" >> "$work/needed-$1"
   done
   diff "$work/needed-$1" <(echo "-O2 libmultihash_c.so.$major")
+  "${@:4}" "$root/usr/bin/mh_show" < crates/mh_show/stdin | diff - "$expected"
 }
 
 # Archives have files of the owner 0, without a name, which all may read, in the order of their names.
@@ -98,7 +103,8 @@ has_relations() {
     python3 -c 'import json, sys
 for each in json.load(sys.stdin)["packages"][0]["dependencies"]:
     kind = "OPTIONAL_" if each["optional"] else {"dev": "TEST_", "build": "BUILD_"}.get(each["kind"], "")
-    print(each["name"], kind + "DEPENDENCY_OF", sys.argv[1])' "multihash-$upstream.crate" > "$work/wanted"
+    print(each["name"], kind + "DEPENDENCY_OF", sys.argv[1])' "multihash-$upstream.crate" |
+    sed "s/^verified-multihash/&-$version.crate/" > "$work/wanted"
   printf '%s BUILD_TOOL_OF bindings/js/multihash.wasm\n' "$kit $logic" "binaryen $binaryen" >> "$work/wanted"
   python3 - "$1/multihash-$version.spdx.json" << 'END' | sort | diff <(sort "$work/wanted") -
 import json, sys

@@ -15,7 +15,7 @@ import contracts
 
 FORMAT, DIFFERENCES, CONTRACTS = "docs/FORMAT.md", "docs/DIFFERENCES.md", "docs/CONTRACTS.md"
 C, CALLING, HEADER = "bindings/c/README.md", "crates/multihash/CALLING.md", "bindings/c/include/multihash.h"
-MAN, RUST = "crates/mh_show/mh_show.1", "bindings/rust/multihash"
+MAN, RUST = "crates/mh_show/mh_show.1", "bindings/rust"
 # what a source declares is named on a page
 DECLARED = (
     (HEADER, r"^(?:static inline )?(?:const char \*|\w+ )(multihash_\w+)\(", C),
@@ -23,7 +23,8 @@ DECLARED = (
     ("bindings/js/index.d.ts", r"^export (?:function|class) (\w+)", "bindings/js/README.md"),
     ("bindings/js/hashes.d.ts", r"^export (?:function|const) (\w+)", "bindings/js/README.md"),
     ("bindings/python/src/verified_multihash/__init__.py", r"^    ([A-Z_]+) = [1-6]\b", "bindings/python/README.md"),
-    (f"{RUST}/Cargo.toml", r"^([\w-]+) = \[(?:\]|\"\w+\??/|\"dep:)", f"{RUST}/README.md"),
+    (f"{RUST}/verified-multihash/Cargo.toml", r"^(std|alloc) =", f"{RUST}/verified-multihash/README.md"),
+    (f"{RUST}/multihash/Cargo.toml", r"^([\w-]+) = \[\"?(?:\]|dep:|ver|serde)", f"{RUST}/multihash/README.md"),
     ("crates/multihash/src/error.rt", r"pub fn (\w+)\(&self\)", FORMAT),
     ("crates.txt", r"^(\w+)[: ]", "docs/ARCHITECTURE.md"),
 )
@@ -110,6 +111,6 @@ def declared_errors(texts: Texts) -> Iterator[str]:
     public = re.compile(r"^ *pub (?:fn|struct|enum|trait|type|mod|const) (\w+)", re.M)
     its = {path for path in paths() if path.startswith("crates/multihash/src/")}
     names = {name for path in its for name in public.findall(read(path)) if not path.endswith(("laws.rt", "pins.rt"))}
-    upstream = [path for path in paths() if re.match(f"{RUST}/src/(?!proved/)", path)]
+    upstream = [path for path in paths() if path.startswith(f"{RUST}/multihash/src/")]
     known = "".join(map(read, upstream)) + texts[DIFFERENCES]
     yield from (f"{DIFFERENCES} does not have {name}" for name in sorted(names - {*re.findall(r"\w+", known)}))

@@ -18,7 +18,7 @@ FENCE = re.compile(r"^ *```(\S*)[^\n]*\n(.*?)^ *```$", re.M | re.S)
 ROW = re.compile(r"^\| \[(\w+)[^\]]*\]\(([^)]*)\) \| `([^`]+)` \|", re.M)
 HEAD = re.compile(r"(?://|#) (\S+): (.*)\n")
 SHOWN = "code 0, digest hello"
-OLDEST = re.findall(r'rust-version = "(.*)"', (TOP / "bindings/rust/multihash/Cargo.toml").read_text())[0]
+OLDEST = re.findall(r'rust-version = "(.*)"', (TOP / "bindings/rust/verified-multihash/Cargo.toml").read_text())[0]
 REGISTRY = "/usr/share/cargo/registry"  # of Debian, for crates that the program of Rust's page needs
 SOURCE = f'[source.crates-io]\\nreplace-with = "here"\\n[source.here]\\ndirectory = "{REGISTRY}"\\n'
 
@@ -78,13 +78,14 @@ def programs(readme: str) -> list[Program]:
 
 
 def copy_repository(to: Path) -> None:
-    """Copies the files of the repository that git knows or would, with what c_library.t proved in the same run."""
+    """Copies the files of the repository that git knows or would, and the proofs that are kept of the program and its
+    library."""
     command = "git ls-files -co --exclude-standard -z | tar -c --null -T - | tar -x -C " + f"'{to}'"
     to.mkdir()
     subprocess.run(["bash", "-c", command], cwd=TOP, check=True, stderr=subprocess.DEVNULL)
-    proved = Path("crates/multihash/out")
-    if (kept := Path(os.environ.get("KEPT", ""), "copy", proved)).exists():
-        shutil.copytree(kept, to / proved, symlinks=True)
+    for proved in ("crates/multihash/out", "crates/mh_show/out"):
+        if (TOP / proved).exists():
+            shutil.copytree(TOP / proved, to / proved, symlinks=True)
 
 
 class Project(NamedTuple):
@@ -108,10 +109,11 @@ class Project(NamedTuple):
 def run(program: Program, clone: Path, folder: Path) -> tuple[Project, str]:
     """Installs the package of a clone in a new folder, and runs the program there. Returns what is wrong too."""
     project = Project(folder, clone, LANGUAGES[program.language].before)
-    project.run("crates.txt", program.crates, "true")
-    error, shown = project.run(program.file, program.text, f"{program.install} && {program.command}")
-    if not error and SHOWN not in shown.splitlines():
-        error = f"it printed {shown[-300:]!r}"
+    error, _ = project.run("crates.txt", program.crates, program.install)
+    if not error:
+        error, shown = project.run(program.file, program.text, program.command)
+        if not error and SHOWN not in shown.splitlines():
+            error = f"it printed {shown[-300:]!r}"
     return project, error
 
 

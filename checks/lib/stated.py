@@ -10,7 +10,7 @@ from start import FENCE, TOP
 sys.path.append(str(TOP / "crates" / "vectors"))
 import verdicts
 
-CARGO, NPM, JS = f"{RUST}/Cargo.toml", "bindings/js/package.json", "bindings/js/LICENSE"
+CARGO, NPM, JS = f"{RUST}/multihash/Cargo.toml", "bindings/js/package.json", "bindings/js/LICENSE"
 README, RULES = "README.md", verdicts.RULES
 MORE = ("bindings/js/core.js", "bindings/js/test.sh", "checks/lib/start.py", "checks/release.t", "tools/install")
 # a version or a limit as pages and these state it, and where it is from

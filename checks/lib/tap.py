@@ -32,15 +32,14 @@ def missing(tools: Iterable[str]) -> list[str]:
 
 
 def left_out(what: str, gone: list[str]) -> Result:
-    """Returns the result of a check that needs tools which are not there. .ci/run --all makes it a failure."""
-    is_right = gone and missing(gone) == gone
-    return f"{what} {SKIP}{', '.join(gone)}", "" if is_right else "what it needs is there"
+    """Returns the result of a check that needs tools which are not there. With .ci/run --all that is a failure."""
+    return f"{what} {SKIP}{', '.join(gone)}", "not installed" if os.environ.get("ALL") else ""
 
 
 def program(crate: str, word: str = "run") -> str:
-    """Returns a program of a crate or of its tests, which is built and run on no input if 'rt ci' did not build it."""
+    """Returns a program of a crate or of its tests. It is built, and run on no input, if no 'rt ci' of this run did."""
     path = CRATES / crate / "out" / (f"{crate}_tests" if word == "test" else crate)
-    if os.environ.get("BUILT") != "rt ci":
+    if not Path(os.environ.get("KEPT", "/none"), "built").exists():
         path.unlink(missing_ok=True)
         subprocess.run(["rt", word, "--jobs", "1"], cwd=CRATES / crate, stdin=subprocess.DEVNULL, stdout=sys.stderr)
     return str(path)

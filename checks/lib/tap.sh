@@ -61,7 +61,11 @@ try() {
   number=$((number + 1))
   # shellcheck disable=SC2086 # words
   lack=$without$'\n'$(missing $needs)
-  [ "$lack" = $'\n' ] || { echo "ok $number - $1 # SKIP no $(list <<< "$lack")"; return; }
+  if [ "$lack" != $'\n' ]; then
+    [ -z "${ALL-}" ] || result="not ok" failed=1
+    echo "$result $number - $1 # SKIP no $(list <<< "$lack")"
+    return
+  fi
   run "$work/log" placed "${@:2}"
   [ "$ended" = 0 ] || result="not ok" failed=1
   echo "$result $number - $1"

@@ -12,6 +12,9 @@
     crates/speed/count.py --package UPSTREAM
         prints the shares of the package for Rust in the instructions of upstream's, which is in this
         folder: those above 1, and a table. Without docs/SPEED.md, rt and a network
+    crates/speed/count.py --package-time UPSTREAM
+        prints the nanoseconds of comparisons of unlike values: of upstream's and of the package for
+        Rust, and the share
 
 Valgrind counts instructions.
 """
@@ -120,16 +123,20 @@ def print_times(builds: list[Path]) -> None:
         print(f"| {name} |", *(f"{time:.1f} |" for time in row))
 
 
+def compile_package(package: Path, profile: str, work: str) -> Path:
+    """Compiles and returns rust/package.rs over a package, after a build for debugging, which compares the results."""
+    manifest = PACKAGE.format(source=HOME / "rust/package.rs", package=package.resolve())
+    Path(work, "Cargo.toml").write_text(manifest, "utf-8")
+    for command in ["run", "--target-dir=checked"], ["build", "--target-dir=built", "--profile", profile]:
+        subprocess.run(["cargo", "--quiet", "--offline", *command], cwd=work, check=True)
+    return next(Path(work).glob("built/*/package"))
+
+
 def count_package(package: Path, profile: str) -> dict[tuple[str, str], int]:
     """Returns the instructions of each call of rust/package.rs, and with which lengths, without the loop around it."""
     found: dict[tuple[str, str], int] = {}
     with tempfile.TemporaryDirectory() as work:
-        manifest = PACKAGE.format(source=HOME / "rust/package.rs", package=package.resolve())
-        Path(work, "Cargo.toml").write_text(manifest, "utf-8")
-        # a build for debugging compares the results
-        for command in ["run", "--target-dir=checked"], ["build", "--target-dir=built", "--profile", profile]:
-            subprocess.run(["cargo", "--quiet", "--offline", *command], cwd=work, check=True)
-        [program] = Path(work).glob("built/*/package")
+        program = compile_package(package, profile, work)
         run(["valgrind", "--tool=callgrind", f"--callgrind-out-file={work}/out", program])
         for path in sorted(Path(work).glob("out.*"), key=lambda path: int(path.suffix[1:])):
             text = path.read_text("utf-8")
@@ -152,6 +159,22 @@ def print_shares(upstream: Path) -> None:
     for name in dict.fromkeys(name for name, _ in shares):
         columns = zip(*(row for call, row in shares.items() if call[0] == name))
         print(f"| `{name}` |", " | ".join(f"{min(column):.2f} to {max(column):.2f}" for column in columns), "|")
+
+
+def print_package_times(upstream: Path) -> None:
+    """Prints the least time of each comparison of unlike values, in turns on one core: of upstream's and the package."""
+    os.sched_setaffinity(0, {max(os.sched_getaffinity(0))})
+    least: dict[str, list[float]] = {}
+    with tempfile.TemporaryDirectory() as theirs, tempfile.TemporaryDirectory() as ours:
+        builds = (upstream, theirs), (ROOT / "bindings/rust/multihash", ours)
+        programs = [compile_package(package, PROFILES[0], work) for package, work in builds]
+        for _ in range(TURNS):
+            for number, program in enumerate(programs):
+                for name, time in re.findall(r"(.+) (\S+)", run([program, "time"])):
+                    row = least.setdefault(name, [float("inf")] * len(builds))
+                    row[number] = min(row[number], float(time))
+    for name, (before, now) in least.items():
+        print(f"{name:45} {before:10.2f} {now:10.2f} {now / before:6.2f}")
 
 
 def rows_of(page: str, head: str) -> Counts:
@@ -240,6 +263,8 @@ def main() -> int:
             print_times([*map(Path, builds)] or C_BUILDS)
         case ["--package", upstream]:
             print_shares(Path(upstream))
+        case ["--package-time", upstream]:
+            print_package_times(Path(upstream))
         case _:
             print(__doc__, file=sys.stderr)
             return 2

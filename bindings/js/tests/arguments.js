@@ -1,22 +1,13 @@
 // Arguments of wrong types and ranges, and what results and errors are.
 import base64 from '../bytes.js';
-import { fails, hex, same, unhex } from './check.js';
+import { fails, gone, hex, same, unhex } from './check.js';
 import { Lying, order } from './vectors.js';
 
 let turn = 0; // a module is imported anew each time
 const EXAMPLE = unhex('1620644bcc7e564373040999aac89e7622f3ca71fba1d972fd94a31c3bfbf24e3938');
 
+const INSPECT = Symbol.for('nodejs.util.inspect.custom');
 const kindOf = (value) => Object.prototype.toString.call(value);
-
-/** Arrays without their memory: it was moved, or has shrunk. */
-function gone() {
-  const moved = new Uint8Array(8);
-  structuredClone(moved.buffer, { transfer: [moved.buffer] });
-  const buffer = new ArrayBuffer(8, { maxByteLength: 16 });
-  const outOfBounds = new Uint8Array(buffer, 4, 4);
-  buffer.resize(2);
-  return [moved, outOfBounds];
-}
 
 function noBytes() {
   const others = [34, 34n, '1620', [22, 0], null, undefined, true, {}, { length: 1, 0: 0 }, Symbol('bytes'), () => 0];
@@ -27,56 +18,49 @@ function noBytes() {
   return [...others, ...buffers, ...feigned, ...gone()];
 }
 
-/** A multihash whose digest was replaced. */
-const withDigest = ({ Multihash }, digest) => Object.assign(Multihash.of(18, new Uint8Array()), { digest });
-
-export function bytesAlone(module) {
-  const { Multihash, compare, decode, encode, head, read, scaleDecode, scaleEncode } = module;
-  const other = Multihash.of(18, EXAMPLE);
+/** Bytes are a Uint8Array. The error names the argument. */
+export function bytesAlone({ Multihash, MultihashReader, decode, encode, head, read, scaleDecode, scaleEncode }) {
   const nothing = { [Symbol.asyncIterator]: () => ({ next() {} }) };
-  const calls = {
-    decode,
-    read,
-    head,
-    scaleDecode,
-    encode: (bytes) => encode(18, bytes),
-    scaleEncode: (bytes) => scaleEncode(18, bytes),
-    of: (bytes) => Multihash.of(18, bytes),
-    bytes: (bytes) => withDigest(module, bytes).bytes,
-    left: (bytes) => compare(withDigest(module, bytes), other),
-    right: (bytes) => compare(other, withDigest(module, bytes)),
-    rest: (bytes) => new module.MultihashReader(nothing, { rest: bytes ?? null }),
-  };
+  const calls = [
+    ...[decode, read, head, scaleDecode].map((call) => ['bytes', call]),
+    ...[encode, scaleEncode, Multihash.of].map((call) => ['digest', (bytes) => call(18, bytes)]),
+    ['rest', (bytes) => new MultihashReader(nothing, { rest: bytes ?? null })],
+  ];
   for (const wrong of noBytes()) {
     const what = kindOf(wrong);
-    const text = what === '[object Uint8Array]' ? undefined : 'bytes have to be a Uint8Array';
-    for (const [name, call] of Object.entries(calls))
-      fails(TypeError, () => call(wrong), `${name} ${what}`, text);
+    for (const [name, call] of calls) {
+      const { message } = fails(TypeError, () => call(wrong), `${name} ${what}`);
+      if (what !== '[object Uint8Array]') same(message.startsWith(`${name} must be a Uint8Array, got `), true, message);
+    }
   }
+  const received = [['1620', 'string'], [null, 'null'], [34, '34'], [34n, '34'], [[22, 0], 'Array'],
+    [() => 0, 'function'], [new ArrayBuffer(4), 'ArrayBuffer'], [undefined, 'undefined'], [Symbol('bytes'), 'symbol']];
+  for (const [value, text] of received)
+    fails(TypeError, () => decode(value), text, `bytes must be a Uint8Array, got ${text}`);
 }
 
 export function numbers({ Multihash, MultihashError, encode, encodedLength, read, scaleEncode }) {
   const encoders = [encode, scaleEncode, Multihash.of, (code, digest) => encodedLength(code, digest.length)];
   const digest = new Uint8Array(2);
   const calls = [
-    ...encoders.map((encoder) => ['a code', (code) => encoder(code, digest)]),
-    ['a length', (length) => encodedLength(18, length)],
-    ['a limit', (limit) => read(EXAMPLE, limit)],
+    ...encoders.map((encoder) => ['code', (code) => encoder(code, digest)]),
+    ['digestLength', (length) => encodedLength(18, length)],
+    ['limit', (limit) => read(EXAMPLE, limit)],
   ];
-  for (const [what, call] of calls) {
-    const text = `${what} has to be`;
-    for (const wrong of ['18', null, {}, [18], true, Symbol('code')])
-      fails(TypeError, () => call(wrong), kindOf(wrong), `${text} a number or a bigint`);
+  for (const [name, call] of calls) {
+    const text = `${name} must be`;
+    for (const [wrong, kind] of [['18', 'string'], [null, 'null'], [{}, 'Object'], [[18], 'Array'], [true, 'true']])
+      fails(TypeError, () => call(wrong), kind, `${text} a number or a bigint, got ${kind}`);
     for (const wrong of [-1, 1.5, NaN, Infinity, 2 ** 53])
-      fails(RangeError, () => call(wrong), `${wrong}`, `${text} a whole number, from 2^53 a bigint`);
+      fails(RangeError, () => call(wrong), `${wrong}`,
+        `${text} a whole number from 0 to 2^53 - 1, or a bigint, got ${wrong}`);
     for (const wrong of [-1n, 1n << 64n])
-      fails(RangeError, () => call(wrong), `${wrong}`, `${text} from 0 to 2^64 - 1`);
+      fails(RangeError, () => call(wrong), `${wrong}`, `${text} from 0 to 2^64 - 1, got ${wrong}`);
   }
   const code = 1n << 63n;
   for (const encoder of encoders) {
     const error = fails(MultihashError, () => encoder(code, digest), 'a code');
     same(`${error.status} ${error.code}`, `invalid_code ${code}`, 'the code of an error');
-    same(error.message, `Invalid multihash code ${code}.`, 'the text of an error');
     for (const size of [256, 300]) {
       const first = fails(MultihashError, () => encoder(code, new Uint8Array(size)), 'size first');
       same(`${first.status} ${first.size} ${first.code}`, `invalid_size ${size} undefined`, 'size first');
@@ -122,7 +106,7 @@ export function polluted(module) {
   const { message, size, code, taken } = fails(module.MultihashError, () => module.head(unhex('8000')), 'polluted');
   delete Object.prototype.size;
   delete Object.prototype.code;
-  same(`${message} ${size} ${code} ${taken}`, 'encoding is not minimal undefined undefined 2', 'fields');
+  same(`${size} ${code} ${taken} ${message}`.slice(0, 44), 'undefined undefined 2 the varint of the code', 'fields');
 }
 
 /** Codes and digests of other types may be equal. Only numbers are codes, only a Uint8Array is a digest. */
@@ -134,54 +118,79 @@ export function equality(module) {
   const noCodes = ['0', '', false, [], [0], null, undefined, Symbol('0'), Object.create(null)];
   for (const code of [...noCodes, { valueOf: () => 0 }])
     same(multihash.equals({ code, digest }), false, `equals, a code: ${kindOf(code)}`);
-  for (const other of [[5], '5', new Int8Array([5]), new Lying([5, 6, 7])]) {
+  for (const other of [[5], '5', new Int8Array([5]), new Lying([5, 6, 7])])
     same(multihash.equals({ code: 0, digest: other }), false, `equals, a digest: ${kindOf(other)}`);
-    same(withDigest(module, other).equals(multihash), false, 'equals, a replaced digest');
-  }
   for (const value of [null, undefined, 22, 'text', {}, EXAMPLE])
     same(multihash.equals(value), false, `equals ${kindOf(value)}`);
-  const empty = withDigest(module, new Uint8Array());
-  for (const other of gone().map((digest) => withDigest(module, digest)))
-    for (const [one, two] of [[other, empty], [empty, other]])
-      fails(TypeError, () => one.equals(two), 'equals, a digest that is gone');
+  const empty = module.Multihash.of(18, new Uint8Array());
+  for (const digest of gone()) fails(TypeError, () => empty.equals({ code: 18, digest }), 'a digest that is gone');
 }
 
-/** Multihashes that differ in any byte, in a length or a code, and what no multihash is. */
+/** The library's own order of two multihashes: a call of its compiled function. */
+function libraryOrder() {
+  const bytes = Uint8Array.from(atob(base64), (letter) => letter.charCodeAt(0));
+  const { exports } = new WebAssembly.Instance(new WebAssembly.Module(bytes));
+  const { memory, __heap_base: base, multihash_compare } = exports;
+  const words = ({ code, digest, size }, at) => {
+    new Uint8Array(memory.buffer).set(digest, at);
+    return [code, at, size].map(BigInt);
+  };
+  const at = Number(base.value);
+  return (left, right) => multihash_compare(...words(left, at), ...words(right, at + 256));
+}
+
+/** Multihashes that differ in any byte, in a length or a code, and what is not a multihash. */
 export function comparison(module) {
   const { Multihash, compare } = module;
   const { code, digest } = module.decode(EXAMPLE);
-  const multihash = Multihash.of(22n, digest);
-  const changed = Array.from(digest, (byte, at) => digest.with(at, byte ^ 1));
-  const digests = [digest.subarray(1), digest.subarray(0, 31), Uint8Array.of(...digest, 0), ...changed];
-  const others = [Multihash.of(21, digest), ...digests.map((other) => Multihash.of(code, other))];
-  for (const other of others) {
-    for (const [left, right] of [[other, multihash], [multihash, other]])
-      same(compare(left, right), order(left, right), 'compare');
-    same(multihash.equals(other), false, 'equals');
+  const changed = Array.from(digest, (byte, at) => digest.with(at, byte ^ (at % 2 ? 0x80 : 1)));
+  const digests = [digest, digest.subarray(1), digest.subarray(0, 31), Uint8Array.of(...digest, 0), new Uint8Array(),
+    new Uint8Array(255), ...changed];
+  const codes = [0, 21, 2 ** 53 - 1, 2n ** 53n, 2n ** 60n, 2n ** 60n + 1n, 2n ** 63n - 1n];
+  const others = [...codes.map((other) => Multihash.of(other, digest)),
+    ...digests.map((other) => Multihash.of(22n, other))];
+  const ofLibrary = libraryOrder();
+  for (const left of others) {
+    for (const right of others) {
+      same(compare(left, right), ofLibrary(left, right), `compare ${left} ${right}`);
+      same(compare(left, right), order(left, right), `compare ${left} ${right}`);
+      same(left.equals(right), left === right, `equals ${left} ${right}`);
+    }
   }
-  const near = [2n ** 60n, 2n ** 60n + 1n].map((code) => Multihash.of(code, digest));
-  same(`${compare(...near)} ${near[0].equals(near[1])}`, '-1 false', 'codes that are the same as a double');
-  const get = () => (module.decode(module.encode(1, new Uint8Array(40))), digest);
-  const busy = Object.create(Multihash.prototype, { code: { value: 22 }, digest: { get } });
-  same(`${compare(multihash, busy)} ${compare(busy, multihash)}`, '0 0', 'a getter that decodes');
-  const wrong = [
-    [{ ...multihash }, 'multihashes have to be a Multihash'],
-    [Object.assign(module.decode(EXAMPLE), { code: '22' }), 'a code has to be a number or a bigint'],
-    [withDigest(module, new Uint8Array(300))],
-  ];
-  for (const [other, text] of wrong)
-    for (const pair of [[other, multihash], [multihash, other]])
-      fails(TypeError, () => compare(...pair), 'compare', text);
+  const multihash = Multihash.of(code, digest);
+  for (const [other, text] of [[{ ...multihash }, 'Object'], [EXAMPLE, 'Uint8Array'], [null, 'null']]) {
+    fails(TypeError, () => compare(other, multihash), 'compare', `left must be a Multihash, got ${text}`);
+    fails(TypeError, () => compare(multihash, other), 'compare', `right must be a Multihash, got ${text}`);
+  }
+  structuredClone(multihash.digest.buffer, { transfer: [multihash.digest.buffer] });
+  fails(TypeError, () => compare(multihash, multihash), 'a digest elsewhere',
+    'the digest of left is detached or was replaced');
 }
 
+/** The fields of a multihash, and its texts. */
 export function multihashes(module) {
-  const { Multihash } = module;
+  const { Multihash, MultihashError } = module;
   const multihash = module.decode(EXAMPLE);
   same(`${multihash.code} ${multihash.size} ${hex(multihash.bytes)}`, `22 32 ${hex(EXAMPLE)}`, 'fields');
-  multihash.bytes.fill(0);
-  same(hex(multihash.bytes), hex(EXAMPLE), 'bytes are a copy');
+  same(multihash.bytes === multihash.bytes && multihash.bytes !== EXAMPLE, true, 'bytes are kept');
+  same(`${multihash} ${new Map([[`${multihash}`, 1]]).get(hex(EXAMPLE))}`, `${hex(EXAMPLE)} 1`, 'as text');
+  for (const text of [`${multihash}`, `${multihash}`.toUpperCase()])
+    same(Multihash.fromHex(text).equals(multihash), true, 'from text');
+  for (const [text, message] of [['162', 'an odd number of digits, 3'], ['1g01', 'no hexadecimal digit at index 1'],
+    ['0x1600', 'no hexadecimal digit at index 1'], [' 1600', 'no hexadecimal digit at index 0']]) {
+    const error = fails(MultihashError, () => Multihash.fromHex(text), text, `the text has ${message}`);
+    same(`${error.status} ${error.isIncomplete}`, 'not_hexadecimal false', text);
+  }
+  fails(TypeError, () => Multihash.fromHex(EXAMPLE), 'bytes', 'text must be a string, got Uint8Array');
+  for (const plain of [{ ...multihash }, structuredClone(multihash)]) {
+    same(`${Object.keys(plain)}`, 'code,size,digest', 'fields');
+    same(Multihash.of(plain.code, plain.digest).equals(multihash), true, 'from a clone');
+  }
+  const shown = [multihash, Multihash.of(18, new Uint8Array())].map((each) => each[INSPECT]());
+  same(`${shown}`, `Multihash(0x16, ${hex(EXAMPLE.subarray(2))}),Multihash(0x12, empty)`, 'console.log');
   same(multihash.narrow(), multihash, 'a code that is a number');
-  fails(RangeError, () => Multihash.of(2n ** 53n, EXAMPLE).narrow(), 'narrow', 'the code is 2^53 or more');
+  fails(RangeError, () => Multihash.of(2n ** 53n, EXAMPLE).narrow(), 'narrow',
+    'the code 9007199254740992 is 2^53 or more');
   fails(TypeError, () => new Multihash(Symbol('making'), 22, EXAMPLE), 'constructor',
     'Multihash.of(code, digest) makes a multihash');
   same(Object.is(Multihash.of(-0, EXAMPLE).code, 0), true, 'code -0');
@@ -196,22 +205,48 @@ export function multihashes(module) {
 /** Whether a clone of an error keeps its cause, which Safari drops. */
 const keepsCause = () => structuredClone(new Error('text', { cause: 3 })).cause === 3;
 
+const CASES = [
+  ['', 'the input is empty', 'insufficient'],
+  ['80', 'the input ends inside the code', 'insufficient'],
+  ['12', "the input ends before the digest's length", 'insufficient'],
+  ['1280', "the input ends inside the digest's length", 'insufficient'],
+  ['8000', 'the varint of the code is not minimal: it ends in a zero byte', 'not_minimal'],
+  ['01808000', "the varint of the digest's length is not minimal: it ends in a zero byte", 'not_minimal'],
+  ['ff'.repeat(9), 'the varint of the code has more than nine bytes', 'overflow'],
+  [`01${'ff'.repeat(9)}`, "the varint of the digest's length has more than nine bytes", 'overflow'],
+  ['010200', 'the input ends inside the digest (1 of 2 bytes)', 'unexpected_eof'],
+  ['01ff01', 'the input ends inside the digest (0 of 255 bytes)', 'unexpected_eof'],
+  ['018002', 'the digest has 256 bytes, and the limit is 255', 'invalid_size', 256],
+  ['12ffffffffffffffff7f', 'the digest has 9223372036854775807 bytes, and the limit is 255', 'invalid_size',
+    '"9223372036854775807"'],
+];
+const DECODED = [['010000', '1 byte follows the multihash', 1], [`8001017f${'00'.repeat(300)}`,
+  '300 bytes follow the multihash', 300]];
+
 /** The text of each error, and what JSON.stringify makes of it: only texts and numbers that are exact. */
-export function errors({ MultihashError, decode, encode, scaleDecode }) {
+export function errors({ MultihashError, decode, encode, head, read, scaleDecode }) {
+  const sized = (call, message, size) => [call, message, `"invalid_size","size":${size}`];
   const cases = [
-    [() => decode(unhex('80')), 'not enough input bytes', '"insufficient","taken":1'],
-    [() => decode(unhex('ffffffffffffffffff')), 'input bytes exceed maximum', '"overflow","taken":9'],
-    [() => decode(unhex('8000')), 'encoding is not minimal', '"not_minimal","taken":2'],
-    [() => decode(unhex('010200')), 'failed to fill whole buffer', '"unexpected_eof","taken":3'],
-    [() => decode(unhex('12ffffffffffffffff7f')), 'Invalid multihash size 9223372036854775807.',
-      '"invalid_size","size":"9223372036854775807","taken":10'],
-    [() => encode(1, new Uint8Array(256)), 'Invalid multihash size 256.', '"invalid_size","size":256'],
-    [() => scaleDecode(new Uint8Array(9).fill(255)), 'Invalid multihash code 18446744073709551615.',
-      '"invalid_code","code":"18446744073709551615","taken":8'],
+    ...[decode, read].flatMap((call) => CASES.map(([input, message, status, size]) =>
+      [() => call(unhex(input)), message, `"${status}"${size ? `,"size":${size}` : ''}`])),
+    ...CASES.slice(0, 8).map(([input, message, status]) => [() => head(unhex(input)), message, `"${status}"`]),
+    ...DECODED.map(([input, message, size]) => sized(() => decode(unhex(input)), message, size)),
+    sized(() => read(EXAMPLE, 31), 'the digest has 32 bytes, and the limit is 31', 32),
+    sized(() => read(unhex('018002'), 2n ** 60n), 'the digest has 256 bytes, and the limit is 255', 256),
+    sized(() => encode(1, new Uint8Array(300)), 'the digest has 300 bytes, and the limit is 255', 300),
+    [() => encode(2n ** 63n, EXAMPLE), 'the code 9223372036854775808 is 2^63 or more',
+      '"invalid_code","code":"9223372036854775808"'],
+    [() => scaleDecode(new Uint8Array(9).fill(255)), 'the code 18446744073709551615 is 2^63 or more',
+      '"invalid_code","code":"18446744073709551615"'],
+    ...[[0, 'the input is empty'], [3, 'the input ends inside the code (3 of 8 bytes)'],
+      [8, "the input ends before the digest's length"], [10, 'the input ends inside the digest (1 of 2 bytes)']].map(
+      ([count, message]) => [() => scaleDecode(unhex('12000000000000000200').subarray(0, count)), message,
+        '"unexpected_eof"']),
   ];
   for (const [call, message, rest] of cases) {
     const error = fails(MultihashError, call, message, message);
-    same(JSON.stringify(error), `{"name":"MultihashError","message":"${message}","status":${rest}}`, 'in JSON');
+    const text = JSON.stringify(error).replace(/,"taken":\d+/, '');
+    same(text, `{"name":"MultihashError","message":${JSON.stringify(message)},"status":${rest}}`, 'in JSON');
     const again = MultihashError.from(structuredClone(error));
     const fields = ['name', 'message', 'status', 'size', 'code', 'taken', 'isIncomplete'];
     for (const field of keepsCause() ? fields : []) same(again[field], error[field], `${field} of a clone`);
@@ -220,11 +255,8 @@ export function errors({ MultihashError, decode, encode, scaleDecode }) {
   }
   same(JSON.stringify(Object.getOwnPropertyDescriptor(MultihashError.prototype, 'name')),
     '{"value":"MultihashError","writable":true,"enumerable":false,"configurable":true}', 'name, as of other errors');
-  same(new MultihashError('invalid_size', { size: 0 }).message, 'Invalid multihash size 0.', 'size 0');
   const others = [null, undefined, 3, {}, new Error('text'), new Error('text', { cause: { status: 'ok' } })];
   for (const value of others) same(MultihashError.from(value), undefined, `from ${kindOf(value)}`);
-  for (const status of ['ok', 'text', 1, undefined])
-    fails(TypeError, () => new MultihashError(status), 'a wrong status', 'no status of an error');
 }
 
 /** Where both entries connect at once, the first of them serves both; a module of another version serves none. */

@@ -28,3 +28,13 @@ export function fails(kind, call, what, text) {
   if (text) same(error.message, text, what);
   return error;
 }
+
+/** Arrays without their memory: it was moved, or has shrunk. */
+export function gone() {
+  const moved = new Uint8Array(8);
+  structuredClone(moved.buffer, { transfer: [moved.buffer] });
+  const buffer = new ArrayBuffer(8, { maxByteLength: 16 });
+  const outOfBounds = new Uint8Array(buffer, 4, 4);
+  buffer.resize(2);
+  return [moved, outOfBounds];
+}

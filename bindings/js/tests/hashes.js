@@ -1,11 +1,19 @@
 // Hash functions, beside the rows of hashes.tsv, which other programs computed.
-import * as found from '../hashes.js';
-import { hex, same, told, unhex } from './check.js';
+import { gone, hex, same, told, unhex } from './check.js';
+import { KINDS } from './vectors.js';
+
+// Published digests of abc that hashes.tsv does not have.
+const MORE = `
+0x1b	keccak-256	4e03657aea45a94fc7d47ba826c8d667c0d1e6e33a64a036ec44f58fa12d6c45
+0x56	dbl-sha2-256	4f8b42c22dd3729b519ba6f68d2da7cc5b2d606d05daed5ad5128cc03e6c6358
+0x1053	ripemd-160	8eb208f7e05d987a9b044a8e98c6b087f15a0bfc
+0x534d	sm3-256	66c7f0f462eeedd9d1f2d46bdc10e4e24167c4875cf2f7a2297da02b8f4ba8e0`;
+const ABC = new TextEncoder().encode('abc');
+const ALWAYS = ['identity', 'sha1', 'sha2-256', 'sha2-384', 'sha2-512', 'dbl-sha2-256'];
 
 /** As many bytes of a digest are read, whichever of them differs. */
-export async function time(module) {
-  const abc = new TextEncoder().encode('abc');
-  const multihash = await found.sha256.digest(abc);
+export async function time({ Multihash, sha256, verify }) {
+  const multihash = await sha256.digest(ABC);
   const counts = [0, 31].map(async (differing) => {
     let count = 0;
     const get = (bytes, name) => {
@@ -13,45 +21,121 @@ export async function time(module) {
       return bytes[name];
     };
     const digest = new Proxy(multihash.digest.map((byte, at) => (at === differing ? byte ^ 1 : byte)), { get });
-    same(await found.verify(Object.assign(module.Multihash.of(0x12, abc), { digest }), abc), false, 'another digest');
+    same(await verify(Object.assign(Multihash.of(0x12, ABC), { digest }), ABC), false, 'another digest');
     return count;
   });
   same(await counts[0], await counts[1], 'bytes that are read');
   same((await counts[0]) >= 32, true, 'all bytes are read');
 }
 
-/** Each function has the code and name of a row, and its digest. */
+/** A function has the code and name of a row, and its digest. */
+async function rowOf(module, hasher, wanted) {
+  const { NAMES, verify } = module;
+  const { name, code, digest } = hasher;
+  const multihash = await digest(ABC);
+  same(`0x${code.toString(16)}\t${NAMES[code]}\t${hex(multihash.digest)}`, wanted, name);
+  same(multihash instanceof module.Multihash, true, name);
+  const { size, bytes } = multihash;
+  for (const claim of [multihash, bytes, { code, size, digest: multihash.digest, bytes }])
+    same(`${await verify(claim, ABC)} ${await verify(claim, ABC.subarray(1))}`, 'true false', `verify ${name}`);
+  for (const kind of KINDS) same((await digest(kind(ABC))).equals(multihash), true, `${name} of other memory`);
+  const input = ABC.slice();
+  const results = Promise.all([digest(input), verify(multihash, input)]);
+  input.fill(0);
+  const [copied, isSame] = await results;
+  same(copied.equals(multihash) && isSame, true, `${name} of bytes that change`);
+  for (const bytes of gone())
+    for (const call of [digest(bytes), verify(multihash, bytes)])
+      same((await told(call)).startsWith('TypeError: '), true, `${name} of bytes that are gone`);
+}
+
+/** The functions, names and codes are those of the rows; only the platform's functions hash. */
 export async function hashes(module, _, text) {
-  const { CODES, NAMES, verify, ...functions } = found;
-  const rows = text.trim().split('\n').map((line) => line.split('\t'));
-  const abc = new TextEncoder().encode('abc');
-  for (const { name, code, digest } of Object.values(functions)) {
-    const multihash = await digest(abc);
-    const row = `0x${code.toString(16)}\t${NAMES[code]}\t${hex(multihash.digest)}`;
-    same(row, rows.find((row) => row[1] === name)?.join('\t'), name);
-    same(`${CODES[name]} ${multihash instanceof module.Multihash}`, `${code} true`, name);
-    same(await verify(multihash, abc), true, `verify ${name}`);
-    same(await verify(multihash.bytes, abc.subarray(1)), false, `verify ${name}, other bytes`);
-    const input = abc.slice();
-    const results = Promise.all([digest(input), verify(multihash, input)]);
-    input.fill(0);
-    const [copied, isSame] = await results;
-    same(copied.equals(multihash) && isSame, true, `${name} of bytes that change`);
-    same(await told(digest('abc')), 'TypeError: bytes have to be a Uint8Array', `${name} of a text`);
+  const { CODES, Multihash, NAMES, hashers, identity, sha256, sha384, sha512, verify } = module;
+  const rows = (text.trim() + MORE).split('\n').slice(1).map((line) => [line, ...line.split('\t')]);
+  for (const [row, code, name] of rows) {
+    same(`${CODES[name]} ${NAMES[Number(code)]}`, `${Number(code)} ${name}`, 'a code');
+    if (hashers[name]) await rowOf(module, hashers[name], row);
   }
-  same(`${CODES.constructor} ${NAMES.toString}`, 'undefined undefined', 'names that are none');
-  same([CODES, NAMES, functions.sha256].every(Object.isFrozen), true, 'constants');
-  const { digest } = await functions.sha256.digest(abc);
+  for (const name of ALWAYS) same(hashers[name]?.name, name, 'functions of all platforms');
+  for (const each of [identity, sha256, sha384, sha512]) same(hashers[each.name], each, 'a function with a name');
+  same(`${CODES.constructor} ${NAMES.toString} ${hashers.valueOf}`, 'undefined undefined undefined', 'not names');
+  same([CODES, NAMES, hashers, sha256].every(Object.isFrozen), true, 'constants');
+  Object.prototype[0x1e] = 'SHA-256';
+  const claim = Multihash.of(0x1e, ABC);
+  const missing = await told(verify(claim, ABC));
+  delete Object.prototype[0x1e];
+  same(missing, 'RangeError: this platform has no function for the code 0x1e (blake3)', 'a code without a function');
+  same(await told(verify(Multihash.of(0x5555, ABC), ABC)),
+    'RangeError: this platform has no function for the code 0x5555', 'a code without a name');
+  const { digest } = await sha256.digest(ABC);
   const others = [digest.subarray(1), digest.subarray(0, 31), digest.subarray(0, 0), Uint8Array.of(...digest, 0),
     Uint8Array.of(...digest.subarray(0, 31), digest[31] ^ 1)];
-  for (const other of others) same(await verify(module.Multihash.of(0x12, other), abc), false, 'another digest');
-  for (const code of [0x16, 0x1e])
-    same(await told(verify(module.Multihash.of(code, abc), abc)),
-      `RangeError: no function here has the code 0x${code.toString(16)}`, 'a code without a function');
-  same(await told(verify(abc, abc)), 'MultihashError: failed to fill whole buffer', 'no multihash');
-  same(await told(functions.identity.digest(new Uint8Array(256))), 'MultihashError: Invalid multihash size 256.',
-    'too long');
+  for (const other of others) same(await verify(Multihash.of(0x12, other), ABC), false, 'another digest');
   // of the tests of the Rust crate multihash 0.11.4, which hashed
   const theirs = unhex('1220936a185caaa266bb9cbe981e9e05cb78cd732b0b3280eb944412bb6f8f8f07af');
   same(await verify(theirs, new TextEncoder().encode('helloworld')), true, 'helloworld');
+}
+
+/** A digest is truncated if that is wanted, and wrong arguments are named. */
+export async function hashArguments({ Multihash, identity, sha256, verify }) {
+  const whole = await sha256.digest(ABC);
+  for (const truncate of [0, 20, 32]) {
+    const { code, digest } = await sha256.digest(ABC, { truncate });
+    same(`${code} ${hex(digest)}`, `18 ${hex(whole.digest.subarray(0, truncate))}`, `truncate ${truncate}`);
+  }
+  for (const truncate of [33, -1, 1.5, '20', NaN])
+    same(await told(sha256.digest(ABC, { truncate })),
+      `RangeError: truncate must be a whole number from 0 to 32, got ${truncate}`, 'truncate');
+  same(await told(sha256.digest(ABC, 20)), 'TypeError: options must be an object, got 20', 'options');
+  for (const call of [sha256.digest('abc'), identity.digest('abc'), verify(whole, 'abc')])
+    same(await told(call), 'TypeError: content must be a Uint8Array, a ReadableStream or an async iterable, got string',
+      'a content');
+  for (const claim of ['1200', {}, null])
+    same((await told(verify(claim, ABC))).startsWith('TypeError: multihash must be a Multihash or its encoding, got '),
+      true, 'a claim');
+  same(await told(verify(ABC, ABC)), 'MultihashError: the input ends inside the digest (1 of 98 bytes)', 'an encoding');
+  same(await told(identity.digest(new Uint8Array(300))),
+    'MultihashError: the digest has 300 bytes, and the limit is 255', 'too long');
+  same(await verify(Multihash.of(0, new Uint8Array(255)), new Uint8Array(300)), false, 'a content that is too long');
+  same((await identity.digest(new Uint8Array(255))).size, 255, 'the longest');
+}
+
+/** Chunks in the same memory, as sources may have them. */
+async function* chunks(content, end) {
+  const memory = new Uint8Array(1000);
+  try {
+    for (let at = 0; at < content.length; at += 1000) {
+      memory.set(content.subarray(at, at + 1000));
+      yield memory.subarray(0, Math.min(1000, content.length - at));
+    }
+  } finally {
+    end?.();
+  }
+}
+
+/** Content of streams is hashed as that of bytes. After an error the source is cancelled. */
+export async function hashStreams({ hashers, identity, sha256, verify }) {
+  const content = new Uint8Array(2500).map((_, index) => index);
+  const stream = () => new Blob([content]).stream();
+  for (const { digest } of ALWAYS.slice(1).map((name) => hashers[name])) {
+    const multihash = await digest(content);
+    for (const source of [stream, () => chunks(content)]) {
+      same((await digest(source())).equals(multihash), true, 'digest');
+      same(await verify(multihash, source()), true, 'verify');
+    }
+  }
+  same(`${await identity.digest(chunks(content.subarray(0, 3)))}`, '0003000102', 'identity');
+  same(await told(identity.digest(stream())), 'MultihashError: the digest has 2500 bytes, and the limit is 255',
+    'identity');
+  let ends = 0;
+  const texts = { [Symbol.asyncIterator]: () => ({ next: async () => ({ value: 'a' }), return: () => (ends += 1) }) };
+  same(await told(sha256.digest(texts)), 'TypeError: a chunk of the content must be a Uint8Array, got string',
+    'a text');
+  same(ends, 1, 'the source is cancelled');
+  const failing = new ReadableStream({ pull: () => Promise.reject(new Error('broken')) });
+  same(await told(sha256.digest(failing)), 'Error: broken', 'a source that fails');
+  const left = stream();
+  await sha256.digest(left);
+  same(left.locked, false, 'a source at its end');
 }

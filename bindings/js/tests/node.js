@@ -4,10 +4,11 @@ import { readFileSync } from 'node:fs';
 import { dirname, join } from 'node:path';
 import { Readable } from 'node:stream';
 import { test } from 'node:test';
+import { clearImmediate, setImmediate } from 'node:timers';
 import { fileURLToPath } from 'node:url';
 import { SourceTextModule, createContext, runInContext } from 'node:vm';
-import * as hashes from '../hashes.js';
 import { fails, hex, same, told, unhex } from './check.js';
+import { hashStreams, hashes } from './hashes.js';
 import { endedAnywhere } from './stream.js';
 import { tests } from './suite.js';
 
@@ -20,8 +21,8 @@ const vectors = process.env.MULTIHASH_VERDICTS ??
  * Evaluates a program and then an entry in a context that compiles no WebAssembly, like hosts at the edge.
  * Returns the entry's exports. A request has that response.
  */
-async function inContext(name, program = '', response = undefined) {
-  const context = createContext({ atob, URL, fetch: async () => response },
+async function inContext(name, program = '', response = undefined, globals = {}) {
+  const context = createContext({ atob, URL, fetch: async () => response, ...globals },
     { codeGeneration: { strings: false, wasm: false } });
   runInContext(program, context);
   const initializeImportMeta = (meta) => (meta.url = `https://localhost/${name}`);
@@ -57,9 +58,9 @@ async function unfit() {
 /** There module.js works with what was compiled elsewhere. */
 async function compiledBefore() {
   const entry = await inContext('module.js');
-  const { decode, read, head, scaleDecode, encode, scaleEncode, encodedLength, Multihash, MultihashError } = entry;
+  const { decode, read, head, scaleDecode, encode, scaleEncode, encodedLength, Multihash } = entry;
   for (const [call, ...words] of [[decode], [read], [head], [scaleDecode], [encode, 1], [scaleEncode, 1],
-    [Multihash.of, 1], [encodedLength, 1, 2], [(status) => new MultihashError(status), 'overflow']])
+    [Multihash.of, 1], [encodedLength, 1, 2]])
     fails(TypeError, () => call(...words, Uint8Array.of(1, 0)), `${call.name} before connect`,
       "verified-multihash is not connected: import 'verified-multihash', or call connect(module)");
   const empty = new Module(Uint8Array.of(0, 97, 115, 109, 1, 0, 0, 0));
@@ -72,6 +73,36 @@ async function compiledBefore() {
   }
 }
 
+/** Without node:crypto content is hashed by WebCrypto, which pages lack without HTTPS. */
+async function webCrypto(text) {
+  const entries = [{}, { crypto, Blob }].map((globals) => inContext('module.js', '', undefined, globals));
+  const [without, entry] = await Promise.all(entries);
+  for (const each of [without, entry]) each.connect(new Module(bytesOf('multihash.wasm')));
+  same(await told(without.sha256.digest(new Uint8Array())),
+    'TypeError: WebCrypto is missing: a page has it only over HTTPS or on localhost', 'without HTTPS');
+  same(`${Object.keys(entry.hashers)}`, 'identity,sha1,sha2-256,sha2-512,sha2-384,dbl-sha2-256', 'of WebCrypto');
+  for (const check of [hashes, hashStreams]) await check(entry, '', text);
+}
+
+/** Large content leaves time for other work, and identity does not copy or compare it. */
+async function largeContent({ Multihash, identity, sha256, verify }) {
+  const content = new Uint8Array(2 ** 26);
+  let turns = 0;
+  let timer = setImmediate(function turn() {
+    turns++;
+    timer = setImmediate(turn);
+  });
+  const { digest } = await sha256.digest(content);
+  same(turns > 32, true, 'other work');
+  same(hex(digest), '3b6a07d0d404fab4e23b6d34bc6696a6a312dd92821332385e5af7c01c421351', 'of sha256sum');
+  clearImmediate(timer);
+  const start = process.cpuUsage();
+  same(await verify(Multihash.of(0, Uint8Array.of(1)), content), false, 'verify');
+  same((await told(identity.digest(content))).startsWith('MultihashError: '), true, 'digest');
+  const { user, system } = process.cpuUsage(start);
+  same(user + system < 3e5, true, `the time of identity: ${user + system}`);
+}
+
 /** A call that waits for a stream of Node.js ends at a cancellation, for its ReadableStream also at a release. */
 async function nodeStreams(module) {
   const { MultihashReader } = module;
@@ -81,25 +112,34 @@ async function nodeStreams(module) {
   ofWeb.release();
   await ofStream.cancel();
   same(`${await Promise.all(calls)}`, 'null,TypeError: the reader was released', 'calls that wait');
+  const unread = endless();
+  await new MultihashReader(unread).cancel();
+  same(unread.destroyed, true, 'a stream that was not read is destroyed');
   const readable = (bytes) => Readable.toWeb(Readable.from(bytes, { objectMode: false }));
   await endedAnywhere(module, readable, () => new Promise(process.nextTick));
 }
 
 /** The names and numbers that *.d.ts state, the version of package.json, and the entries that connect. */
 function declared(module, which) {
+  const texts = ['index.d.ts', 'hashes.d.ts'].map((file) => bytesOf(file).toString()).join('');
+  const stated = [...texts.matchAll(/^export (?:const|class|function) (\w+)(?:: (\d+);)?/gm)];
   const own = which === 'module' ? ['connect'] : [];
-  for (const [file, found, more] of [['hashes.d.ts', hashes, []], ['index.d.ts', module, own]]) {
-    const text = bytesOf(file).toString();
-    const stated = [...text.matchAll(/^export (?:const|class|function) (\w+)(?:: (\d+);)?/gm)];
-    const names = stated.map(([, name]) => name);
-    same(`${Object.keys(found).sort()}`, `${[...names, ...more].sort()}`, `the names that ${file} has`);
-    for (const [, name, value] of stated) if (value) same(found[name], Number(value), name);
-  }
+  const names = stated.map(([, name]) => name);
+  same(`${Object.keys(module).sort()}`, `${[...names, ...own].sort()}`, 'the names that *.d.ts have');
+  for (const [, name, value] of stated) if (value) same(module[name], Number(value), name);
   const { version, sideEffects, exports } = JSON.parse(bytesOf('package.json'));
   for (const { types, default: code } of Object.values(exports))
     same(types, code?.replace(/js$/, 'd.ts'), 'types in package.json');
   same(module.version, version, 'the version');
   same(sideEffects.includes(`./${which}.js`), which !== 'module', `sideEffects: ${which}.js`);
+}
+
+/** Names and codes of functions that no platform here has. */
+function names({ CODES, NAMES }) {
+  const rows = readFileSync(new URL('../../../crates/vectors/data/codes.tsv', import.meta.url), 'utf8');
+  for (const [code, name] of rows.trim().split('\n').slice(1).map((row) => row.split('\t')))
+    same(`${CODES[name]} ${NAMES[Number(code)]}`, `${Number(code)} ${name}`, 'a code');
+  same(Object.keys(CODES).length, new Set(Object.values(CODES)).size, 'codes differ');
 }
 
 /** Each entry compiles in its own way, if it does: index.js also in pages of Chrome before 115, with this error. */
@@ -120,7 +160,8 @@ export async function run(which) {
   const module = await load(which, compiled);
   const texts = [vectors, join(dirname(vectors), 'hashes.tsv')].map((path) => readFileSync(path, 'utf8'));
   test('declared', () => declared(module, which));
-  if (compiled) for (const check of [compiledBefore, unfit]) test(check.name, check);
+  if (compiled) for (const check of [compiledBefore, unfit, webCrypto]) test(check.name, () => check(texts[1]));
+  if (which === 'index') for (const check of [largeContent, names]) test(check.name, () => check(module));
   test('nodeStreams', () => nodeStreams(module));
   for (const [name, check] of Object.entries(tests)) test(name, () => check(module, ...texts));
 }

@@ -79,7 +79,7 @@ async function malformedStream(module, stream, wanted) {
   const source = byteStream(stream, close, () => (cancelled += 1));
   const ended = new module.MultihashReader(source, { limit: 31 });
   const { error, rest } = await drained(ended);
-  same(`${error}`, 'MultihashError: Invalid multihash size 32.', 'a limit');
+  same(`${error}`, 'MultihashError: the digest has 32 bytes, and the limit is 31', 'a limit');
   same(`${error.taken} ${source.locked}`, '2 false', 'a stream at an error');
   const other = new module.MultihashReader(source, { rest });
   same(await told(ended.cancel()), 'undefined', "the stream is the other's now");
@@ -180,7 +180,7 @@ async function failingCancellations(module) {
     await told(reader.read());
     same(`${await told(reader.cancel())}, ${!first.locked}`, 'Error: stuck, true', 'a call after the end');
     const failed = new module.MultihashReader(second)[Symbol.asyncIterator]();
-    same(await told(failed.next()), 'MultihashError: encoding is not minimal', 'the first error of a loop');
+    same((await told(failed.next())).slice(0, 38), 'MultihashError: the varint of the code', 'the first error of a loop');
     const loop = new module.MultihashReader(left)[Symbol.asyncIterator]();
     await loop.next();
     same(`${await told(loop.return())}, ${!left.locked}`, 'Error: stuck, true', 'a loop that is left');
@@ -190,15 +190,19 @@ async function failingCancellations(module) {
 async function wrongSources(module, stream) {
   const texts = new module.MultihashReader(chunks(stream.subarray(0, 9), 'text', stream.subarray(9)));
   for (const text of [await drained(texts), await drained(texts)])
-    same(`${text.error?.name} ${text.found.length} ${text.rest.length}`, 'TypeError 0 9', 'a chunk that is text');
-  for (const source of [null, 3, 'ab', [stream], { [Symbol.asyncIterator]: () => null },
-    { [Symbol.asyncIterator]: () => ({}) }])
+    same(`${text.error} ${text.found.length} ${text.rest.length}`,
+      'TypeError: a chunk of the source must be a Uint8Array, got string 0 9', 'a chunk that is text');
+  const kinds = [[null, 'null'], [3, '3'], ['ab', 'string'], [[stream], 'Array'],
+    [{ [Symbol.asyncIterator]: () => null }, 'Object'], [{ [Symbol.asyncIterator]: () => ({}) }, 'Object']];
+  for (const [source, kind] of kinds)
     fails(TypeError, () => new module.MultihashReader(source), 'a source',
-      'the source has to be a ReadableStream or an async iterable');
+      `source must be a ReadableStream or an async iterable, got ${kind}`);
   const options = [
-    [RangeError, { limit: -1 }, 'a limit has to be a whole number, from 2^53 a bigint'],
-    [TypeError, { limit: '64' }, 'a limit has to be a number or a bigint'],
-    [TypeError, { rest: 'ab' }, 'bytes have to be a Uint8Array'],
+    [RangeError, { limit: -1 }, 'limit must be a whole number from 0 to 2^53 - 1, or a bigint, got -1'],
+    [TypeError, { limit: '64' }, 'limit must be a number or a bigint, got string'],
+    [TypeError, { rest: 'ab' }, 'rest must be a Uint8Array, got string'],
+    [TypeError, 2, 'options must be an object, got 2'],
+    [TypeError, null, 'options must be an object, got null'],
   ];
   for (const [kind, option, text] of options) {
     const source = new ReadableStream();

@@ -3,7 +3,9 @@ import * as index from 'verified-multihash';
 import { Multihash, MultihashError, MultihashReader, compare, decode, encode, encodedLength, head, read, scaleDecode,
   scaleEncode } from 'verified-multihash';
 import type { ByteStream, Details, Head, Read, Status, Wide } from 'verified-multihash';
-import { CODES, NAMES, identity, sha256, sha384, sha512, verify } from 'verified-multihash/hashes';
+import { CODES, NAMES, hashers, identity, sha256, sha384, sha512, verify } from 'verified-multihash';
+import type { Content } from 'verified-multihash';
+import * as hashes from 'verified-multihash/hashes';
 import * as inline from 'verified-multihash/inline';
 import * as module from 'verified-multihash/module';
 
@@ -60,16 +62,20 @@ is<Uint8Array>()(found.bytes);
 isFixed(found);
 // @ts-expect-error a multihash is not changed
 found.code = 3;
+is<string>()(found.toString());
+is<Multihash>()(Multihash.fromHex('1200'));
+// @ts-expect-error bytes are no text
+Multihash.fromHex(bytes);
 is<boolean>()(found.equals('any value'));
 is<Multihash<number>>()(found.narrow());
 is<{ code: number | string; size: number; digest: string }>()(found.toJSON());
 
-const error = new MultihashError('invalid_size', { size: 2n ** 60n });
-export const plain: Error = new MultihashError('overflow');
+const error = new MultihashError('a text', { status: 'invalid_size', size: 2n ** 60n });
+export const plain: Error = error;
 // @ts-expect-error 'ok' is the status of no error
-new MultihashError('ok');
+new MultihashError('a text', { status: 'ok' });
 // @ts-expect-error a field may be absent, not undefined
-new MultihashError('overflow', { taken: undefined });
+new MultihashError('a text', { status: 'overflow', taken: undefined });
 is<Status>()(error.status);
 is<Wide | undefined>()(error.size);
 is<Wide | undefined>()(error.code);
@@ -78,7 +84,7 @@ is<boolean>()(error.isIncomplete);
 isFixed(error as Omit<MultihashError, 'name' | 'message' | 'stack'>);
 isFixed(error.cause);
 is<Wide | undefined>()(error.cause.size ?? error.cause.code ?? error.cause.taken);
-is<Details & { readonly status: Status }>()(error.cause);
+is<Details>()(error.cause);
 is<MultihashError | undefined>()(MultihashError.from({}));
 is<{ name: string; message: string; status: Status; size?: number | string; code?: number | string; taken?: number }>()(
   error.toJSON());
@@ -110,7 +116,7 @@ is<Promise<void>>()(reader[Symbol.asyncDispose]());
 is<void>()(module.connect(await WebAssembly.compileStreaming(fetch('multihash.wasm'))));
 // @ts-expect-error bytes are compiled before
 module.connect('multihash.wasm');
-export const entries: (typeof index)[] = [inline, module];
+export const entries: (typeof index)[] = [inline, module, hashes];
 
 /** As in js-multiformats, whose `CID.create` takes it. */
 interface MultihashDigest<Code extends number = number> {
@@ -122,12 +128,12 @@ interface MultihashDigest<Code extends number = number> {
 interface MultihashHasher<Code extends number = number> {
   name: string;
   code: Code;
-  digest(input: Uint8Array): Promise<MultihashDigest<Code>> | MultihashDigest<Code>;
+  digest(input: Uint8Array, options?: { truncate?: number }): Promise<MultihashDigest<Code>> | MultihashDigest<Code>;
 }
 export const theirs: MultihashDigest[] = [found.narrow(), Multihash.of(0x12, bytes)];
 // @ts-expect-error the code may be a bigint
 export const wide: MultihashDigest = found;
-export const hashers: MultihashHasher[] = [sha256, identity];
+export const theirHashers: MultihashHasher[] = [sha256, identity];
 is<string>()(sha256.name);
 isFixed(sha256);
 is<0>()(identity.code);
@@ -135,10 +141,15 @@ is<0x12>()(sha256.code);
 is<0x20>()(sha384.code);
 is<0x13>()(sha512.code);
 is<Multihash<0x12>>()(await sha256.digest(bytes));
+is<Multihash<0x12>>()(await sha256.digest(stream, { truncate: 20 }));
+is<boolean>()((await hashers['blake2b-512']?.digest(bytes))?.equals(found) ?? false);
+export const contents = [bytes, stream, reader.rest] as Content[];
 // @ts-expect-error a text has to be encoded before
 sha256.digest('abc');
 is<boolean>()(await verify(found, bytes));
-is<boolean>()(await verify(bytes, bytes));
+is<boolean>()(await verify(bytes, stream));
+is<boolean>()(await verify({ code: 18, digest: bytes }, bytes));
+is<boolean>()(await verify(theirs[0]!, bytes));
 // @ts-expect-error an encoding is no text
 verify('1200', bytes);
 // @ts-expect-error nor is a content

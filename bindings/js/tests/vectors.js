@@ -34,7 +34,7 @@ function shrunk(bytes) {
 }
 
 /** Arrays of each kind with these bytes. */
-const KINDS = [
+export const KINDS = [
   (bytes) => bytes.slice(),
   (bytes) => amid(bytes),
   (bytes) => amid(bytes, undefined, Lying),
@@ -91,11 +91,10 @@ function checkBack(module, kind, multihash, encoding) {
   const { code, digest, size } = multihash;
   const given = kind(digest);
   const made = Multihash.of(code, given);
-  const other = Object.assign(Multihash.of(code, MORE.subarray(0, 1)), { digest: kind(digest) });
-  for (const [left, right] of [[other, multihash], [multihash, other]])
-    same(`${left.equals(right)} ${compare(left, right)}`, 'true 0', 'the same');
+  same(`${multihash.equals({ code, digest: given })} ${made.equals(multihash)}`, 'true true', 'the same');
+  same(compare(made, multihash), 0, 'the same');
   const form = scaleEncode(code, kind(digest));
-  const bytes = [encode(code, kind(digest)), multihash.bytes, other.bytes];
+  const bytes = [encode(code, kind(digest)), multihash.bytes, Multihash.fromHex(`${multihash}`).bytes];
   Uint8Array.prototype.fill.call(given, 1);
   for (const each of [...bytes, made.bytes])
     same(`${hex(each)} ${each.buffer.byteLength}`, `${hex(encoding)} ${encoding.length}`, 'an encoding');
@@ -115,7 +114,14 @@ export function order(left, right) {
   return at < 0 ? 0 : keys[0][at] < keys[1][at] ? -1 : 1;
 }
 
-/** The length of the code and the size of a truncated SCALE form, as far as they are complete. */
+/** Compares two multihashes of a line of verdicts.py --more. */
+function orderLine({ Multihash, compare }, line) {
+  const [, ...columns] = line.split('\t');
+  const [left, right] = [0, 2].map((at) => Multihash.of(BigInt(columns[at]), unhex(columns[at + 1])));
+  same(`${compare(left, right)} ${left.equals(right)}`, `${columns[4]} ${columns[4] === '0'}`, line);
+}
+
+/** The length of the code and the size of a truncated SCALE encoding, as far as they are complete. */
 const partsOf = ({ length }) => length < 8 ? 0 : Math.min(length, 9);
 
 /** Compares the results for the input of a line with it. Returns the multihash or the error. */
@@ -151,6 +157,10 @@ export function vectors(module, text) {
   same(columns, 'S\tinput\tread\tread_taken\tfrom_bytes\tscale_decode\tscale_taken', 'columns');
   let before = module.Multihash.of(0, new Uint8Array());
   for (const [index, line] of lines.entries()) {
+    if (line.startsWith('order\t')) {
+      orderLine(module, line);
+      continue;
+    }
     const found = checkLine(module, line, KINDS[index % KINDS.length]);
     if (found instanceof Error) continue;
     for (const [left, right] of [[before, found], [found, before]])

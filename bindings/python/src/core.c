@@ -8,7 +8,7 @@ long version;
 
 typedef struct state {
     PyObject *type;
-    PyObject *error;    /* MultihashError, its slot, */
+    PyObject *error; /* MultihashError, and its slot */
     newfunc new_error;
     PyObject *statuses; /* the members of Status by their numbers, */
     PyObject *names;    /* and the names of an error's attributes */
@@ -25,19 +25,21 @@ PyObject *module_of_type(PyTypeObject *type)
     return PyErr_Format(PyExc_TypeError, "not the module of a Multihash: %R", module);
 }
 
-/* Raises a MultihashError, without its __init__, which takes longer. The numbers are taken over; null is a failure
- * that has raised an error. */
-static PyObject *raise_error(PyObject *module, multihash_status status, PyObject *size, PyObject *code, size_t taken)
+/* Raises a MultihashError, without its __init__, which takes longer. The numbers and the reason are taken over; null is
+ * a failure that has raised an error. */
+static PyObject *raise_error(PyObject *module, multihash_status status, PyObject *size, PyObject *code, size_t taken,
+                             PyObject *reason)
 {
     const state *own = module == NULL ? NULL : PyModule_GetState(module);
     if (own != NULL && own->statuses == NULL) {
         PyErr_SetString(PyExc_RuntimeError, "verified_multihash was not imported");
         own = NULL;
     }
-    PyObject *count = size == NULL || code == NULL || own == NULL ? NULL : PyLong_FromSize_t(taken), *error = NULL;
+    int is_ready = own != NULL && size != NULL && code != NULL && reason != NULL;
+    PyObject *count = is_ready ? PyLong_FromSize_t(taken) : NULL, *error = NULL;
     PyObject *values[] = {count == NULL ? NULL : PyTuple_GetItem(own->statuses, (Py_ssize_t)status), size, code, count,
                           status == MULTIHASH_INSUFFICIENT || status == MULTIHASH_UNEXPECTED_EOF ? Py_True : Py_False};
-    PyObject *arguments = values[0] == NULL ? NULL : PyTuple_Pack(4, values[0], size, code, count);
+    PyObject *arguments = values[0] == NULL ? NULL : PyTuple_Pack(5, values[0], size, code, count, reason);
     if (arguments != NULL) error = own->new_error((PyTypeObject *)own->error, arguments, NULL);
     int is_whole = error != NULL;
     for (Py_ssize_t at = 0; is_whole && at < 5; at++) {
@@ -49,30 +51,36 @@ static PyObject *raise_error(PyObject *module, multihash_status status, PyObject
     Py_XDECREF(count);
     Py_XDECREF(size);
     Py_XDECREF(code);
+    Py_XDECREF(reason);
     return NULL;
 }
 
 PyObject *encoding_error(PyObject *module, multihash_status status, PyObject *length, PyObject *code)
 {
     int is_size = status == MULTIHASH_INVALID_SIZE;
-    PyObject *none = length == NULL ? NULL : PyLong_FromLong(0);
+    PyObject *wrong = is_size ? length : code, *none = PyLong_FromLong(0);
     Py_XDECREF(is_size ? code : length);
-    return is_size ? raise_error(module, status, length, none, 0) : raise_error(module, status, none, code, 0);
+    Py_XINCREF(wrong);
+    PyObject *reason = wrong == NULL ? NULL : reason_of_pair(is_size, wrong);
+    return raise_error(module, status, is_size ? wrong : none, is_size ? none : wrong, 0, reason);
 }
 
-/* For the package, once: how errors are made. */
+/* For the package: the class of errors, the members of Status, and the names of an error's attributes. */
 static PyObject *set_error(PyObject *module, PyObject *arguments)
 {
     state *own = PyModule_GetState(module);
-    PyObject *class, *statuses, *names;
-    if (!PyArg_ParseTuple(arguments, "OOO:set_error", &class, &statuses, &names)) return NULL;
-    own->error = class;
-    own->new_error = (newfunc)PyType_GetSlot((PyTypeObject *)class, Py_tp_new);
-    own->statuses = statuses;
-    own->names = names;
-    Py_INCREF(class);
-    Py_INCREF(statuses);
-    Py_INCREF(names);
+    PyObject *class, *statuses, *names, *old[] = {own->error, own->statuses, own->names};
+    if (!PyArg_ParseTuple(arguments, "O!O!O!:set_error", &PyType_Type, &class, &PyTuple_Type, &statuses, &PyTuple_Type,
+                          &names)) {
+        return NULL;
+    }
+    newfunc new_error = (newfunc)PyType_GetSlot((PyTypeObject *)class, Py_tp_new);
+    if (new_error == NULL || PyTuple_Size(names) != 5) return PyErr_Format(PyExc_TypeError, "not a class of errors");
+    own->new_error = new_error;
+    Py_INCREF(own->error = class);
+    Py_INCREF(own->statuses = statuses);
+    Py_INCREF(own->names = names);
+    for (int at = 0; at < 3; at++) Py_XDECREF(old[at]); /* of a package that is loaded again */
     Py_RETURN_NONE;
 }
 
@@ -83,11 +91,11 @@ static PyTypeObject *type_of_module(PyObject *module)
     return (PyTypeObject *)((state *)PyModule_GetState(module))->type;
 }
 
-PyObject *decoded(PyObject *module, const uint8_t *bytes, multihash_decoded found)
+PyObject *decoded(PyObject *module, const uint8_t *bytes, multihash_decoded found, PyObject *reason)
 {
     if (found.status != MULTIHASH_OK) {
         PyObject *size = PyLong_FromUnsignedLongLong(found.size), *code = PyLong_FromUnsignedLongLong(found.code);
-        return raise_error(module, found.status, size, code, found.taken);
+        return raise_error(module, found.status, size, code, found.taken, reason);
     }
     const char *digest = (const char *)bytes + found.digest_offset;
     PyObject *code = PyLong_FromUnsignedLongLong(found.code);
@@ -96,11 +104,19 @@ PyObject *decoded(PyObject *module, const uint8_t *bytes, multihash_decoded foun
 }
 
 /* The same of an input, which is taken over, with the number of bytes consumed. */
-static PyObject *decoded_front(PyObject *module, input *from, multihash_decoded found)
+static PyObject *decoded_front(PyObject *module, input *from, multihash_decoded found, PyObject *reason)
 {
-    PyObject *multihash = decoded(module, from->bytes, found);
+    PyObject *multihash = decoded(module, from->bytes, found, reason);
     Py_DECREF(from->owner);
     return multihash == NULL ? NULL : Py_BuildValue("Nn", multihash, (Py_ssize_t)found.taken);
+}
+
+PyObject *decoded_whole(PyObject *module, input *from)
+{
+    multihash_decoded found = multihash_from_prefix(from->bytes, from->length, from->whole);
+    PyObject *multihash = decoded(module, from->bytes, found, reason_of(from, MULTIHASH_DIGEST_MAX, found.status));
+    Py_DECREF(from->owner);
+    return multihash;
 }
 
 static PyObject *decode(PyObject *module, PyObject *arguments, PyObject *named)
@@ -109,10 +125,8 @@ static PyObject *decode(PyObject *module, PyObject *arguments, PyObject *named)
     PyObject *data;
     input from;
     if (!get_arguments(arguments, named, "O:decode", names, &data, NULL)) return NULL;
-    if (get_input(data, MULTIHASH_HEAD_MAX + MULTIHASH_DIGEST_MAX, &from) < 0) return NULL;
-    PyObject *multihash = decoded(module, from.bytes, multihash_from_prefix(from.bytes, from.length, from.whole));
-    Py_DECREF(from.owner);
-    return multihash;
+    if (get_input(data, "data", MULTIHASH_HEAD_MAX + MULTIHASH_DIGEST_MAX, &from) < 0) return NULL;
+    return decoded_whole(module, &from);
 }
 
 static PyObject *read_front(PyObject *module, PyObject *arguments, PyObject *named)
@@ -124,8 +138,9 @@ static PyObject *read_front(PyObject *module, PyObject *arguments, PyObject *nam
     if (!get_arguments(arguments, named, "O|O:read", names, &data, &most)) return NULL;
     if (most != NULL && get_size(&most, "limit", &limit) < 0) return NULL;
     Py_XDECREF(most);
-    if (get_input(data, MULTIHASH_HEAD_MAX + MULTIHASH_DIGEST_MAX, &from) < 0) return NULL;
-    return decoded_front(module, &from, multihash_read_limit(from.bytes, from.length, limit));
+    if (get_input(data, "data", MULTIHASH_HEAD_MAX + MULTIHASH_DIGEST_MAX, &from) < 0) return NULL;
+    multihash_decoded found = multihash_read_limit(from.bytes, from.length, limit);
+    return decoded_front(module, &from, found, reason_of(&from, limit, found.status));
 }
 
 static PyObject *scale_decode(PyObject *module, PyObject *arguments, PyObject *named)
@@ -134,18 +149,20 @@ static PyObject *scale_decode(PyObject *module, PyObject *arguments, PyObject *n
     PyObject *data;
     input from;
     if (!get_arguments(arguments, named, "O:scale_decode", names, &data, NULL)) return NULL;
-    if (get_input(data, MULTIHASH_SCALE_LENGTH_MAX, &from) < 0) return NULL;
-    return decoded_front(module, &from, multihash_scale_decode(from.bytes, from.length));
+    if (get_input(data, "data", MULTIHASH_SCALE_LENGTH_MAX, &from) < 0) return NULL;
+    multihash_decoded found = multihash_scale_decode(from.bytes, from.length);
+    return decoded_front(module, &from, found, reason_of_scale(&from, found));
 }
 
 static PyObject *head(PyObject *module, PyObject *data)
 {
     input from;
-    if (get_input(data, MULTIHASH_HEAD_MAX, &from) < 0) return NULL;
+    if (get_input(data, "data", MULTIHASH_HEAD_MAX, &from) < 0) return NULL;
     multihash_front found = multihash_head(from.bytes, from.length);
+    PyObject *reason = reason_of(&from, MULTIHASH_DIGEST_MAX, found.status);
     Py_DECREF(from.owner);
     if (found.status != MULTIHASH_OK) {
-        return raise_error(module, found.status, PyLong_FromLong(0), PyLong_FromLong(0), found.taken);
+        return raise_error(module, found.status, PyLong_FromLong(0), PyLong_FromLong(0), found.taken, reason);
     }
     unsigned long long code = found.code, length = found.digest_length;
     return Py_BuildValue("KKn", code, length, (Py_ssize_t)found.taken);
@@ -192,7 +209,7 @@ static PyObject *encoded_len(PyObject *module, PyObject *arguments, PyObject *na
     size_t size;
     if (!get_arguments(arguments, named, "OO:encoded_len", names, &code, &length)) return NULL;
     if (get_number(&code, "code", &number) < 0) return NULL;
-    if (get_size(&length, "length", &size) == 0) {
+    if (get_size(&length, "digest_length", &size) == 0) {
         multihash_encoded made = multihash_encoded_len(number, size);
         if (made.status != MULTIHASH_OK) return encoding_error(module, made.status, length, code);
         result = PyLong_FromSize_t(made.length);
@@ -209,7 +226,7 @@ static PyObject *compare(PyObject *module, PyObject *arguments, PyObject *named)
     if (!get_arguments(arguments, named, "OO:compare", names, &sides[0], &sides[1])) return NULL;
     for (int side = 0; side < 2; side++) {
         if (!PyObject_TypeCheck(sides[side], type_of_module(module))) {
-            return PyErr_Format(PyExc_TypeError, "expected a Multihash, not %R", Py_TYPE(sides[side]));
+            return wrong_type(names[side], "a Multihash", sides[side]);
         }
     }
     return PyLong_FromLong(order_of(sides[0], sides[1]));
@@ -233,23 +250,23 @@ static PyObject *status_text(PyObject *module, PyObject *status)
 
 static PyMethodDef functions[] = {
     {"decode", WITH_NAMES(decode),
-     "decode(data)\n--\n\nDecodes the multihash whose encoding is all of the bytes; trailing bytes are an INVALID_SIZE."},
+     "decode(data)\n--\n\nDecodes the multihash whose encoding is the whole of `data`."},
     {"read", WITH_NAMES(read_front),
      "read(data, limit=255)\n--\n\n"
-     "Decodes the multihash at the front of the bytes, whose digest has at most `limit` bytes.\n\n"
-     "Returns the multihash and the length of its encoding. Copies at most 273 bytes of a byte buffer."},
+     "Decodes the multihash at the start of `data`, with a digest of at most `limit` bytes.\n\n"
+     "Returns the multihash and the length of its encoding."},
     {"scale_decode", WITH_NAMES(scale_decode),
      "scale_decode(data)\n--\n\n"
-     "Decodes the multihash whose SCALE form is at the front of the bytes. Also returns the form's length."},
+     "Decodes the multihash at the start of `data` from its SCALE encoding. Returns it and the length read."},
     {"head", head, METH_O, NULL},
     {"encode", WITH_NAMES(encode), "encode(code, digest)\n--\n\nReturns the encoding of a code and a digest."},
     {"scale_encode", WITH_NAMES(scale_encode),
-     "scale_encode(code, digest)\n--\n\nReturns the SCALE form of a code and a digest."},
+     "scale_encode(code, digest)\n--\n\nReturns the SCALE encoding of a code and a digest."},
     {"encoded_len", WITH_NAMES(encoded_len),
      "encoded_len(code, digest_length)\n--\n\n"
      "Returns the length of the encoding of a code and a digest of that length."},
     {"compare", WITH_NAMES(compare),
-     "compare(left, right)\n--\n\nCompares two multihashes: returns -1, 0 or 1 by their order."},
+     "compare(left, right)\n--\n\nReturns -1, 0 or 1: the order of two multihashes."},
     {"read_once", read_once, METH_VARARGS, NULL},
     {"set_error", set_error, METH_VARARGS, NULL},
     {"status_text", status_text, METH_O, NULL},

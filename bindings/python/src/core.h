@@ -8,19 +8,6 @@
 
 #include "multihash.h"
 
-/* ---- core.c */
-
-extern long version; /* of CPython, as sys.hexversion */
-
-/* The module of a type, which keeps it; null is a failure that has raised an error. */
-PyObject *module_of_type(PyTypeObject *type);
-
-/* Raises the error of an encoding. The length, which may be null, and the code are taken over. */
-PyObject *encoding_error(PyObject *module, multihash_status status, PyObject *length, PyObject *code);
-
-/* The multihash that a decoding found in these bytes. */
-PyObject *decoded(PyObject *module, const uint8_t *bytes, multihash_decoded found);
-
 /* ---- arguments.c */
 
 /* An attribute, by a name that is there once: CPython's cache keeps each new one. */
@@ -37,8 +24,11 @@ typedef struct input {
     size_t whole; /* the length of the argument */
 } input;
 
+/* Raises a TypeError, `name must be expected, not its type`, and returns null. */
+PyObject *wrong_type(const char *name, const char *expected, PyObject *argument);
+
 /* Takes any object with the buffer protocol. Copies some `most` bytes of what is no bytes object. */
-int get_input(PyObject *argument, Py_ssize_t most, input *to);
+int get_input(PyObject *argument, const char *name, Py_ssize_t most, input *to);
 
 /* One argument or two of a function, by position or name. */
 int get_arguments(PyObject *arguments, PyObject *named, const char *format, char **names, PyObject **first,
@@ -55,6 +45,30 @@ int get_size(PyObject **argument, const char *name, size_t *size);
  * longest has is copied. */
 int get_pair(PyObject *arguments, PyObject *named, const char *format, PyObject **code, uint64_t *number,
              input *digest);
+
+/* What is wrong with an encoding: a format and its values, which MultihashError puts together if it is asked for the
+ * text. Null if nothing is wrong, or with an error set. */
+PyObject *reason_of(const input *from, size_t limit, multihash_status status);
+PyObject *reason_of_scale(const input *from, multihash_decoded found);
+
+/* The same of a digest of that length, or of that code, which is taken over. */
+PyObject *reason_of_pair(int is_size, PyObject *number);
+
+/* ---- core.c */
+
+extern long version; /* of CPython, as sys.hexversion */
+
+/* The module of a type, which keeps it; null is a failure that has raised an error. */
+PyObject *module_of_type(PyTypeObject *type);
+
+/* Raises the error of an encoding. The length, which may be null, and the code are taken over. */
+PyObject *encoding_error(PyObject *module, multihash_status status, PyObject *length, PyObject *code);
+
+/* The multihash that a decoding found in these bytes, or the error of that reason, which is taken over. */
+PyObject *decoded(PyObject *module, const uint8_t *bytes, multihash_decoded found, PyObject *reason);
+
+/* The multihash whose encoding is the whole of an input, which is taken over. */
+PyObject *decoded_whole(PyObject *module, input *from);
 
 /* ---- value.c */
 

@@ -12,6 +12,23 @@ typedef struct reader_object {
     uint8_t rest[MULTIHASH_HEAD_MAX + MULTIHASH_DIGEST_MAX];
 } reader_object;
 
+/* What a reader of that file calls. */
+static PyObject *read_of(PyObject *file)
+{
+    PyObject *read = attribute_of(file, "read");
+    if (read != NULL || !PyErr_ExceptionMatches(PyExc_AttributeError)) return read;
+    PyErr_Clear();
+    return wrong_type("file or stream", "an object with a method read", file);
+}
+
+/* Raises an error if a call of the file has not returned. */
+static int check_idle(const reader_object *reader)
+{
+    if (!reader->is_busy) return 0;
+    PyErr_SetString(PyExc_RuntimeError, "another call of the reader has not ended");
+    return -1;
+}
+
 static int reader_init(PyObject *self, PyObject *arguments, PyObject *named)
 {
     static char *names[] = {"file", "limit", NULL};
@@ -22,11 +39,15 @@ static int reader_init(PyObject *self, PyObject *arguments, PyObject *named)
     if (most != NULL && get_size(&most, "limit", &limit) < 0) return -1;
     Py_XDECREF(most);
     if ((module = module_of_type(Py_TYPE(self))) == NULL) return -1;
-    if ((read = attribute_of(file, "read")) == NULL) return -1;
+    if ((read = read_of(file)) == NULL) return -1;
+    if (check_idle(reader) < 0) {
+        Py_DECREF(read);
+        return -1;
+    }
     if (reader->module == NULL) Py_INCREF(reader->module = module);
     reader->limit = limit;
     reader->length = 0;
-    reader->has_lost = reader->is_busy = 0;
+    reader->has_lost = 0;
     PyObject *old = reader->read; /* now: `file` may begin this reader anew, too */
     reader->read = read;
     Py_XDECREF(old);
@@ -67,33 +88,35 @@ static size_t missing(const reader_object *reader)
     return found.taken + (size_t)found.digest_length - reader->length;
 }
 
-/* The number of bytes to read, none if the next result is known; negative with an error set. */
-static Py_ssize_t wanted(const reader_object *reader)
+/* Begins a call of the file: the number of bytes to read, none if the next result is known; negative with an error
+ * set. */
+static Py_ssize_t begin(reader_object *reader)
 {
     size_t count = missing(reader);
-    if (count > 0 && reader->read == NULL) {
-        PyErr_SetString(PyExc_ValueError, "not initialized");
-    } else if (count > 0 && reader->is_busy) {
-        PyErr_SetString(PyExc_RuntimeError, "another call of the reader has not ended");
-    } else if (count > 0 && reader->has_lost) {
-        PyErr_SetString(PyExc_ValueError, "the file failed before, so bytes may be lost");
-    } else {
-        return (Py_ssize_t)count;
+    if (count == 0) return 0;
+    if (check_idle(reader) < 0) return -1;
+    if (reader->read == NULL || reader->has_lost) {
+        PyErr_SetString(PyExc_ValueError, reader->read == NULL ? "the reader has no file: __init__ was not called"
+                                                               : "the file failed before, so bytes may be lost");
+        return -1;
     }
-    return -1;
+    reader->is_busy = 1;
+    return (Py_ssize_t)count;
 }
 
-/* Keeps what the file returned: 1, or 0 at its end, where these are no bytes; negative with an error set. */
-static int keep(reader_object *reader, PyObject *chunk)
+/* Ends it with what the file returned: 1, or 0 at its end, where these are no bytes; negative with an error set. */
+static int end(reader_object *reader, PyObject *chunk)
 {
     input from;
     reader->has_lost = chunk != Py_None;
     if (chunk == Py_None) PyErr_SetString(PyExc_BlockingIOError, "the file has no bytes now");
-    if (chunk == Py_None || get_input(chunk, sizeof reader->rest, &from) < 0) return -1;
-    size_t most = missing(reader); /* the file may have called this reader */
+    int is_there = chunk != Py_None && get_input(chunk, "the result of read", sizeof reader->rest, &from) == 0;
+    reader->is_busy = 0;
+    if (!is_there) return -1;
+    size_t most = missing(reader);
     reader->has_lost = from.whole > most;
     if (reader->has_lost) {
-        PyErr_Format(PyExc_ValueError, "read(%zu) returned %zu bytes", most, from.whole);
+        PyErr_Format(PyExc_ValueError, "the file returned %zu bytes to read(%zu)", from.whole, most);
     } else {
         memcpy(reader->rest + reader->length, from.bytes, from.whole);
         reader->length += from.whole;
@@ -102,42 +125,43 @@ static int keep(reader_object *reader, PyObject *chunk)
     return reader->has_lost ? -1 : from.whole > 0;
 }
 
-/* Reads at most that many bytes, and keeps them. */
+/* Reads at most that many bytes, after `begin`, and keeps them. */
 static int read_chunk(reader_object *reader, Py_ssize_t count)
 {
     PyObject *number = PyLong_FromSsize_t(count), *read = reader->read;
-    if (number == NULL) return -1;
     Py_INCREF(read);
-    reader->is_busy = reader->has_lost = 1; /* until the bytes are kept */
-    PyObject *chunk = PyObject_CallFunctionObjArgs(read, number, NULL);
-    reader->is_busy = 0;
-    int kept = chunk == NULL ? -1 : keep(reader, chunk);
-    if (chunk == NULL && PyErr_ExceptionMatches(PyExc_BlockingIOError)) reader->has_lost = 0;
+    PyObject *chunk = number == NULL ? NULL : PyObject_CallFunctionObjArgs(read, number, NULL);
+    int kept = -1;
+    if (chunk != NULL) {
+        kept = end(reader, chunk);
+    } else {
+        reader->is_busy = 0;
+        reader->has_lost = number != NULL && !PyErr_ExceptionMatches(PyExc_BlockingIOError);
+    }
     Py_XDECREF(chunk);
+    Py_XDECREF(number);
     Py_DECREF(read);
-    Py_DECREF(number);
     return kept;
 }
 
 /* The multihash of the bytes, or None if there are none. */
-static PyObject *reader_decoded(PyObject *self, PyObject *unused)
+static PyObject *take_multihash(reader_object *reader)
 {
-    reader_object *reader = (reader_object *)self;
-    (void)unused;
     if (reader->length == 0) Py_RETURN_NONE;
     multihash_decoded found = multihash_read_limit(reader->rest, reader->length, reader->limit);
-    PyObject *multihash = decoded(reader->module, reader->rest, found);
+    input from = {NULL, reader->rest, reader->length, reader->length};
+    PyObject *reason = reason_of(&from, reader->limit, found.status);
+    PyObject *multihash = decoded(reader->module, reader->rest, found, reason);
     if (multihash != NULL) reader->length = 0;
     return multihash;
 }
 
-static PyObject *reader_next(PyObject *self, PyObject *unused)
+static PyObject *next_multihash(reader_object *reader)
 {
-    reader_object *reader = (reader_object *)self;
     Py_ssize_t count;
     int kept = 1;
-    while ((count = wanted(reader)) > 0 && (kept = read_chunk(reader, count)) > 0) continue;
-    return count < 0 || kept < 0 ? NULL : reader_decoded(self, unused);
+    while ((count = begin(reader)) > 0 && (kept = read_chunk(reader, count)) > 0) continue;
+    return count < 0 || kept < 0 ? NULL : take_multihash(reader);
 }
 
 /* This reader ends with the call: after an error, as of a file that ends within a multihash, what was read is lost. */
@@ -148,23 +172,48 @@ PyObject *read_once(PyObject *module, PyObject *arguments)
     if (!PyArg_UnpackTuple(arguments, "read_once", 2, 2, &file, &most)) return NULL;
     if (get_size(&most, "limit", &reader.limit) < 0) return NULL;
     Py_DECREF(most);
-    if ((reader.read = attribute_of(file, "read")) == NULL) return NULL;
-    PyObject *multihash = reader_next((PyObject *)&reader, NULL);
+    if ((reader.read = read_of(file)) == NULL) return NULL;
+    PyObject *multihash = next_multihash(&reader);
     Py_DECREF(reader.read);
     return multihash;
 }
 
-static PyObject *reader_wanted(PyObject *self, PyObject *unused)
+static PyObject *reader_next(PyObject *self, PyObject *unused)
 {
-    Py_ssize_t count = wanted((reader_object *)self);
+    (void)unused;
+    return next_multihash((reader_object *)self);
+}
+
+/* The steps of `next_multihash`, for a call of the file that is awaited: to begin, end or fail, and the result. */
+static PyObject *reader_begin(PyObject *self, PyObject *unused)
+{
+    Py_ssize_t count = begin((reader_object *)self);
     (void)unused;
     return count < 0 ? NULL : PyLong_FromSsize_t(count);
 }
 
-static PyObject *reader_keep(PyObject *self, PyObject *chunk)
+static PyObject *reader_end(PyObject *self, PyObject *chunk)
 {
-    int kept = wanted((reader_object *)self) < 0 ? -1 : keep((reader_object *)self, chunk);
+    reader_object *reader = (reader_object *)self;
+    if (!reader->is_busy) return PyErr_Format(PyExc_RuntimeError, "no call of the file has begun");
+    int kept = end(reader, chunk);
     return kept < 0 ? NULL : PyBool_FromLong(kept);
+}
+
+static PyObject *reader_fail(PyObject *self, PyObject *error)
+{
+    reader_object *reader = (reader_object *)self;
+    reader->is_busy = 0;
+    /* A call that was cancelled has lost nothing, and its error is no Exception. */
+    reader->has_lost = PyErr_GivenExceptionMatches(error, PyExc_Exception) &&
+                       !PyErr_GivenExceptionMatches(error, PyExc_BlockingIOError);
+    Py_RETURN_NONE;
+}
+
+static PyObject *reader_take(PyObject *self, PyObject *unused)
+{
+    (void)unused;
+    return take_multihash((reader_object *)self);
 }
 
 static PyObject *reader_rest(PyObject *self, void *unused)
@@ -175,25 +224,23 @@ static PyObject *reader_rest(PyObject *self, void *unused)
 }
 
 static PyMethodDef reader_methods[] = {
-    {"_decoded", reader_decoded, METH_NOARGS, NULL}, {"_keep", reader_keep, METH_O, NULL},
-    {"_next", reader_next, METH_NOARGS, NULL},       {"_wanted", reader_wanted, METH_NOARGS, NULL},
-    {NULL, NULL, 0, NULL},
+    {"_begin", reader_begin, METH_NOARGS, NULL}, {"_end", reader_end, METH_O, NULL},
+    {"_fail", reader_fail, METH_O, NULL},        {"_next", reader_next, METH_NOARGS, NULL},
+    {"_take", reader_take, METH_NOARGS, NULL},   {NULL, NULL, 0, NULL},
 };
 
 static PyMemberDef reader_members[] = {
     {"_read", T_OBJECT_EX, offsetof(reader_object, read), READONLY, NULL},
-    {"_has_lost", T_BOOL, offsetof(reader_object, has_lost), 0, NULL},
-    {"_is_busy", T_BOOL, offsetof(reader_object, is_busy), 0, NULL},
     {NULL, 0, 0, 0, NULL},
 };
 
 static PyGetSetDef reader_attributes[] = {
-    {"rest", reader_rest, NULL, "The bytes that were read and belong to no multihash that was returned.", NULL},
+    {"rest", reader_rest, NULL, "The bytes read so far of the next multihash.", NULL},
     {NULL, NULL, NULL, NULL, NULL},
 };
 
 static PyType_Slot reader_slots[] = {
-    {Py_tp_doc, "Reader(file, limit=255)\n--\n\nWhat both readers are, but for the call of the file."},
+    {Py_tp_doc, "Reader(file, limit=255)\n--\n\nThe base of both readers."},
     {Py_tp_init, reader_init},
     {Py_tp_traverse, reader_traverse},
     {Py_tp_clear, reader_clear},

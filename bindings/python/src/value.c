@@ -93,14 +93,76 @@ static Py_hash_t multihash_hash(PyObject *self)
     return hash == -1 ? -2 : hash;
 }
 
+/* Writes the encoding, and returns its length: each Multihash has one. */
+static size_t encode_to(PyObject *self, uint8_t out[MULTIHASH_LENGTH_MAX])
+{
+    size_t length;
+    const uint8_t *digest = digest_of(self, &length);
+    return multihash_encode(((multihash_object *)self)->number, digest, length, out, MULTIHASH_LENGTH_MAX).length;
+}
+
+static PyObject *hex_of(const uint8_t *bytes, size_t length)
+{
+    char out[2 * MULTIHASH_LENGTH_MAX];
+    for (size_t at = 0; at < length; at++) {
+        out[2 * at] = "0123456789abcdef"[bytes[at] >> 4];
+        out[2 * at + 1] = "0123456789abcdef"[bytes[at] & 15];
+    }
+    return PyUnicode_FromStringAndSize(out, (Py_ssize_t)(2 * length));
+}
+
+static PyObject *multihash_str(PyObject *self)
+{
+    uint8_t encoding[MULTIHASH_LENGTH_MAX];
+    return hex_of(encoding, encode_to(self, encoding));
+}
+
 static PyObject *multihash_repr(PyObject *self)
 {
-    const multihash_object *multihash = (const multihash_object *)self;
     PyObject *name = attribute_of((PyObject *)Py_TYPE(self), "__qualname__");
-    if (name == NULL) return NULL;
-    PyObject *shown = PyUnicode_FromFormat("%U(code=%R, digest=%R)", name, multihash->code, multihash->digest);
-    Py_DECREF(name);
+    PyObject *hex = name == NULL ? NULL : multihash_str(self);
+    PyObject *shown = hex == NULL ? NULL : PyUnicode_FromFormat("%U.fromhex('%U')", name, hex);
+    Py_XDECREF(hex);
+    Py_XDECREF(name);
     return shown;
+}
+
+static PyObject *multihash_hex(PyObject *self, PyObject *unused)
+{
+    (void)unused;
+    return multihash_str(self);
+}
+
+/* Makes a value of a subclass by a call of it, as bytes.fromhex does. */
+static PyObject *multihash_fromhex(PyObject *type, PyObject *text)
+{
+    PyObject *module = module_of_type((PyTypeObject *)type);
+    if (module == NULL) return NULL;
+    if (!PyUnicode_Check(text)) return wrong_type("text", "a str (decode takes bytes)", text);
+    PyObject *function = attribute_of((PyObject *)&PyBytes_Type, "fromhex");
+    PyObject *bytes = function == NULL ? NULL : PyObject_CallFunctionObjArgs(function, text, NULL);
+    Py_XDECREF(function);
+    input from;
+    PyObject *multihash = NULL;
+    if (bytes != NULL && get_input(bytes, "text", 0, &from) == 0) multihash = decoded_whole(module, &from);
+    Py_XDECREF(bytes);
+    if (multihash == NULL || (PyObject *)Py_TYPE(multihash) == type) return multihash;
+    const multihash_object *found = (const multihash_object *)multihash;
+    PyObject *made = PyObject_CallFunctionObjArgs(type, found->code, found->digest, NULL);
+    Py_DECREF(multihash);
+    return made;
+}
+
+/* For copy.replace, from CPython 3.13 on. */
+static PyObject *multihash_replace(PyObject *self, PyObject *arguments, PyObject *changes)
+{
+    const multihash_object *multihash = (const multihash_object *)self;
+    PyObject *named = Py_BuildValue("{sOsO}", "code", multihash->code, "digest", multihash->digest), *made = NULL;
+    if (named != NULL && (changes == NULL || PyDict_Update(named, changes) == 0)) {
+        made = PyObject_Call((PyObject *)Py_TYPE(self), arguments, named);
+    }
+    Py_XDECREF(named);
+    return made;
 }
 
 static PyObject *multihash_arguments(PyObject *self, PyObject *unused)
@@ -122,32 +184,30 @@ static PyObject *multihash_reduce(PyObject *self, PyObject *unused)
 static PyObject *multihash_hexdigest(PyObject *self, PyObject *unused)
 {
     (void)unused;
-    char out[2 * MULTIHASH_DIGEST_MAX];
     size_t length;
     const uint8_t *digest = digest_of(self, &length);
-    for (size_t at = 0; at < length; at++) {
-        out[2 * at] = "0123456789abcdef"[digest[at] >> 4];
-        out[2 * at + 1] = "0123456789abcdef"[digest[at] & 15];
-    }
-    return PyUnicode_FromStringAndSize(out, (Py_ssize_t)(2 * length));
+    return hex_of(digest, length);
 }
 
 static PyObject *multihash_bytes(PyObject *self, PyObject *unused)
 {
     (void)unused;
-    uint8_t out[MULTIHASH_LENGTH_MAX];
-    size_t length;
-    const uint8_t *digest = digest_of(self, &length);
-    multihash_encoded made = multihash_encode(((multihash_object *)self)->number, digest, length, out, sizeof out);
-    return PyBytes_FromStringAndSize((const char *)out, (Py_ssize_t)made.length); /* a Multihash has an encoding */
+    uint8_t encoding[MULTIHASH_LENGTH_MAX];
+    size_t length = encode_to(self, encoding);
+    return PyBytes_FromStringAndSize((const char *)encoding, (Py_ssize_t)length);
 }
 
 static PyMethodDef multihash_methods[] = {
-    {"__bytes__", multihash_bytes, METH_NOARGS, "The encoding."},
-    {"__getnewargs__", multihash_arguments, METH_NOARGS, "For pickle and copy: the arguments of the class."},
+    {"__bytes__", multihash_bytes, METH_NOARGS, "Returns the encoding."},
+    {"__getnewargs__", multihash_arguments, METH_NOARGS, "For pickle and copy: returns the code and the digest."},
     {"__reduce_ex__", multihash_reduce, METH_O, "For pickle and copy."},
+    {"__replace__", (PyCFunction)(void (*)(void))multihash_replace, METH_VARARGS | METH_KEYWORDS,
+     "__replace__($self, /, **changes)\n--\n\nFor copy.replace: returns one with another code or digest."},
+    {"fromhex", multihash_fromhex, METH_O | METH_CLASS,
+     "fromhex($type, text, /)\n--\n\nDecodes the multihash whose encoding is all of a text in hexadecimal."},
+    {"hex", multihash_hex, METH_NOARGS, "hex($self)\n--\n\nReturns the encoding in hexadecimal, as str does."},
     {"hexdigest", multihash_hexdigest, METH_NOARGS,
-     "hexdigest($self)\n--\n\nThe digest in hexadecimal; `bytes(multihash).hex()` is the whole encoding."},
+     "hexdigest($self)\n--\n\nReturns the digest in hexadecimal, as the objects of hashlib do."},
     {NULL, NULL, 0, NULL},
 };
 
@@ -162,14 +222,15 @@ static PyMemberDef multihash_members[] = {
 static const char multihash_doc[] =
     "Multihash(code, digest)\n--\n\n"
     "A code below 2**63, which identifies the hash function, and a digest of at most DIGEST_MAX bytes.\n\n"
-    "Values are immutable and hashable. They are ordered by the code, then by the digest's length, then by the\n"
-    "first byte that differs. `bytes(multihash)` is the encoding.";
+    "Values are immutable and hashable. They are ordered by code, then by digest length, then by the first digest\n"
+    "byte that differs. `bytes(multihash)` returns the encoding, and `str(multihash)` the same in hexadecimal.";
 
 static PyType_Slot multihash_slots[] = {
     {Py_tp_doc, (void *)multihash_doc},
     {Py_tp_new, multihash_new},
     {Py_tp_dealloc, multihash_dealloc},
     {Py_tp_repr, multihash_repr},
+    {Py_tp_str, multihash_str},
     {Py_tp_hash, multihash_hash},
     {Py_tp_richcompare, multihash_compared},
     {Py_tp_methods, multihash_methods},

@@ -1,10 +1,15 @@
 """Names of codes, and multihashes of data: those of hashes.tsv, which other programs computed."""
 
+import contextlib
 import hashlib
+import io
+import mmap
 import os
+import resource
+import tempfile
 import unittest
 from pathlib import Path
-from unittest.mock import patch
+from unittest.mock import Mock, patch
 
 from verified_multihash import Multihash, MultihashError, hashes
 
@@ -21,19 +26,72 @@ THEIRS = {
 
 class Hashes(unittest.TestCase):
     def test_list(self):
-        """Some builds of hashlib lack what it does not guarantee. Not each length of BLAKE2 is listed."""
+        """Some builds of hashlib lack what it does not guarantee."""
         theirs = {"sha2-512-224": "sha512_224", "sha2-512-256": "sha512_256", "md5": "md5"}
         lacks = {name for name, their in theirs.items() if their not in hashlib.algorithms_available}
-        listed = {name: int(code, 16) for code, name, _ in ROWS if name not in lacks}
+        listed = {name: int(code, 16) for code, name, _ in ROWS}
         self.assertEqual(listed, {name: hashes.CODES[name] for name in listed})
-        self.assertEqual([name for name in hashes.CODES if name not in listed and "blake2" not in name], [])
         self.assertEqual(hashes.NAMES, {code: name for name, code in hashes.CODES.items()})
         for _, name, text in ROWS:
-            for data in (b"abc", bytearray(b"abc"), memoryview(b"abc")) if name in listed else ():
+            for data in (b"abc", bytearray(b"abc"), memoryview(b"abc")) if name not in lacks else ():
                 found = hashes.digest(data, name)
                 self.assertEqual((found.code, found.hexdigest()), (listed[name], text))
                 self.assertIs(hashes.verify(found, data), True)
                 self.assertIs(hashes.verify(bytes(found), bytes(data) + b"d"), False)
+
+    def test_names(self):
+        """Some of the names of the multicodec table, of which hashlib has the functions of the last three or not."""
+        names = {0x1B: "keccak-256", 0x1E: "blake3", 0xB301: "skein256-8", 0xB3E0: "skein1024-1024"}
+        digests = {
+            "dbl-sha2-256": "4f8b42c22dd3729b519ba6f68d2da7cc5b2d606d05daed5ad5128cc03e6c6358",
+            "ripemd-160": "8eb208f7e05d987a9b044a8e98c6b087f15a0bfc",
+            "sm3-256": "66c7f0f462eeedd9d1f2d46bdc10e4e24167c4875cf2f7a2297da02b8f4ba8e0",
+        }
+        self.assertEqual(names, {code: hashes.NAMES[code] for code in names})
+        self.assertEqual([hashes.CODES[name] for name in digests], [0x56, 0x1053, 0x534D])
+        for name, text in digests.items():
+            with contextlib.suppress(ValueError):
+                self.assertEqual(hashes.digest(b"abc", name).hexdigest(), text)
+        for name in names.values():
+            self.assertRaisesRegex(ValueError, "^hashlib does not have %s here$" % name, hashes.digest, b"", name)
+
+    def test_parts(self):
+        """Data in parts, or read from a file in parts, have the multihash of the whole."""
+        data = bytes(range(256)) * 4000
+        for name in ("identity", "sha1", "sha2-256", "dbl-sha2-256", "shake-128", "blake2b-512", "blake2s-8"):
+            whole = data[:255] if name == "identity" else data
+            hasher, right = hashes.Hasher(name), hashes.digest(whole, name)
+            for at in range(0, len(whole), 1000):
+                hasher.update(memoryview(whole)[at : at + 1000])
+            self.assertEqual([hasher.multihash(), hasher.multihash()], [right] * 2)
+            file = Mock(read=Mock(side_effect=io.BytesIO(whole).read))
+            self.assertEqual(hashes.digest_file(file, name), right)
+            self.assertLessEqual(max(call[0][0] for call in file.read.call_args_list), 1 << 20)
+            for claimed in (right, bytes(right)):
+                self.assertIs(hashes.verify_file(claimed, io.BytesIO(whole)), True)
+                self.assertIs(hashes.verify_file(claimed, io.BytesIO(whole[:-1])), False)
+        self.assertIs(hashes.verify_file(Multihash(0, b"abc"), io.BytesIO(data)), False)
+        self.assertRaises(MultihashError, hashes.digest_file, io.BytesIO(data), "identity")
+        for error, turn in ((BlockingIOError, None), (RuntimeError, StopIteration), (OSError, OSError)):
+            file = Mock(read=Mock(side_effect=[b"ab", turn]))
+            self.assertRaises(error, hashes.verify_file, hashes.digest(b"ab", "sha1"), file)
+
+    @unittest.skipIf("asan" in os.environ.get("LD_PRELOAD", ""), "the sanitizer has more memory than the limit")
+    def test_identity(self):
+        """It copies no long data, neither to verify them nor before its error."""
+        before = resource.getrlimit(resource.RLIMIT_DATA)
+        self.addCleanup(resource.setrlimit, resource.RLIMIT_DATA, before)
+        with tempfile.TemporaryFile() as file:
+            file.truncate(1 << 33)
+            with mmap.mmap(file.fileno(), 0, access=mmap.ACCESS_READ) as data:
+                resource.setrlimit(resource.RLIMIT_DATA, (1 << 30, before[1]))
+                self.assertIs(hashes.verify(Multihash(0, b""), data), False)
+                self.assertRaisesRegex(MultihashError, "has 8589934592 bytes", hashes.digest, data, "identity")
+
+    def test_constant(self):
+        for names in (hashes.CODES, hashes.NAMES):
+            for call in ("__setitem__", "__delitem__", "update", "clear"):
+                self.assertFalse(hasattr(names, call))
 
     def test_verify(self):
         """A digest that is truncated, longer or different is not that of the data."""
@@ -51,12 +109,12 @@ class Hashes(unittest.TestCase):
         compared.assert_called_once_with(b"abc", b"abd")
 
     def test_errors(self):
-        for code in (0x1E, 1, 0xB200, 0xB241 + 32):
-            self.assertRaisesRegex(ValueError, "^not in NAMES: %#x$" % code, hashes.verify, Multihash(code, b""), b"")
-        for name in ("sha256", "sha2_256", "", "blake2b-512 ", None, 0x12):
-            self.assertRaisesRegex(ValueError, "^not in CODES: %r$" % name, hashes.digest, b"abc", name)
+        for code in (1, 0xB200, 0xB241 + 32):
+            self.assertRaisesRegex(ValueError, "^the code %#x has" % code, hashes.verify, Multihash(code, b""), b"")
+        for name in ("sha256", "sha2_256", "", "blake2b-512 ", None, 0x12, ("sha1", "md5")):
+            self.assertRaises(ValueError, hashes.digest, b"abc", name)
         self.assertRaises(MultihashError, hashes.digest, bytes(256), "identity")
         self.assertRaises(MultihashError, hashes.verify, b"\x12", b"abc")
-        for name in hashes.CODES:
+        for name in ("identity", "sha2-256", "shake-128", "blake2b-256"):
             for wrong in ("abc", 3, None, [1]):
                 self.assertRaises(TypeError, hashes.digest, wrong, name)

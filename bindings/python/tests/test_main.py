@@ -1,5 +1,6 @@
-"""The command: that it prints what mh_show prints, and ends with its status."""
+"""The command: that it prints what mh_show prints but its own name, and ends with its status."""
 
+import re
 import subprocess
 import sys
 import unittest
@@ -7,11 +8,23 @@ from pathlib import Path
 
 HEX = "1620644bcc7e564373040999aac89e7622f3ca71fba1d972fd94a31c3bfbf24e3938"
 SHOWN = "code 22\nsize 32\ndigest %s\n" % HEX[4:]
-NOT_READ = (1, "", "mh_show: input not read\n")
 HERE = Path(__file__).resolve().parent
 # in the repository, or beside this file in an sdist
-PLACES = (HERE.parents[2] / "checks" / "lib" / "not_shown.txt", HERE / "not_shown.txt")
-LISTED = next(path for path in PLACES if path.exists()).read_text("utf-8").splitlines()[1:]
+PLACES = (HERE.parents[2] / "crates" / "mh_show" / "rows.tsv", HERE / "rows.tsv")
+ROWS = next(path for path in PLACES if path.exists())
+
+
+def rows():
+    """The input, the standard output, the reason and the status of each line of rows.tsv."""
+    for line in ROWS.read_text("utf-8").splitlines():
+        if not line.startswith("#"):
+            line = re.sub(r"\{(\w+)\*(\d+)\}", lambda found: found.group(1) * int(found.group(2)), line)
+            yield line.replace(r"\n", "\n").replace(r"\r", "\r").split("\t")
+
+
+def error_of(reason):
+    """What the command prints to standard error for a reason."""
+    return "python -m verified_multihash: %s\n" % reason if reason else ""
 
 
 def run(*words, **given):
@@ -23,13 +36,17 @@ def run(*words, **given):
 
 
 class Main(unittest.TestCase):
-    def test_shown(self):
+    def test_rows(self):
+        for text, output, reason, status in rows():
+            with self.subTest(text=text[:80]):
+                self.assertEqual(run(input=text), (int(status), output, error_of(reason)))
+
+    def test_argument(self):
         for text in (HEX, HEX.upper(), HEX + "\n"):
-            self.assertEqual(run(input=text), (0, SHOWN, ""))
             self.assertEqual(run(text, input="zz"), (0, SHOWN, ""))
-        self.assertEqual(run("0000"), (0, "code 0\nsize 0\ndigest -\n", ""))
-        largest = "ffffffffffffffff7f40" + "ab" * 64
-        self.assertEqual(run(largest), (0, "code %d\nsize 64\ndigest %s\n" % (2**63 - 1, "ab" * 64), ""))
+        reasons = {"": "not enough input bytes", "0041": "Invalid multihash size 65.", "zz": "not hexadecimal"}
+        for text, reason in reasons.items():
+            self.assertEqual(run(text, input=HEX), (1, "", error_of(reason)))
 
     def test_help(self):
         status, page, reason = run("--help", input=HEX)
@@ -37,22 +54,13 @@ class Main(unittest.TestCase):
         command = [sys.executable, "-OO", "-m", "verified_multihash", "--help"]
         self.assertEqual(subprocess.run(command, check=False).returncode, 0)
 
-    def test_rejected(self):
-        for line in LISTED:
-            text, _, reason = line.encode().decode("unicode_escape").partition("|")
-            with self.subTest(text=text):
-                self.assertEqual(run(input=text), (1, "", "mh_show: %s\n" % reason))
-                self.assertEqual(run(text, input=HEX), (1, "", "mh_show: %s\n" % reason))
-
-    def test_input(self):
-        self.assertEqual(run(input="0" * 65536), (1, "", "mh_show: Invalid multihash size 32766.\n"))
-        self.assertEqual(run(input="0" * 65537), NOT_READ)
+    def test_endless_input(self):
         with open("/dev/zero", "rb") as endless:
-            self.assertEqual(run(input=None, stdin=endless), NOT_READ)
+            self.assertEqual(run(input=None, stdin=endless), (1, "", error_of("input not read")))
 
     def test_outputs(self):
         with open("/dev/full", "wb") as full:
-            self.assertEqual(run(HEX, stdout=full), (1, "", "mh_show: output not written\n"))
+            self.assertEqual(run(HEX, stdout=full), (1, "", error_of("output not written")))
             self.assertEqual(run(HEX, stderr=full), (0, SHOWN, ""))
             self.assertEqual(run("zz", stderr=full), (1, "", ""))
 

@@ -1,6 +1,8 @@
 """Wrong arguments, errors, values, costs, the names of the package, README.md's examples."""
 
+import abc
 import array
+import collections.abc
 import copy
 import ctypes
 import doctest
@@ -15,6 +17,7 @@ import resource
 import subprocess
 import sys
 import tempfile
+import typing
 import unittest
 import weakref
 from concurrent.futures import ThreadPoolExecutor
@@ -23,7 +26,7 @@ from unittest.mock import MagicMock
 
 import verified_multihash as vm
 from test_readers import Awaited
-from verified_multihash import Multihash, MultihashError, Status
+from verified_multihash import Multihash, MultihashError, Status, hashes
 
 README = Path(__file__).resolve().parents[1] / "README.md"
 BYTES_CALLS = [
@@ -39,7 +42,7 @@ NAMED_CALLS = {
     vm.decode: [b"\1\3abc"], vm.read: [b"\1\3abc", CODE], vm.head: [b"\1\3"], vm.scale_decode: [bytes(9)],
     vm.encode: [CODE, b"abc"], vm.scale_encode: [CODE, b"abc"], vm.encoded_len: [CODE, 2],
     vm.compare: [Multihash(CODE, b"")] * 2, vm.read_from: [io.BytesIO(bytes(8)), 2], Multihash: [CODE, b"abc"],
-    MultihashError: [4, 3, 0, 7],
+    MultihashError: [4, 3, 0, 7, "text"],
 }  # fmt: skip
 
 
@@ -49,6 +52,52 @@ def shown(number):
         return str(number)
     except ValueError:
         return hex(number)
+
+
+# What each wrong call says: its text alone has to be enough.
+TEXTS = [
+    (vm.decode, [b""], "the input is empty"),
+    (vm.decode, [b"\x92"], "the input ends inside the varint of the code"),
+    (vm.decode, [b"\x12"], "the input ends before the varint of the digest's length"),
+    (vm.decode, [b"\x12\x80"], "the input ends inside the varint of the digest's length"),
+    (vm.decode, [b"\xff" * 9], "the varint of the code has more than nine bytes"),
+    (vm.head, [b"\x12" + b"\xff" * 9], "the varint of the digest's length has more than nine bytes"),
+    (vm.head, [b"\x92\0\1"], "the varint of the code is not minimal: its last byte is zero"),
+    (vm.decode, [b"\x12\x81\0a"], "the varint of the digest's length is not minimal: its last byte is zero"),
+    (vm.decode, [b"\x12\xac\2"], "the digest has 300 bytes, and the limit is 255"),
+    (vm.decode, [b"\x12\3ab"], "the input ends inside the digest (2 of 3 bytes)"),
+    (vm.decode, [b"\x12\1ab"], "1 byte follows the multihash"),
+    (vm.decode, [bytearray(1002)], "1000 bytes follow the multihash"),
+    (vm.read, [b"\x12\3abc", 2], "the digest has 3 bytes, and the limit is 2"),
+    (vm.read, [b"\x12\x80\2", 999], "the digest has 256 bytes, and the limit is 255"),
+    (vm.read_from, [io.BytesIO(b"\x12\3abc"), 2], "the digest has 3 bytes, and the limit is 2"),
+    (vm.read_from, [io.BytesIO(b"\x12\3ab")], "the input ends inside the digest (2 of 3 bytes)"),
+    (vm.scale_decode, [b""], "the input is empty"),
+    (vm.scale_decode, [bytes(7)], "the input ends inside the code (7 of 8 bytes)"),
+    (vm.scale_decode, [bytes(8)], "the input ends before the digest's length"),
+    (vm.scale_decode, [bytes(8) + b"\3ab"], "the input ends inside the digest (2 of 3 bytes)"),
+    (vm.scale_decode, [bytes(7) + b"\x80"], "the code is 9223372036854775808, and the largest is 2**63 - 1"),
+    (Multihash, [18, bytes(256)], "the digest has 256 bytes, and the limit is 255"),
+    (vm.encode, [1 << 63, b""], "the code is 9223372036854775808, and the largest is 2**63 - 1"),
+    (vm.encoded_len, [18, 10**5000], "the digest has %s bytes, and the limit is 255" % shown(10**5000)),
+    (vm.decode, ["1220"], "data must be bytes (Multihash.fromhex takes text), not str"),
+    (vm.read, [3], "data must be a bytes-like object, not int"),
+    (Multihash.fromhex, [b"1220"], "text must be a str (decode takes bytes), not bytes"),
+    (Multihash, [18, "abc"], "digest must be a bytes-like object, not str"),
+    (Multihash, ["sha2-256", b"abc"], "code must be an int (hashes.CODES has the codes of names), not str"),
+    (vm.encode, [1.5, b""], "code must be an int, not float"),
+    (vm.encode, [-1, b""], "code must not be negative"),
+    (vm.encoded_len, [18, b""], "digest_length must be an int, not bytes"),
+    (vm.encoded_len, [18, -1], "digest_length must not be negative"),
+    (vm.read, [b"\0\0", "9"], "limit must be an int, not str"),
+    (vm.read, [b"\0\0", -1], "limit must not be negative"),
+    (vm.compare, [VALUE, b"\0\0"], "right must be a Multihash, not bytes"),
+    (vm.MultihashReader, ["path"], "file or stream must be an object with a method read, not str"),
+    (vm.read_from, [io.StringIO("1220")], "the result of read must be a bytes-like object, not str"),
+    (hashes.digest, [b"", "sha256"], "name must be in hashes.CODES, such as 'sha2-256', not 'sha256'"),
+    (hashes.digest, [b"", "blake3"], "hashlib does not have blake3 here"),
+    (hashes.verify, [Multihash(1, b""), b""], "the code 0x1 has no name in hashes.NAMES"),
+]
 
 
 def parameters_of(call):
@@ -129,11 +178,11 @@ class Arguments(unittest.TestCase):
             for wrong in (18.0, "18", None, b"\x12"):
                 self.assertRaises(TypeError, call, wrong, b"")
             for code in NEGATIVE:
-                self.assertRaisesRegex(ValueError, "^a code is not negative$", call, code, b"")
+                self.assertRaisesRegex(ValueError, "^code must not be negative$", call, code, b"")
             for code in (1 << 63, (1 << 64) - 1, 1 << 64, (1 << 64) + 18, 1 << 700, 10**5000):
-                text = "Invalid multihash code %s." % shown(code)
+                text = "the code is %s, and the largest is 2**63 - 1" % shown(code)
                 self.assertEqual(self.error_of(call, code, bytes(255)), (Status.INVALID_CODE, 0, code, text))
-                text = "Invalid multihash size 256."
+                text = "the digest has 256 bytes, and the limit is 255"
                 self.assertEqual(self.error_of(call, code, bytes(256)), (Status.INVALID_SIZE, 256, 0, text))
             self.assertEqual(self.error_of(call, once(code), b"")[2], code)
         self.assertEqual(self.error_of(vm.encoded_len, 1, once(256))[1], 256)
@@ -141,7 +190,7 @@ class Arguments(unittest.TestCase):
         for length in (256, 1 << 63, 1 << 64, (1 << 64) + 5, 1 << 700):
             self.assertEqual(self.error_of(vm.encoded_len, 18, length)[:3], (Status.INVALID_SIZE, length, 0))
         for length in NEGATIVE:
-            self.assertRaisesRegex(ValueError, "^a length is not negative$", vm.encoded_len, 18, length)
+            self.assertRaisesRegex(ValueError, "^digest_length must not be negative$", vm.encoded_len, 18, length)
         self.assertRaises(TypeError, vm.encoded_len, 18, 2.0)
 
     def test_limits(self):
@@ -159,7 +208,7 @@ class Arguments(unittest.TestCase):
             self.assertEqual(self.error_of(call, data[3], 2)[:2], (Status.INVALID_SIZE, 3))
             self.assertEqual(self.error_of(call, b"\x01\x80\x02" + bytes(256), 1 << 64)[:2], (Status.INVALID_SIZE, 256))
             for limit in NEGATIVE:
-                self.assertRaisesRegex(ValueError, "^a limit is not negative$", call, b"", limit)
+                self.assertRaisesRegex(ValueError, "^limit must not be negative$", call, b"", limit)
             for wrong in (3.0, "3"):
                 self.assertRaises(TypeError, call, data[3], wrong)
 
@@ -180,11 +229,20 @@ class Arguments(unittest.TestCase):
 
     def test_errors(self):
         self.assertIs(MultihashError(Status.NO_ROOM).is_incomplete, False)
-        self.assertEqual(MultihashError(1).args, (1, 0, 0, 0))
+        self.assertEqual(MultihashError(1).args, (1, 0, 0, 0, ""))
         for wrong, text in ((0, "^OK is the status of no error$"), (8, ""), (-1, "")):
             self.assertRaisesRegex(ValueError, text, MultihashError, wrong)
         large = MultihashError(5, 0, 10**4300)
-        self.assertEqual(repr(large), "MultihashError(%r, 0, %s, 0)" % (Status.INVALID_CODE, shown(large.code)))
+        text = "Invalid multihash code %s." % shown(large.code)  # of the C library
+        self.assertEqual(repr(large), "MultihashError(%r, 0, %s, 0, %r)" % (large.status, shown(large.code), text))
+        made = [str(MultihashError(*numbers)) for numbers in ((1,), (4, 3), (4, 3, 0, 2, "own"))]
+        self.assertEqual(made, [vm._core.status_text(1), "Invalid multihash size 3.", "own"])
+
+    def test_texts(self):
+        for call, arguments, text in TEXTS:
+            with self.assertRaises((TypeError, ValueError)) as raised:
+                call(*arguments)
+            self.assertEqual(str(raised.exception), text)
 
 
 class Values(unittest.TestCase):
@@ -201,7 +259,9 @@ class Values(unittest.TestCase):
                 self.assertEqual(len({left, right}), 1 + (i != k))
         for wrong in ((1, b"b"), None, b"\1\0"):
             for pair in ((wrong, ordered[0]), (ordered[0], wrong)):
-                self.assertRaisesRegex(TypeError, "expected a Multihash, not %s" % type(wrong), vm.compare, *pair)
+                self.assertRaisesRegex(
+                    TypeError, "must be a Multihash, not %s" % type(wrong).__name__, vm.compare, *pair
+                )
             self.assertRaises(TypeError, lambda: ordered[0] < wrong)
             self.assertNotEqual(ordered[0], wrong)
 
@@ -209,8 +269,9 @@ class Values(unittest.TestCase):
         source = bytearray(b"abc")
         for value, kind in ((Multihash(True, source), Multihash), (Named(1, source), Named)):
             source[0] = 0
-            self.assertEqual((repr(value), hash(value)), ("%s(code=1, digest=b'abc')" % kind.__qualname__, hash(VALUE)))
+            self.assertEqual((repr(value), hash(value)), ("%s.fromhex('0103616263')" % kind.__qualname__, hash(VALUE)))
             self.assertEqual((vm.compare(value, VALUE), bytes(value), value.hexdigest()), (0, b"\1\3abc", "616263"))
+            self.assertEqual([value.hex(), str(value), "%s" % value], ["0103616263"] * 3)
             source[0] = ord("a")
             value.__init__(2, b"")
             self.assertEqual((value, type(value.code)), (VALUE, int))
@@ -228,14 +289,39 @@ class Values(unittest.TestCase):
 
     def test_copies(self):
         """They keep all attributes, those of subclasses and errors too, which may have other parameters."""
-        value, error = Sha256(b"abc"), MultihashError(Status.INVALID_CODE, 2, 1 << 64, 8)
+        value, error = Sha256(b"abc"), MultihashError(Status.INVALID_CODE, 2, 1 << 64, 8, ("no %s", 3))
         value.more, value.slot, error.more = "kept", 3, "kept"
-        self.assertEqual(repr(error), "MultihashError(%r, 2, %d, 8)" % (Status.INVALID_CODE, 1 << 64))
+        self.assertEqual(repr(error), "MultihashError(%r, 2, %d, 8, 'no %d')" % (Status.INVALID_CODE, 1 << 64, 3))
         self.assertEqual(copies(VALUE), [VALUE] * 8)
         for again in copies(value):
             self.assertEqual((type(again), again, again.more, again.slot), (Sha256, Multihash(18, b"abc"), "kept", 3))
         for again in copies(error):
             self.assertEqual((type(again), attributes_of(again)), (MultihashError, attributes_of(error)))
+
+    def test_hexadecimal(self):
+        """All bytes, both ways; a subclass makes its own values, if it has the parameters."""
+        digest = bytes(range(255))
+        for kind in (Multihash, Named):
+            value = kind(CODE, digest)
+            self.assertEqual(value.hex(), vm.encode(CODE, digest).hex())
+            for text in (value.hex(), value.hex().upper(), " ".join(map("%02x".__mod__, bytes(value)))):
+                again = kind.fromhex(text)
+                self.assertEqual((again, type(again)), (value, kind))
+            self.assertEqual(eval(repr(value)), value)
+        self.assertRaises(TypeError, Sha256.fromhex, VALUE.hex())
+        for wrong in ("0", "0x0000", "zz", "é0"):
+            self.assertRaisesRegex(ValueError, "hexadecimal", Multihash.fromhex, wrong)
+        self.assertRaises(MultihashError, Multihash.fromhex, "00")
+
+    def test_replace(self):
+        """copy.replace of CPython 3.13 calls this."""
+        for value in (VALUE, Named(1, b"abc")):
+            changed = value.__replace__(digest=b"d"), value.__replace__(code=2), value.__replace__()
+            self.assertEqual(changed, (Multihash(1, b"d"), Multihash(2, b"abc"), VALUE))
+            self.assertEqual({type(each) for each in changed}, {type(value)})
+            self.assertRaises(TypeError, value.__replace__, 2)
+            self.assertRaises(TypeError, value.__replace__, size=2)
+            self.assertRaises(MultihashError, value.__replace__, digest=bytes(256))
 
     @unittest.skipIf(sys.version_info < (3, 9), "the stable ABI has no weak references")
     def test_weak_references(self):
@@ -289,11 +375,43 @@ class Module(unittest.TestCase):
             self.assertEqual(found, (version >= 0x30C0000 > sys.hexversion,) * 2, version)
 
     def test_another_module(self):
-        """A module that the package has not imported knows no error."""
+        """A module that the package has not imported knows no error, or another one."""
         again = importlib.util.module_from_spec(vm._core.__spec__)
         vm._core.__loader__.exec_module(again)
         for call, arguments in ((again.decode, [b""]), (again.head, [b""]), (again.encode, [1 << 63, b""])):
             self.assertRaisesRegex(RuntimeError, "^verified_multihash was not imported$", call, *arguments)
+        generator = type(each for each in ())  # which has no instances
+        names = MultihashError.__slots__
+        for kind, *wrong in (
+            (MultihashError, [1], names),
+            ("Own", (), names),
+            (generator, (), names),
+            (int, (), names[1:]),
+        ):
+            self.assertRaises(TypeError, again.set_error, kind, *wrong)
+        own = type("Own", (ValueError,), {"__slots__": names})
+        for statuses, names, error in (((1,), names, IndexError), ((1, 2), (1,) * 5, TypeError), ((1, 2), names, own)):
+            again.set_error(own, statuses, names)
+            self.assertRaises(error, again.decode, b"")
+
+    def test_abstract_classes(self):
+        """An abstract class may be a base too: CPython 3.8 has the flag in its own headers, later ones do not."""
+        for kind in (Multihash, vm._core.Reader):
+            self.assertTrue(kind.__flags__ & 1 << 18, "Py_TPFLAGS_HAVE_VERSION_TAG")
+        for kind in (Multihash, vm.MultihashReader, vm.AsyncMultihashReader):
+            own = type("Own", (kind, collections.abc.Sized), {"__len__": id})
+            self.assertTrue(issubclass(own, collections.abc.Sized))
+            self.assertFalse(issubclass(abc.ABCMeta("Other", (), {}), own))
+
+    def test_hints(self):
+        """Tools that evaluate annotations find what they name."""
+        tried = 0
+        for module in (vm, hashes):
+            public = [vars(module)[name] for name in module.__all__]
+            methods = [it for each in public if isinstance(each, type) for it in vars(each).values()]
+            for call in filter(inspect.isfunction, public + methods):
+                tried += "return" in typing.get_type_hints(call)
+        self.assertGreater(tried, 9)
 
     def test_exports(self):
         module = ctypes.CDLL(vm._core.__file__)

@@ -48,10 +48,10 @@ class Readers(unittest.TestCase):
         closed = io.BytesIO(b"\0\0")
         closed.close()
         for call in (vm.MultihashReader, vm.AsyncMultihashReader, vm.read_from):
-            self.assertRaises(AttributeError, call, object())
+            self.assertRaises(TypeError, call, object())
         for kind in self.readers:
-            self.assertRaisesRegex(ValueError, "^not initialized$", kind.__new__(kind).read)
-            self.assertRaisesRegex(ValueError, "^not initialized$", kind.__new__(kind)._keep, b"\1\0")
+            self.assertRaisesRegex(ValueError, "__init__ was not called$", kind.__new__(kind).read)
+            self.assertRaisesRegex(RuntimeError, "has begun$", kind.__new__(kind)._end, b"\1\0")
             self.assertRaisesRegex(ValueError, "closed file", kind(closed).read)
             self.assertRaisesRegex(ValueError, "returned 3 bytes", kind(turns(b"abc")).read)
             self.assertRaises(TypeError, kind(turns(2)).read)
@@ -109,9 +109,11 @@ class Readers(unittest.TestCase):
 
     def test_calls_at_once(self):
         """A call while another one waits is an error, and the other one goes on."""
+        other = io.BytesIO(b"\1\1a")
 
         def chunk(size):
-            self.assertRaisesRegex(RuntimeError, "has not ended", reader.read)
+            for call in (reader.read, functools.partial(reader.__init__, other)):
+                self.assertRaisesRegex(RuntimeError, "has not ended", call)
             return bytes(size)
 
         reader = vm.MultihashReader(Mock(read=chunk))
@@ -125,28 +127,39 @@ class Readers(unittest.TestCase):
             for _ in range(2):
                 with self.assertRaisesRegex(RuntimeError, "has not ended"):
                     await reader.read()
+                self.assertRaisesRegex(RuntimeError, "has not ended", reader.__init__, other)
             stream.feed_data(bytes(4))
             self.assertEqual([await first, await reader.read()], [Multihash(0, b"")] * 2)
 
         asyncio.run(run())
 
+    def test_loops(self):
+        """An error of the file that would end a loop, as an exhausted iterator raises it, is not taken for its end."""
+        for error in (StopIteration, StopAsyncIteration):
+            reader = vm.MultihashReader(turns(b"\0\0", b"\1", error))
+            self.assertEqual(next(reader), Multihash(0, b""))
+            self.assertRaises(RuntimeError if error is StopIteration else error, list, reader)
+            self.assertRaises(error, vm.MultihashReader(turns(error)).read)
+
+        async def run():
+            reader = vm.AsyncMultihashReader(Mock(read=AsyncMock(side_effect=[b"\0\0", b"\1"])))
+            found = []
+            with self.assertRaisesRegex(RuntimeError, "^the stream raised StopAsyncIteration$"):
+                async for each in reader:
+                    found.append(each)
+            self.assertEqual((found, reader.rest), ([Multihash(0, b"")], b"\1"))
+
+        asyncio.run(run())
+
     def own_reader(self):
-        """A file begins its reader anew, which gets no more than is missing. The three that know each other."""
-        chunks = iter([b"\1\xff", b"\1", None, b"\1\xff", b"\1", bytes(254), b""])
+        """A reader, its class and its file, which know each other."""
 
         def chunk(size):
-            turn = next(chunks)
-            if turn is None:
-                self.assertRaisesRegex(RuntimeError, "^another call of the reader has not ended$", reader.read)
-                reader.__init__(file)
-                self.assertRaises(MultihashError, reader.read)
-            return bytes(size) if turn is None else turn
+            return bytes(size if reader else 0)
 
         own = type("Own", (vm.MultihashReader,), {})
-        file = Mock(read=chunk)
-        own.kept = reader = own(file)
-        self.assertRaisesRegex(ValueError, r"read\(1\) returned 255 bytes", reader.read)
-        self.assertEqual(reader.rest, b"\1\xff\1" + bytes(254))
+        own.kept = reader = own(Mock(read=chunk))
+        self.assertEqual(reader.read(), Multihash(0, b""))
         return [weakref.ref(own), weakref.ref(reader), weakref.ref(chunk)]
 
     def test_collected(self):

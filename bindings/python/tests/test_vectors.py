@@ -32,8 +32,7 @@ def shown(call, *arguments):
         found = call(*arguments)
     except MultihashError as error:
         number = " %d" % (error.size or error.code) if error.size or error.code else ""
-        text = "" if (number + "." in str(error)) == bool(number) else str(error)
-        return error.status.name.lower() + number + text, error.taken, error
+        return error.status.name.lower() + number, error.taken, error
     multihash, taken = found if isinstance(found, tuple) else (found, len(arguments[0]))
     return "pair %d %s" % (multihash.code, multihash.digest.hex() or "-"), taken, multihash
 

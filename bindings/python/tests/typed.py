@@ -53,6 +53,11 @@ assert_type((multihash.code, multihash.digest), Tuple[int, bytes])
 multihash.code = 2  # type: ignore[misc]
 multihash.digest = DATA  # type: ignore[misc]
 assert_type((multihash.hexdigest(), bytes(multihash), hash(multihash)), Tuple[str, bytes, int])
+assert_type((multihash.hex(), Multihash.fromhex("1200"), Sha256.fromhex("1200")), Tuple[str, Multihash, Sha256])
+Multihash.fromhex(DATA)  # type: ignore[arg-type]
+assert_type(multihash.__replace__(digest=DATA), Multihash)
+multihash.__replace__(code="sha2-256")  # type: ignore[arg-type]
+multihash.__replace__(size=2)  # type: ignore[call-arg]
 assert_type((multihash < multihash, multihash <= multihash), Tuple[bool, bool])
 assert_type((multihash > multihash, multihash >= multihash), Tuple[bool, bool])
 multihash < DATA  # type: ignore[operator]
@@ -109,6 +114,12 @@ hashes.digest(DATA, 18)  # type: ignore[arg-type]
 assert_type((hashes.verify(multihash, DATA), hashes.verify(DATA, DATA)), Tuple[bool, bool])
 hashes.verify("1200", DATA)  # type: ignore[arg-type]
 hashes.verify(DATA, "abc")  # type: ignore[arg-type]
+assert_type(hashes.digest_file(io.BytesIO(DATA), "sha2-256"), Multihash)
+assert_type(hashes.verify_file(multihash, io.BytesIO(DATA)), bool)
+hashes.verify_file(multihash, DATA)  # type: ignore[arg-type]
+hasher = hashes.Hasher("sha2-256")
+hasher.update("abc")  # type: ignore[arg-type]
+assert_type(hasher.multihash(), Multihash)
 assert_type((hashes.CODES, hashes.NAMES), Tuple[Mapping[str, int], Mapping[int, str]])
 hashes.CODES["sha2-256"] = 3  # type: ignore[index]
 hashes.NAMES[3] = "sha2-256"  # type: ignore[index]

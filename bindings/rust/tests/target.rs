@@ -2,7 +2,9 @@
 #![no_std]
 
 #[path = "../multihash/tests/vectors.rs"]
-mod vectors;
+mod upstream;
+#[path = "../verified-multihash/tests/vectors.rs"]
+mod verified;
 
 extern "C" {
     fn abort() -> !;
@@ -18,5 +20,9 @@ fn panic(_: &core::panic::PanicInfo<'_>) -> ! {
 #[no_mangle]
 pub extern "C" fn check_vectors() -> u32 {
     let lines = include_str!(env!("MULTIHASH_VERDICTS")).lines().skip(1);
-    lines.map(vectors::check_line).count() as u32
+    let check = |line| {
+        upstream::check_line(line);
+        verified::check_line(line);
+    };
+    lines.map(check).count() as u32
 }

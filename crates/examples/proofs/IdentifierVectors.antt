@@ -1,4 +1,4 @@
--- Known content identifiers, the errors of known inputs, and what is no error; what a writer has counted.
+-- Known content identifiers, the errors of known inputs, and what is no error.
 use Rattle.std.proofs.Common.{List, ℕ, [], ◌∷◌, Some, length, refl, ap, arith, ◌≡◌, ◌≤◌, Option, inl, inr, sym, ◌∙◌}
 use Rattle.multihash.specs.Pair.{Pair, FitsBuffer}
 use Rattle.multihash.specs.Encoding.{IsEncoding}
@@ -9,8 +9,6 @@ use Rattle.std.specs.Prelude.{codes}
 use Rattle.std.specs.Fmt.{digits}
 use Rattle.multihash.specs.Verdict.{malformed}
 use Rattle.multihash.proofs.CallingLemmas.{rejected_no_encoding, head_of_encoding}
-use Rattle.examples.specs.ByteCount.{HasCounted}
-use Rattle.examples.specs.declared.byte_count.ByteCount.{ByteCount}
 use Rattle.examples.specs.PeerId.{IsAllowed, IsPeer, PeerFails, peer_error_text}
 use Rattle.examples.specs.declared.content_id.ContentIdError.{ContentIdError}
 use Rattle.examples.specs.declared.content_id.ContentIdError.TheVariants.{OtherVersion}
@@ -112,12 +110,6 @@ no_error p bytes (NotAllowed code size) is encodes (len, head, other) =
 no_error p bytes (OtherLength n) is encodes (code, size, len, head, allowed, long, other) =
     let same = head_of_encoding code size len bytes head p encodes in
     other (long ∙ (ap length same.2 ∙ sym same.1))
-
--- ---- counts
-
--- a writer whose count is 2 has counted two bytes, and no other number
-counts_two : (w : ByteCount) → w.count ≡ 2 → HasCounted w 2 × ((n : ℕ) → HasCounted w n → n ≡ 2)
-counts_two w two = (two, λ n counted. omega (arith, two, counted))
 
 -- ---- texts
 

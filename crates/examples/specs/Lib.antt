@@ -1,3 +1,3 @@
-pub mod ByteCount
 pub mod ContentId
+pub mod Formats
 pub mod PeerId

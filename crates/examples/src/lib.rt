@@ -2,13 +2,12 @@
 #![tactic(auto)]
 
 pub mod any_reader;
-pub mod byte_count;
 pub mod capacities;
 pub mod code_table;
 pub mod content_id;
+pub mod formats;
 pub mod forms;
 pub mod loops;
-pub mod merkle;
 pub mod peer_id;
 pub mod slices;
 pub mod std_reader;

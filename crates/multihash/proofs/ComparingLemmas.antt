@@ -42,6 +42,10 @@ tie_exactly p q =
 pub tie_same : (p q : Pair) → (compare_pairs p q ≡ Equal) ↔ (p ≡ q)
 tie_same p q = ((λ tie. (tie_exactly p q).0 (ap is_eq tie)), λ same. rw same (tied_itself pairs_total q))
 
+-- so do digests
+pub tie_pointwise : (a b : List ℕ) → is_eq (slice_cmp nat_cmp a b) ≡ pointwise ◌==◌ a b
+tie_pointwise a b = search (comparing, rules) depth 9
+
 -- no pair is less than itself
 pub pairs_irreflexive : (p : Pair) → ¬ (compare_pairs p p ≡ Less)
 pairs_irreflexive p less = let both : Equal ≡ Less = sym (tied_itself pairs_total p) ∙ less in cc

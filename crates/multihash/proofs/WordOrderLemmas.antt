@@ -1,7 +1,7 @@
 -- Words of eight bytes, which are compared as numbers.
-use Rattle.std.proofs.Common.{◌≡◌, ◌+◌, ◌*◌, ◌<◌, ◌≤◌, ℕ, suc, List, [], ◌∷◌, inl, inr, length, take, drop, get_or, refl, sym, ap, ◌∙◌, subst, arith, w64, get_or-drop}
+use Rattle.std.proofs.Common.{◌≡◌, ◌+◌, ◌-◌, ◌*◌, ◌/◌, ◌^◌, ◌<◌, ◌≤◌, ℕ, zero, suc, List, [], ◌∷◌, inl, inr, length, take, drop, get_or, refl, sym, ap, ◌∙◌, subst, arith, w64, get_or-drop}
 use Rattle.std.proofs.lemmas.Bool.{cases_lt}
-use Rattle.std.proofs.lemmas.List.{take-take, drop-take, get_or-take, get_or_past, length-take, take_all}
+use Rattle.std.proofs.lemmas.List.{take-take, drop-take, get_or-take, get_or_past, length-take, length-take-le, take_all}
 use Rattle.std.proofs.lemmas.Map.Lookups.{exact_bytes}
 use Rattle.std.proofs.lemmas.Nat.{le_bytes_8}
 use Rattle.std.proofs.lemmas.Simd.{length-chunk}
@@ -84,14 +84,39 @@ word_same at a b left right bytes others same =
     let y = window 8 at b in
     exact_bytes x y (sym (word_order at a b left right bytes others) ∙ sym (nat_cmp_is (from_be_bytes w64 x) (from_be_bytes w64 y) Equal same))
 
+-- ---- fewer than eight bytes
+
+-- their number is that of eight without the lowest
+few_of_8 : (n a b c d e f g h : ℕ) → n < 8 → ((i : ℕ) → get_or (a ∷ b ∷ c ∷ d ∷ e ∷ f ∷ g ∷ h ∷ []) i 0 < 256)
+    → from_be_bytes w64 (a ∷ b ∷ c ∷ d ∷ e ∷ f ∷ g ∷ h ∷ []) / 2 ^ 8 / 2 ^ (56 - 8 * n) ≡ joined 0 (take n (a ∷ b ∷ c ∷ d ∷ e ∷ f ∷ g ∷ h ∷ []))
+few_of_8 zero a b c d e f g h few bytes = omega (arith, bytes 0, bytes 1, bytes 2, bytes 3, bytes 4, bytes 5, bytes 6, bytes 7)
+few_of_8 (suc zero) a b c d e f g h few bytes = omega (arith, bytes 0, bytes 1, bytes 2, bytes 3, bytes 4, bytes 5, bytes 6, bytes 7)
+few_of_8 (suc (suc zero)) a b c d e f g h few bytes = omega (arith, bytes 0, bytes 1, bytes 2, bytes 3, bytes 4, bytes 5, bytes 6, bytes 7)
+few_of_8 (suc (suc (suc zero))) a b c d e f g h few bytes = omega (arith, bytes 0, bytes 1, bytes 2, bytes 3, bytes 4, bytes 5, bytes 6, bytes 7)
+few_of_8 (suc (suc (suc (suc zero)))) a b c d e f g h few bytes = omega (arith, bytes 0, bytes 1, bytes 2, bytes 3, bytes 4, bytes 5, bytes 6, bytes 7)
+few_of_8 (suc (suc (suc (suc (suc zero))))) a b c d e f g h few bytes = omega (arith, bytes 0, bytes 1, bytes 2, bytes 3, bytes 4, bytes 5, bytes 6, bytes 7)
+few_of_8 (suc (suc (suc (suc (suc (suc zero)))))) a b c d e f g h few bytes = omega (arith, bytes 0, bytes 1, bytes 2, bytes 3, bytes 4, bytes 5, bytes 6, bytes 7)
+few_of_8 (suc (suc (suc (suc (suc (suc (suc zero))))))) a b c d e f g h few bytes = omega (arith, bytes 0, bytes 1, bytes 2, bytes 3, bytes 4, bytes 5, bytes 6, bytes 7)
+few_of_8 (suc (suc (suc (suc (suc (suc (suc (suc n)))))))) a b c d e f g h few bytes = absurd (omega (arith, few))
+
+few_joined : (n : ℕ) (a : List ℕ) → n < 8 → 8 ≤ length a → ((i : ℕ) → get_or a i 0 < 256)
+    → from_be_bytes w64 (take 8 a) / 2 ^ 8 / 2 ^ (56 - 8 * n) ≡ joined 0 (take n a)
+few_joined n a few long bytes =
+    let x = take 8 a in
+    let each : (i : ℕ) → get_or x i 0 < 256 = take_bytes 8 a bytes in
+    let whole = le_bytes_8 x (from_le_bytes w64 x) (length-take-le 8 a long) each refl in
+    subst (λ (l : List ℕ). from_be_bytes w64 l / 2 ^ 8 / 2 ^ (56 - 8 * n) ≡ joined 0 (take n l)) whole
+    (few_of_8 n _ _ _ _ _ _ _ _ few (λ i. subst (λ (l : List ℕ). get_or l i 0 < 256) (sym whole) (each i)))
+    ∙ ap (joined 0) (take-take n 8 a (omega (arith, few)))
+
 -- ---- equal fronts
 
 pub shorter_front : (i j : ℕ) (a b : List ℕ) → i ≤ j → take j a ≡ take j b → take i a ≡ take i b
 shorter_front i j a b within same = sym (take-take i j a within) ∙ ap (take i) same ∙ take-take i j b within
 
--- the word after an equal front is equal if a longer front is
-pub word_of_front : (at : ℕ) (a b : List ℕ) → take (at + 8) a ≡ take (at + 8) b → window 8 at a ≡ window 8 at b
-word_of_front at a b same = sym (drop-take at 8 a) ∙ ap (drop at) same ∙ drop-take at 8 b
+-- the window after an equal front is equal if a longer front is
+pub window_of_front : (n at : ℕ) (a b : List ℕ) → take (at + n) a ≡ take (at + n) b → window n at a ≡ window n at b
+window_of_front n at a b same = sym (drop-take at n a) ∙ ap (drop at) same ∙ drop-take at n b
 
 -- fronts that are the whole lists
 pub whole_front : (n : ℕ) (a b : List ℕ) → length a ≤ n → length b ≤ n → take n a ≡ take n b → a ≡ b
@@ -113,3 +138,11 @@ order_of_word at a b o left right bytes others e front decides = go o (e ∙ wor
     go Less e = order_of_window 8 at a b Less front e (λ tie. cc)
     go Equal e = order_of_same a b (decides (longer_front 8 at a b front (exact_bytes x y (sym e))))
     go Greater e = order_of_window 8 at a b Greater front e (λ tie. cc)
+
+-- they compare as these numbers do
+pub order_of_high_parts : (n : ℕ) (a b : List ℕ) → n < 8 → 8 ≤ length a → 8 ≤ length b → ((i : ℕ) → get_or a i 0 < 256) → ((i : ℕ) → get_or b i 0 < 256)
+    → nat_cmp (from_be_bytes w64 (take 8 a) / 2 ^ 8 / 2 ^ (56 - 8 * n)) (from_be_bytes w64 (take 8 b) / 2 ^ 8 / 2 ^ (56 - 8 * n)) ≡ order_of (take n a) (take n b)
+order_of_high_parts n a b few left right bytes others =
+    ap (λ k. nat_cmp k (from_be_bytes w64 (take 8 b) / 2 ^ 8 / 2 ^ (56 - 8 * n))) (few_joined n a few left bytes)
+    ∙ ap (nat_cmp (joined 0 (take n a))) (few_joined n b few right others)
+    ∙ sym (order_of_joined 0 0 (take n a) (take n b) (length-take-le n a (omega (arith, few, left)) ∙ sym (length-take-le n b (omega (arith, few, right)))) (take_bytes n a bytes) (take_bytes n b others))

@@ -1,11 +1,11 @@
 //! Comparison and hashing.
-ghost use Rattle.std.specs.Prelude.{◌≡◌, ◌==◌, ◌≤◌, ◌+◌, ◌↔◌, length, take, drop, Some, IsTrue};
+ghost use Rattle.std.specs.Prelude.{◌≡◌, ◌≢◌, ◌==◌, ◌<◌, ◌≤◌, ◌+◌, ◌↔◌, length, take, drop, Some, IsTrue};
 ghost use Rattle.std.proofs.Common.{rules};
 ghost use Rattle.std.specs.Cmp.{partial_order_from_own_ties};
 ghost use Rattle.std.specs.Cmp.Lexicographic.{pointwise, slice_cmp};
 ghost use Rattle.std.specs.Cmp.Rules.{comparing, hashing};
 ghost use Rattle.std.specs.Int.{from_be_bytes, w64};
-ghost use Rattle.std.specs.Ordering.{nat_cmp, on, as_partial_cmp};
+ghost use Rattle.std.specs.Ordering.{nat_cmp, on, eq_of_both, then_cmp, as_partial_cmp};
 ghost use Rattle.multihash.specs.Comparing.{equal_pairs, compare_pairs, hashed_pair};
 ghost use Rattle.multihash.specs.Multihash.{pair_of};
 
@@ -19,16 +19,19 @@ impl<const S: usize> Multihash<S> {
     pub fn same_as<const B: usize>(&self, other: &Multihash<B>) -> bool
         ensures { IsTrue result ↔ (pair_of self.now ≡ pair_of other.now) }
     {
-        self.size == other.size && self.code == other.code && self.same_digest(other)
+        self.code == other.code && self.same_digest(other)
     }
 
-    // Whether the digests are equal. Those of 16 to 64 bytes are compared as vectors, without a call. Tests
-    // that `S` decides are not compiled.
-    #[inline(always)]
+    // Whether the digests are equal: by a call, so that callers compare the codes in line. Those of 16 to 64
+    // bytes are compared as vectors. Tests that `S` decides are not compiled.
+    #[inline(never)]
     fn same_digest<const B: usize>(&self, other: &Multihash<B>) -> bool
-        requires { length (pair_of self.now).digest ≡ length (pair_of other.now).digest }
-        ensures { result ≡ pointwise ◌==◌ (pair_of self.now).digest (pair_of other.now).digest }
+        ensures { result ≡ eq_of_both (on length ◌==◌) (pointwise ◌==◌) (pair_of self.now).digest
+            (pair_of other.now).digest }
     {
+        if self.size != other.size {
+            return false;
+        }
         if S > 64 && self.size > 64 {
             return self.digest() == other.digest();
         }
@@ -38,24 +41,19 @@ impl<const S: usize> Multihash<S> {
         if S >= 16 && self.size >= 16 {
             return same_ends_of_16(self.digest(), other.digest());
         }
-        self.size == 0 || self.same_few(other)
+        self.size == 0 || self.order_of_few(other).is_eq()
     }
 
-    // Whether digests of fewer bytes are equal. The parameters are the values, so that the other paths
-    // compute no address for this call.
+    // How the digests compare, by their lengths first: by a call, as `same_digest`. Those of 8 to 64 bytes are
+    // compared by words.
     #[inline(never)]
-    fn same_few<const B: usize>(&self, other: &Multihash<B>) -> bool
-        ensures { result ≡ pointwise ◌==◌ (pair_of self.now).digest (pair_of other.now).digest }
-    {
-        self.digest() == other.digest()
-    }
-
-    // How the digests compare. Those of 8 to 64 bytes are compared by words.
-    #[inline(always)]
     fn order_of_digest(&self, other: &Self) -> Ordering
-        requires { length (pair_of self.now).digest ≡ length (pair_of other.now).digest }
-        ensures { result ≡ slice_cmp nat_cmp (pair_of self.now).digest (pair_of other.now).digest }
+        ensures { result ≡ then_cmp (on length nat_cmp) (slice_cmp nat_cmp) (pair_of self.now).digest
+            (pair_of other.now).digest }
     {
+        if self.size != other.size {
+            return self.size.cmp(&other.size);
+        }
         if S > 64 && self.size > 64 {
             return self.digest().cmp(other.digest());
         }
@@ -65,18 +63,23 @@ impl<const S: usize> Multihash<S> {
         if S >= 16 && self.size >= 16 {
             return order_from(self.digest(), other.digest(), 0);
         }
-        if S >= 8 && self.size >= 8 {
-            return order_last(self.digest(), other.digest(), 0);
-        }
         self.order_of_few(other)
     }
 
-    // How digests of fewer bytes compare. The parameters are the values, as those of `same_few`.
-    #[inline(never)]
-    fn order_of_few(&self, other: &Self) -> Ordering
+    // How digests of fewer than 16 bytes compare.
+    #[inline(always)]
+    fn order_of_few<const B: usize>(&self, other: &Multihash<B>) -> Ordering
+        requires few { length (pair_of self.now).digest < 16 }
+        requires same { length (pair_of self.now).digest ≡ length (pair_of other.now).digest }
         ensures { result ≡ slice_cmp nat_cmp (pair_of self.now).digest (pair_of other.now).digest }
     {
-        self.digest().cmp(other.digest())
+        if S < 8 || B < 8 {
+            return self.digest().cmp(other.digest());
+        }
+        if self.size >= 8 {
+            return order_last(self.digest(), other.digest(), 0);
+        }
+        order_of_first(&self.digest, &other.digest, self.size)
     }
 }
 
@@ -90,7 +93,7 @@ impl<const S: usize> PartialEq for Multihash<S> {
         ensures computes { result ≡ equal_pairs (pair_of self.now) (pair_of other.now) }
         ensures same { IsTrue result ↔ (pair_of self.now ≡ pair_of other.now) }
     {
-        self.code == other.code && self.size == other.size && self.same_digest(other)
+        self.same_as(other)
     }
 }
 
@@ -113,9 +116,6 @@ impl<const S: usize> Ord for Multihash<S> {
     {
         if self.code != other.code {
             return self.code.cmp(&other.code);
-        }
-        if self.size != other.size {
-            return self.size.cmp(&other.size);
         }
         self.order_of_digest(other)
     }
@@ -188,13 +188,14 @@ fn order_of_many(a: &[u8], b: &[u8]) -> Ordering
     if !same_word(a, b, 8) {
         return order_at(a, b, 8);
     }
-    if !same_word(a, b, 16) {
-        return order_at(a, b, 16);
+    if !same_words(a, b, 16) {
+        return order_of_words(a, b, 16);
     }
-    if !same_word(a, b, 24) {
-        return order_at(a, b, 24);
+    let last = a.len() - 32;
+    if !same_words(a, b, last) {
+        return order_of_words(a, b, last);
     }
-    order_from(a, b, a.len() - 32)
+    order_last(a, b, last + 16)
 }
 
 // How bytes compare that are equal before an index, with 16 to 32 from there on.
@@ -233,6 +234,21 @@ fn order_last(a: &[u8], b: &[u8], at: usize) -> Ordering
     order_at(a, b, a.len() - 8)
 }
 
+// How bytes compare that are equal before an index, and differ in the two words there.
+#[inline(always)]
+fn order_of_words(a: &[u8], b: &[u8], at: usize) -> Ordering
+    requires a { at + 16 ≤ length a.now }
+    requires b { at + 16 ≤ length b.now }
+    requires front { take at a.now ≡ take at b.now }
+    requires unlike { take (at + 16) a.now ≢ take (at + 16) b.now }
+    ensures { result ≡ slice_cmp nat_cmp a.now b.now }
+{
+    if !same_word(a, b, at) {
+        return order_at(a, b, at);
+    }
+    order_at(a, b, at + 8)
+}
+
 // How bytes compare that are equal before an index, and differ in the word there if they differ.
 #[inline(always)]
 fn order_at(a: &[u8], b: &[u8], at: usize) -> Ordering
@@ -245,6 +261,19 @@ fn order_at(a: &[u8], b: &[u8], at: usize) -> Ordering
     word_at(a, at).cmp(&word_at(b, at))
 }
 
+// How the first bytes compare, of which there are fewer than 8: as numbers, which are the high parts of words.
+#[inline(always)]
+fn order_of_first(a: &[u8], b: &[u8], count: usize) -> Ordering
+    requires a { 8 ≤ length a.now }
+    requires b { 8 ≤ length b.now }
+    requires few { count < 8 }
+    ensures { result ≡ slice_cmp nat_cmp (take count a.now) (take count b.now) }
+{
+    // Of no byte, one shift would be by all 64 bits.
+    let unused = 56 - 8 * count;
+    (word_at(a, 0) >> 8 >> unused).cmp(&(word_at(b, 0) >> 8 >> unused))
+}
+
 // Whether the eight bytes from that index on are equal too, if those before it are.
 #[inline(always)]
 fn same_word(a: &[u8], b: &[u8], at: usize) -> bool
@@ -254,6 +283,17 @@ fn same_word(a: &[u8], b: &[u8], at: usize) -> bool
     ensures { IsTrue result ↔ (take (at + 8) a.now ≡ take (at + 8) b.now) }
 {
     word_at(a, at) == word_at(b, at)
+}
+
+// Whether the two words from that index on are equal too, if the bytes before it are.
+#[inline(always)]
+fn same_words(a: &[u8], b: &[u8], at: usize) -> bool
+    requires a { at + 16 ≤ length a.now }
+    requires b { at + 16 ≤ length b.now }
+    requires front { take at a.now ≡ take at b.now }
+    ensures { IsTrue result ↔ (take (at + 16) a.now ≡ take (at + 16) b.now) }
+{
+    same_ends_of_16(&a[at..at + 16], &b[at..at + 16])
 }
 
 // The eight bytes from that index on as a number, the first as the highest.

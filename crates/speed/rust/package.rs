@@ -1,14 +1,20 @@
-//! Calls of a package `multihash`, of this repository or upstream's, whose instructions `count.py --package` counts:
-//! each is made `TURNS` times, and a request to valgrind's tool callgrind then writes the count with the call's name. A
-//! build for debugging also compares what the first call returns.
+//! Calls of a package `multihash`, of this repository or upstream's, which `count.py --package` measures: each is made
+//! `TURNS` times, and a request to valgrind's tool callgrind then writes the number of instructions with the call's
+//! name. With an argument, the program prints the nanoseconds of each comparison of unlike values instead. A build for
+//! debugging also compares what the first call returns.
 use multihash::{Error, Multihash};
 use std::arch::asm;
+use std::cmp::Ordering;
+use std::collections::BTreeMap;
 use std::ffi::CString;
 use std::hash::{BuildHasher, BuildHasherDefault, DefaultHasher};
 use std::hint::black_box;
 use std::io::{BufReader, Cursor, Read};
+use std::time::Instant;
 
 const TURNS: usize = 64;
+const ROUNDS: usize = 20;
+const VALUES: usize = 500;
 const ZERO_STATS: usize = 0x4354_0001;
 const DUMP_STATS_AT: usize = 0x4354_0003;
 
@@ -27,12 +33,29 @@ fn count<T>(name: &str, mut call: impl FnMut() -> T, is_right: impl Fn(T) -> boo
         let first = black_box(call());
         assert!(!cfg!(debug_assertions) || is_right(first), "{name}");
     }
-    let name = CString::new(name).expect("a name");
-    request(ZERO_STATS, 0);
-    for _ in 0..TURNS {
-        black_box(call());
+    let mut turns = || {
+        for _ in 0..TURNS {
+            black_box(call());
+        }
+    };
+    if is_timed() {
+        let time = |_| {
+            let start = Instant::now();
+            turns();
+            start.elapsed().as_nanos()
+        };
+        let least = (0..ROUNDS).map(time).min().expect("a round");
+        println!("{name} {:.2}", least as f64 / TURNS as f64);
+    } else {
+        let name = CString::new(name).expect("a name");
+        request(ZERO_STATS, 0);
+        turns();
+        request(DUMP_STATS_AT, name.as_ptr() as usize);
     }
-    request(DUMP_STATS_AT, name.as_ptr() as usize);
+}
+
+fn is_timed() -> bool {
+    std::env::args().len() > 1
 }
 
 fn calls<const S: usize>(code: u64, size: usize) {
@@ -68,7 +91,62 @@ fn calls<const S: usize>(code: u64, size: usize) {
     count(&of("into_inner"), || black_box(value).into_inner(), |it| it.0 == code);
 }
 
+fn of_code<const S: usize>(code: u64, digest: &[u8]) -> Multihash<S> {
+    Multihash::wrap(code, digest).expect("it fits")
+}
+
+/// Compares values that differ in their code or in one byte.
+fn comparisons<const S: usize>(size: usize) {
+    let digest = vec![0x55; size];
+    let unlike = |at| {
+        let mut digest = digest.clone();
+        digest[at] = 0x56;
+        of_code(0x12, &digest)
+    };
+    let others = [("code", of_code(0x13, &digest)), ("first byte", unlike(0)), ("middle byte", unlike(size / 2))];
+    count(&format!("nothing 1 {size}"), || (), |()| true);
+    for (what, other) in others.into_iter().chain([("last byte", unlike(size - 1))]) {
+        let (value, other) = black_box((of_code::<S>(0x12, &digest), other));
+        let of = |call: &str| format!("{call}, another {what} 1 {size}");
+        count(&of("cmp"), || black_box(&value).cmp(black_box(&other)), Ordering::is_lt);
+        count(&of("<"), || black_box(&value) < black_box(&other), |it| it);
+        count(&of("=="), || black_box(&value) == black_box(&other), |it| !it);
+    }
+}
+
+/// Sorts and finds values whose digests are pseudo-random, or have only their last four bytes so.
+fn collections<const S: usize>(size: usize) {
+    let mut state = 1_u64;
+    let mut random = || {
+        state = state.wrapping_mul(6364136223846793005).wrapping_add(1442695040888963407);
+        (state >> 56) as u8
+    };
+    for (what, same) in [("random", 0), ("near", size - 4)] {
+        let digest = |_| (0..size).map(|at| if at < same { 0x55 } else { random() }).collect::<Vec<u8>>();
+        let values: Vec<Multihash<S>> = (0..VALUES).map(digest).map(|digest| of_code(0x12, &digest)).collect();
+        let found: BTreeMap<_, _> = values.iter().map(|value| (*value, value.size())).collect();
+        let sorted = || {
+            let mut list = black_box(&values).clone();
+            list.sort_unstable();
+            list
+        };
+        let is_sorted = |list: Vec<Multihash<S>>| list.windows(2).all(|pair| pair[0].digest() <= pair[1].digest());
+        count(&format!("sort_unstable, {what} digests 1 {size}"), sorted, is_sorted);
+        let get = || values.iter().filter(|value| found.get(black_box(*value)).is_some()).count();
+        count(&format!("BTreeMap::get, {what} digests 1 {size}"), get, |number| number == VALUES);
+    }
+}
+
 fn main() {
+    for size in [4, 12, 20, 32, 64] {
+        comparisons::<64>(size);
+        collections::<64>(size);
+    }
+    comparisons::<255>(255);
+    collections::<255>(255);
+    if is_timed() {
+        return;
+    }
     for code in [0x12, 0x80, 0xb220, 1 << 62] {
         for size in [0, 20, 32, 64] {
             calls::<64>(code, size);

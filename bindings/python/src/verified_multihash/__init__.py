@@ -1,14 +1,14 @@
 """Multihashes by a verified C library: decoding, encoding and order.
 
-Where bytes are wanted, any object of the buffer protocol will do; numbers, strings and lists are a TypeError.
-Input that is no multihash, and a code or a digest that no multihash has, is a MultihashError (a ValueError).
+Functions that take bytes accept any object that supports the buffer protocol, and raise TypeError for anything else.
+Invalid input, and a code or digest that is too large, raise MultihashError, a subclass of ValueError.
 """
 
 from __future__ import annotations
 
 import enum
 import io
-from typing import TYPE_CHECKING, AsyncIterator, Iterator, NamedTuple, Optional, Protocol, Union
+from typing import TYPE_CHECKING, AsyncIterator, Iterator, NamedTuple, Optional, Protocol, Tuple, Union
 
 from . import _core
 from ._core import Multihash, compare, decode, encode, encoded_len, read, scale_decode, scale_encode
@@ -37,27 +37,30 @@ class Status(enum.IntEnum):
     """The result of a call, with the numbers of the C library."""
 
     OK = 0
-    INSUFFICIENT = 1  # the input ends within or before a varint
-    OVERFLOW = 2  # a varint has more than nine bytes, as every number of 2^63 or more needs
+    INSUFFICIENT = 1  # the input ends before or inside a varint
+    OVERFLOW = 2  # a varint has more than nine bytes, as numbers of 2^63 and above have
     NOT_MINIMAL = 3  # a varint of more than one byte ends in a zero byte
-    INVALID_SIZE = 4  # a digest is too long: `size` is its length; or bytes follow the encoding: `size` is their number
+    INVALID_SIZE = 4  # the digest is too long, and `size` is its length; or `size` bytes follow the encoding
     INVALID_CODE = 5  # `code` is 2^63 or more
-    UNEXPECTED_EOF = 6  # the input ends within the digest, or before it in the SCALE form
-    NO_ROOM = 7
+    UNEXPECTED_EOF = 6  # the input ends inside the digest or, in SCALE, before it
+    NO_ROOM = 7  # not raised: a buffer of C is too small
+
+
+_Text = Union[str, Tuple[Union[int, str], ...]]  # a text, or a format and its values
 
 
 class MultihashError(ValueError):
-    """Why bytes are no multihash, or why a code and a digest make none.
+    """The error of invalid input, or of a code or digest that is too large. Its text says what is wrong.
 
-    `size` is the length of a digest that is too long, or the number of trailing bytes, at INVALID_SIZE, else
-    0. `code` is the code at INVALID_CODE, else 0. `taken` is the number of bytes that a decoding consumed.
-    `is_incomplete` says whether the input is truncated: it ends within or before a varint, or within the digest.
-    Only then can more input change the result of `read`, `read_from`, a reader, `head` and `scale_decode`.
+    `size` is, at INVALID_SIZE, the length of the digest or the number of trailing bytes, otherwise 0.
+    `code` is, at INVALID_CODE, the code, otherwise 0.
+    `taken` is the number of bytes that were consumed.
+    `is_incomplete` is true if the input is truncated: only then can more input change the result.
     """
 
     __slots__ = ("status", "size", "code", "taken", "is_incomplete")
 
-    def __init__(self, status: int, size: int = 0, code: int = 0, taken: int = 0) -> None:
+    def __init__(self, status: int, size: int = 0, code: int = 0, taken: int = 0, text: _Text = "") -> None:
         self.status = Status(status)
         if self.status is Status.OK:
             raise ValueError("OK is the status of no error")
@@ -65,32 +68,35 @@ class MultihashError(ValueError):
         self.code = code
         self.taken = taken
         self.is_incomplete = self.status in (Status.INSUFFICIENT, Status.UNEXPECTED_EOF)
-        super().__init__(self.status, size, code, taken)
+        super().__init__(self.status, size, code, taken, text)
 
     def __repr__(self) -> str:
         numbers = tuple(map(_shown, (self.size, self.code, self.taken)))
-        return "%s(%r, %s, %s, %s)" % (type(self).__name__, self.status, *numbers)
+        return "%s(%r, %s, %s, %s, %r)" % (type(self).__name__, self.status, *numbers, str(self))
 
     def __str__(self) -> str:
-        text = _core.status_text(self.status)
-        numbers = {Status.INVALID_SIZE: self.size, Status.INVALID_CODE: self.code}
-        return "%s %s." % (text, _shown(numbers[self.status])) if self.status in numbers else text
+        """Returns the text, or else that of the C library."""
+        text: _Text = self.args[4]
+        if not text:
+            numbers = {Status.INVALID_SIZE: [self.size], Status.INVALID_CODE: [self.code]}.get(self.status, [])
+            text = (_core.status_text(self.status) + " %s." * len(numbers), *numbers)
+        return text if isinstance(text, str) else str(text[0]) % tuple(map(_shown, text[1:]))
 
 
 # The library's errors are made by _core, as __init__ does it.
 _core.set_error(MultihashError, tuple(Status), MultihashError.__slots__)
 
 
-def _shown(number: int) -> str:
-    """A number in decimal digits; in hexadecimal ones if it has too many for Python to convert."""
+def _shown(value: Union[int, str]) -> str:
+    """A text, or a number in decimal digits; in hexadecimal ones if it has too many for Python to convert."""
     try:
-        return "%d" % number
+        return str(value)
     except ValueError:
-        return "%#x" % number
+        return hex(int(value))
 
 
 class Head(NamedTuple):
-    """The code and the digest's length at the front of an encoding, and the number of bytes of both."""
+    """The code and the digest's length at the start of an encoding, and the number of bytes of both varints."""
 
     code: int
     digest_length: int
@@ -108,18 +114,20 @@ class _AsyncReadable(Protocol):
 
 
 def head(data: Buffer) -> Head:
-    """Decodes the code and the digest's length at the front of the bytes, without looking at the digest."""
+    """Decodes the two varints at the start of an encoding, without the digest, which may be missing or too long."""
     return tuple.__new__(Head, _core.head(data))  # without the arguments of Head, which take longer
 
 
 class MultihashReader(_core.Reader):
-    """Reads concatenated encodings from a binary file: each `read` the next one, and no byte after it.
+    """Reads concatenated encodings from a binary file. It consumes no byte after the multihash that it returns.
 
-    `file.read` may return fewer bytes than it is asked for. If it returns None or raises a BlockingIOError, since
-    the file does not block, `read` raises a BlockingIOError, and the next call continues where it stopped. So it does
-    after the file has ended within a multihash. After another error of the file each call is a ValueError: a buffered
-    file loses bytes then. A call while another one reads is a RuntimeError, and that one goes on. Nothing else may
-    read from the file or move it. `limit` is the most bytes of a digest.
+    `limit` is the maximum length of a digest, in bytes. `file.read` may return fewer bytes than requested. Nothing
+    else may read from the file or seek in it.
+
+    If the file does not block and has no bytes yet, its `read` returns None or raises BlockingIOError. `read` then
+    raises BlockingIOError, and the next call continues where it stopped. The same holds if the file ends inside a
+    multihash, which raises MultihashError. After any other error of the file, every call raises ValueError, because a
+    buffered file may have lost bytes. A call during another call raises RuntimeError, and the other call continues.
     """
 
     def __init__(self, file: _Readable, limit: int = DIGEST_MAX) -> None:
@@ -135,7 +143,7 @@ class MultihashReader(_core.Reader):
     def __next__(self) -> Multihash:
         try:
             multihash = self.read()
-        except StopIteration as error:  # of the file: here it would be the end of a loop
+        except StopIteration as error:  # of the file: raised here it would end a loop
             raise RuntimeError("the file raised StopIteration") from error
         if multihash is None:
             raise StopIteration
@@ -143,10 +151,10 @@ class MultihashReader(_core.Reader):
 
 
 class AsyncMultihashReader(_core.Reader):
-    """Reads as a MultihashReader does from a stream whose `read` is awaited, such as an asyncio.StreamReader.
+    """Reads as a MultihashReader does, from a stream whose `read` is awaited, such as an asyncio.StreamReader.
 
-    One call waits at a time; another one is a RuntimeError. After a call that was cancelled, as by a time limit, the
-    next one continues, also of `anext`, since an asyncio.StreamReader loses no bytes then.
+    If a call is cancelled, for example by a timeout, the next call continues where it stopped: an asyncio.StreamReader
+    loses no bytes when a `read` of it is cancelled.
     """
 
     def __init__(self, stream: _AsyncReadable, limit: int = DIGEST_MAX) -> None:
@@ -154,18 +162,15 @@ class AsyncMultihashReader(_core.Reader):
 
     async def read(self) -> Optional[Multihash]:
         """Returns the next multihash, or None at the end of the stream."""
-        wanted = self._wanted()
-        while wanted:
-            self._is_busy = True
+        while wanted := self._begin():
             try:
                 chunk = await self._read(wanted)
-            except Exception as error:  # which no cancelled call is
-                self._has_lost = not isinstance(error, BlockingIOError)
+            except BaseException as error:
+                self._fail(error)
                 raise
-            finally:
-                self._is_busy = False
-            wanted = self._wanted() if self._keep(chunk) else 0
-        return self._decoded()
+            if not self._end(chunk):
+                break
+        return self._take()
 
     def __aiter__(self) -> AsyncIterator[Multihash]:
         return self
@@ -173,7 +178,7 @@ class AsyncMultihashReader(_core.Reader):
     async def __anext__(self) -> Multihash:
         try:
             multihash = await self.read()
-        except StopAsyncIteration as error:  # of the stream: here it would be the end of a loop
+        except StopAsyncIteration as error:  # of the stream: raised here it would end a loop
             raise RuntimeError("the stream raised StopAsyncIteration") from error
         if multihash is None:
             raise StopAsyncIteration
@@ -181,12 +186,13 @@ class AsyncMultihashReader(_core.Reader):
 
 
 def read_from(file: _Readable, limit: int = DIGEST_MAX) -> Optional[Multihash]:
-    """Reads the next multihash from a binary file that blocks, and no byte after it; None at the end of the file.
+    """Returns the next multihash of a binary file, and consumes no byte after it; returns None at the end of the file.
 
-    `file.read` may return fewer bytes than it is asked for. After an error the bytes that were read of a multihash are
-    lost; a MultihashReader keeps them. A file that does not block and has no bytes yet is an io.UnsupportedOperation.
+    `limit` is the maximum length of a digest, in bytes. `file.read` may return fewer bytes than requested. After an
+    error the bytes read of a multihash are lost; a MultihashReader keeps them. Raises io.UnsupportedOperation if the
+    file does not block and has no bytes yet.
     """
     try:
         return _core.read_once(file, limit)
     except BlockingIOError as error:
-        raise io.UnsupportedOperation("the file does not block: MultihashReader reads from it") from error
+        raise io.UnsupportedOperation("the file does not block: use a MultihashReader") from error

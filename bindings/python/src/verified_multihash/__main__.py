@@ -57,10 +57,12 @@ def main() -> int:
         return 0
     except OSError:
         pass
+    except MultihashError as error:
+        reason = str(MultihashError(error.status, error.size, error.code))  # the text of mh_show
     except ValueError as error:
         reason = str(error)
     try:
-        _write(2, b"mh_show: %s\n" % reason.encode())
+        _write(2, b"python -m verified_multihash: %s\n" % reason.encode())
     except OSError:
         pass  # there is nowhere to report it
     return 1

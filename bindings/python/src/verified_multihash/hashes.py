@@ -1,68 +1,152 @@
-"""Names of codes, and multihashes of data, by the hash functions of hashlib. Nothing here is proved."""
+"""Names of codes, and multihashes of data, computed by hashlib. Nothing here is proved."""
 
 from __future__ import annotations
 
 import hashlib
 import hmac
-from typing import TYPE_CHECKING, Dict, Mapping, Union
+from types import MappingProxyType
+from typing import TYPE_CHECKING, Any, Dict, Iterable, Iterator, Mapping, Union
 
-from . import Multihash, decode
+from . import Multihash, MultihashError, _Readable, decode
 
 if TYPE_CHECKING:
     from _typeshed import ReadableBuffer as Buffer
 else:
     from . import Buffer
 
-__all__ = ["CODES", "NAMES", "digest", "verify"]
-
-_CODES: Dict[str, int] = {
-    "sha1": 0x11, "sha2-256": 0x12, "sha2-512": 0x13, "sha3-512": 0x14, "sha3-384": 0x15, "sha3-256": 0x16,
-    "sha3-224": 0x17, "shake-128": 0x18, "shake-256": 0x19, "sha2-384": 0x20, "md5": 0xD5, "sha2-224": 0x1013,
-    "sha2-512-224": 0x1014, "sha2-512-256": 0x1015,
-}  # fmt: skip
+__all__ = ["CODES", "NAMES", "Hasher", "digest", "digest_file", "verify", "verify_file"]
 
 
-def _in_hashlib(name: str) -> str:
-    return name.replace("sha2-", "sha").replace("-", "_")
+def _family(name: str, first: int, count: int) -> Dict[str, int]:
+    """The codes of a function whose digests have 8, 16, .. bits."""
+    return {"%s-%d" % (name, 8 * (index + 1)): first + index for index in range(count)}
 
 
-# The code of each name, and the name of each code.
-CODES: Mapping[str, int] = {
-    "identity": 0,
-    **{name: code for name, code in _CODES.items() if _in_hashlib(name) in hashlib.algorithms_available},
-    **{"blake2b-%d" % (8 * size): 0xB200 + size for size in range(1, 65)},
-    **{"blake2s-%d" % (8 * size): 0xB240 + size for size in range(1, 33)},
-}
-NAMES: Mapping[int, str] = {code: name for name, code in CODES.items()}
+# The hash functions of the multicodec table: the code of each name, and the name of each code.
+CODES: Mapping[str, int] = MappingProxyType({
+    "identity": 0x0, "sha1": 0x11, "sha2-256": 0x12, "sha2-512": 0x13, "sha3-512": 0x14, "sha3-384": 0x15,
+    "sha3-256": 0x16, "sha3-224": 0x17, "shake-128": 0x18, "shake-256": 0x19, "keccak-224": 0x1A, "keccak-256": 0x1B,
+    "keccak-384": 0x1C, "keccak-512": 0x1D, "blake3": 0x1E, "sha2-384": 0x20, "murmur3-x64-64": 0x22,
+    "murmur3-32": 0x23, "dbl-sha2-256": 0x56, "md4": 0xD4, "md5": 0xD5, "bmt": 0xD6,
+    "fr32-sha256-trunc254-padbintree": 0x1011, "sha2-256-trunc254-padded": 0x1012, "sha2-224": 0x1013,
+    "sha2-512-224": 0x1014, "sha2-512-256": 0x1015, "murmur3-x64-128": 0x1022, "ripemd-128": 0x1052,
+    "ripemd-160": 0x1053, "ripemd-256": 0x1054, "ripemd-320": 0x1055, "x11": 0x1100, "kangarootwelve": 0x1D01,
+    "sm3-256": 0x534D, "sha256a": 0x7012, **_family("blake2b", 0xB201, 64), **_family("blake2s", 0xB241, 32),
+    **_family("skein256", 0xB301, 32), **_family("skein512", 0xB321, 64), **_family("skein1024", 0xB361, 128),
+    "xxh-32": 0xB3E1, "xxh-64": 0xB3E2, "xxh3-64": 0xB3E3, "xxh3-128": 0xB3E4, "poseidon-bls12_381-a2-fc1": 0xB401,
+    "poseidon-bls12_381-a2-fc1-sc": 0xB402, "ssz-sha2-256-bmt": 0xB502, "sha2-256-chunked": 0xB510,
+})  # fmt: skip
+NAMES: Mapping[int, str] = MappingProxyType({code: name for name, code in CODES.items()})
+
+_IN_HASHLIB = {"dbl-sha2-256": "sha256", "ripemd-160": "ripemd160", "sm3-256": "sm3"}
+_SHAKE_LENGTHS = {"shake-128": 32, "shake-256": 64}
 
 
-def _hashed(data: Buffer, name: str) -> bytes:
+class _Identity:
+    """The function whose digest is the data, with the methods of hashlib's objects."""
+
+    def __init__(self) -> None:
+        self._data = b""
+
+    def update(self, data: Buffer) -> None:
+        """Raises MultihashError for more than DIGEST_MAX bytes, and copies no more than these."""
+        self._data = Multihash(0, self._data + Multihash(0, data).digest).digest
+
+    def digest(self) -> bytes:
+        return self._data
+
+
+def _new(name: str) -> Any:
+    """An object of hashlib, or a ValueError."""
+    if name == "identity":
+        return _Identity()
     kind, _, bits = name.partition("-")
-    if kind == "identity":
-        return memoryview(data).tobytes()
     if kind in ("blake2b", "blake2s"):
-        return (hashlib.blake2b if kind == "blake2b" else hashlib.blake2s)(data, digest_size=int(bits) // 8).digest()
-    if kind == "shake":
-        return (hashlib.shake_128 if bits == "128" else hashlib.shake_256)(data).digest(int(bits) // 4)
-    return hashlib.new(_in_hashlib(name), data).digest()
+        return (hashlib.blake2b if kind == "blake2b" else hashlib.blake2s)(digest_size=int(bits) // 8)
+    try:
+        return hashlib.new(_IN_HASHLIB.get(name, name.replace("sha2-", "sha").replace("-", "_")))
+    except ValueError:
+        raise ValueError("hashlib does not have %s here" % name) from None
+
+
+class Hasher:
+    """Makes the multihash of data that is passed in parts, by the function of a name.
+
+    Raises ValueError if the name is not in CODES, or if this build of hashlib does not have the function.
+    """
+
+    def __init__(self, name: str) -> None:
+        if name not in CODES:
+            raise ValueError("name must be in hashes.CODES, such as 'sha2-256', not %r" % (name,))
+        self._name = name
+        self._hash = _new(name)
+
+    def update(self, data: Buffer) -> None:
+        """Appends data. Raises MultihashError if "identity" gets more than DIGEST_MAX bytes."""
+        self._hash.update(data)
+
+    def multihash(self) -> Multihash:
+        """Returns the multihash of all data so far."""
+        length = _SHAKE_LENGTHS.get(self._name)
+        found = self._hash.digest(length) if length else self._hash.digest()
+        if self._name == "dbl-sha2-256":
+            found = hashlib.sha256(found).digest()
+        return Multihash(CODES[self._name], found)
+
+
+def _parts(file: _Readable) -> Iterator[bytes]:
+    while True:
+        part = file.read(1 << 18)
+        if part is None:
+            raise BlockingIOError("the file has no bytes now")
+        if not part:
+            return
+        yield part
+
+
+def _digest(parts: Iterable[Buffer], name: str) -> Multihash:
+    hasher = Hasher(name)
+    for part in parts:
+        hasher.update(part)
+    return hasher.multihash()
 
 
 def digest(data: Buffer, name: str) -> Multihash:
-    """Returns the multihash of the data by the function of that name, which is a ValueError if it is not in CODES.
+    """Returns the multihash of data, hashed with the named function.
 
-    Data of more than DIGEST_MAX bytes have no "identity": that is a MultihashError.
+    Raises ValueError if the name is not in CODES, or if this build of hashlib does not have the function. Raises
+    MultihashError for "identity" and more than DIGEST_MAX bytes.
     """
-    if name not in CODES:
-        raise ValueError("not in CODES: %r" % name)
-    return Multihash(CODES[name], _hashed(data, name))
+    return _digest([data], name)
+
+
+def digest_file(file: _Readable, name: str) -> Multihash:
+    """Returns the multihash of the bytes of a binary file up to its end, as `digest` does. It keeps 256 KiB of them."""
+    return _digest(_parts(file), name)
+
+
+def _verify(multihash: Union[Multihash, Buffer], parts: Iterable[Buffer]) -> bool:
+    claimed = multihash if isinstance(multihash, Multihash) else decode(multihash)
+    if claimed.code not in NAMES:
+        raise ValueError("the code %#x has no name in hashes.NAMES" % claimed.code)
+    hasher = Hasher(NAMES[claimed.code])
+    for part in parts:
+        try:
+            hasher.update(part)
+        except MultihashError:
+            return False  # more than any digest of "identity"
+    return hmac.compare_digest(claimed.digest, hasher.multihash().digest)
 
 
 def verify(multihash: Union[Multihash, Buffer], data: Buffer) -> bool:
-    """Returns whether the multihash, or its encoding, is that of the data: False for a truncated digest.
+    """Returns whether the multihash, or its encoding, is that of the data. Returns False for a truncated digest.
 
-    A code that is not in NAMES is a ValueError. The time for digests of equal lengths does not depend on their bytes.
+    Raises ValueError if the code is not in NAMES, or if this build of hashlib does not have the function. The time
+    that it takes to compare digests of equal lengths does not depend on their bytes.
     """
-    claimed = multihash if isinstance(multihash, Multihash) else decode(multihash)
-    if claimed.code not in NAMES:
-        raise ValueError("not in NAMES: %#x" % claimed.code)
-    return hmac.compare_digest(claimed.digest, _hashed(data, NAMES[claimed.code]))
+    return _verify(multihash, [data])
+
+
+def verify_file(multihash: Union[Multihash, Buffer], file: _Readable) -> bool:
+    """Returns whether the multihash is that of the bytes of a binary file up to its end, as `verify` does."""
+    return _verify(multihash, _parts(file))

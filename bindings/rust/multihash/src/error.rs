@@ -1,5 +1,6 @@
-use crate::{io, proved, StdError};
+use crate::{io, StdError};
 use core::fmt;
+use verified_multihash as proved;
 
 /// Why a call failed. [`source`](StdError::source) is the error of the reader or the writer, if one
 /// of these failed.

@@ -1,18 +1,27 @@
 use crate::error::{Error, Kind};
 use crate::io::{Read, Write};
-use crate::proved::varint::MAX as CODE_MAX;
-use crate::proved::Multihash as Proved;
 use crate::streams::Kept;
 use core::cmp::Ordering;
 use core::fmt;
+use verified_multihash::{upstream, Multihash as Proved};
 
 /// A code, which names the hash function, and a digest of at most `S` bytes.
 ///
 /// The code is below 2^63, and the digest has at most 255 bytes. Values of different `S` with the same code
-/// and digest are equal and have the same hash.
+/// and digest are equal and have the same hash. Only `wrap`, `read` and `from_bytes` make a value of other parts:
+///
+/// ```compile_fail,E0423
+/// fn multihash(value: verified_multihash::Multihash<64>) -> multihash::Multihash<64> {
+///     multihash::Multihash(value)
+/// }
+/// ```
+///
+/// ```compile_fail,E0308
+/// use verified_multihash::Multihash as Verified;
+/// const READ: fn(std::io::Empty) -> Result<Verified<64>, multihash::Error> = multihash::Multihash::<64>::read;
+/// ```
 #[derive(Clone, Copy, Eq, Default, Hash)]
 #[allow(clippy::derived_hash_with_manual_eq)] // the proved value's `Hash` agrees with its `same_as`
-#[repr(transparent)]
 pub struct Multihash<const S: usize>(Proved<S>);
 
 impl<const S: usize> Multihash<S> {
@@ -21,31 +30,35 @@ impl<const S: usize> Multihash<S> {
     /// # Errors
     ///
     /// For a digest of more than `S` bytes or more than 255, and for a code of 2^63 or more.
+    ///
+    /// # Examples
+    ///
+    /// ```
+    /// # use multihash::{Error, Multihash};
+    /// const ABC: Result<Multihash<32>, Error> = Multihash::wrap(0x12, b"abc");
+    /// let multihash = ABC?;
+    /// assert_eq!((multihash.code(), multihash.digest()), (0x12, &b"abc"[..]));
+    /// # Ok::<(), Error>(())
+    /// ```
     // By hand, as `code` and `size`: upstream's are `const`, which no function of Rattle is.
     pub const fn wrap(code: u64, digest: &[u8]) -> Result<Self, Error> {
-        let size = digest.len();
-        if size > S || size > 255 {
-            return Err(Error { kind: Kind::InvalidSize(size as u64) });
+        match upstream::wrap(code, digest) {
+            Some(value) => Ok(Self(value)),
+            None if digest.len() > S || digest.len() > 255 => {
+                Err(Error { kind: Kind::InvalidSize(digest.len() as u64) })
+            }
+            None => Err(Error { kind: Kind::InvalidCode(code) }),
         }
-        if code > CODE_MAX {
-            return Err(Error { kind: Kind::InvalidCode(code) });
-        }
-        let (mut value, mut at) = (Proved { digest: [0; S], code, size }, 0);
-        while at < size {
-            value.digest[at] = digest[at];
-            at += 1;
-        }
-        Ok(Self(value))
     }
 
     /// Returns the code.
     pub const fn code(&self) -> u64 {
-        self.0.code
+        upstream::code(&self.0)
     }
 
     /// Returns the length of the digest.
     pub const fn size(&self) -> u8 {
-        self.0.size as u8
+        upstream::size(&self.0)
     }
 
     /// Returns the digest.
@@ -53,12 +66,30 @@ impl<const S: usize> Multihash<S> {
         self.0.digest()
     }
 
-    /// Reads the multihash that comes next, and no byte after it.
+    /// Reads the next multihash, and stops right after it.
     ///
     /// # Errors
     ///
-    /// That of the reader, and one if no multihash with a digest of at most `S` bytes comes next. No byte of
-    /// a digest that is too long is read.
+    /// - The reader's error, if it fails.
+    /// - An error if the next bytes are not a multihash with a digest of at most `S` bytes. No byte of a digest
+    ///   that is too long is read.
+    ///
+    /// # Examples
+    ///
+    /// ```
+    /// # #[cfg(feature = "std")]
+    /// use std::io::BufRead; // `BufReader` and `Cursor` are such readers too
+    /// # #[cfg(feature = "std")]
+    /// # {
+    /// let mut reader = &b"\x12\x03abc\x12\x03def"[..];
+    /// let mut digests = vec![];
+    /// while !reader.fill_buf()?.is_empty() {
+    ///     digests.push(multihash::Multihash::<64>::read(&mut reader)?.digest().to_vec());
+    /// }
+    /// assert_eq!(digests, [b"abc", b"def"]);
+    /// # }
+    /// # Ok::<(), Box<dyn std::error::Error>>(())
+    /// ```
     pub fn read<R: Read>(r: R) -> Result<Self, Error> {
         let mut reader = Kept::new(r);
         match Proved::read(&mut reader) {
@@ -71,7 +102,17 @@ impl<const S: usize> Multihash<S> {
     ///
     /// # Errors
     ///
-    /// If `bytes` is no encoding, or that of a digest of more than `S` bytes.
+    /// If `bytes` is not an encoding, or encodes a digest of more than `S` bytes.
+    ///
+    /// # Examples
+    ///
+    /// ```
+    /// # use multihash::Multihash;
+    /// assert_eq!(Multihash::<64>::from_bytes(b"\x12\x03abc")?.digest(), b"abc");
+    /// let error = Multihash::<64>::from_bytes(b"\x12\x03abc, and more").unwrap_err();
+    /// assert_eq!(error.to_string(), "Invalid multihash size 10."); // bytes that follow
+    /// # Ok::<(), multihash::Error>(())
+    /// ```
     pub fn from_bytes(bytes: &[u8]) -> Result<Self, Error> {
         match Proved::from_bytes(bytes) {
             Ok(value) => Ok(Self(value)),
@@ -83,7 +124,19 @@ impl<const S: usize> Multihash<S> {
     ///
     /// # Errors
     ///
-    /// That of the writer. A prefix of the encoding may have been written.
+    /// The writer's error, if it fails. A prefix of the encoding may have been written.
+    ///
+    /// # Examples
+    ///
+    /// ```
+    /// # #[cfg(feature = "alloc")]
+    /// # {
+    /// let mut bytes = Vec::new();
+    /// assert_eq!(multihash::Multihash::<64>::wrap(0x12, b"abc")?.write(&mut bytes)?, 5);
+    /// assert_eq!(bytes, b"\x12\x03abc");
+    /// # }
+    /// # Ok::<(), multihash::Error>(())
+    /// ```
     pub fn write<W: Write>(&self, w: W) -> Result<usize, Error> {
         let mut writer = Kept::new(w);
         self.0.write(&mut writer).map_err(|error| writer.error(error))
@@ -117,25 +170,27 @@ impl<const S: usize> Multihash<S> {
     /// For a digest of more than `R` bytes.
     pub fn resize<const R: usize>(&self) -> Result<Multihash<R>, Error> {
         // By hand: the proved one takes Rust's compiler twice the instructions.
-        let size = self.0.size;
-        let mut result = Ok(Multihash(Proved { code: self.0.code, size, digest: [0; R] }));
-        match &mut result {
-            Ok(resized) if size <= R => resized.0.digest[..size].copy_from_slice(&self.0.digest[..size]),
-            _ => result = Err(Error { kind: Kind::InvalidSize(size as u64) }),
+        let mut result = Ok(Multihash::default());
+        let fits = match &mut result {
+            Ok(resized) => upstream::resize(&self.0, &mut resized.0),
+            Err(_) => false,
+        };
+        if !fits {
+            result = Err(Error { kind: Kind::InvalidSize(self.size().into()) });
         }
         result
     }
 
     /// Returns the code, the array that starts with the digest, and the length of the digest.
     pub fn into_inner(self) -> (u64, [u8; S], u8) {
-        (self.0.code, self.0.digest, self.size())
+        (self.code(), *upstream::buffer(&self.0), self.size())
     }
 }
 
 impl<const S: usize> fmt::Debug for Multihash<S> {
     fn fmt(&self, f: &mut fmt::Formatter<'_>) -> fmt::Result {
-        let Proved { code, size, digest } = &self.0;
-        f.debug_struct("Multihash").field("code", code).field("size", size).field("digest", digest).finish()
+        let (code, digest, size) = self.into_inner();
+        f.debug_struct("Multihash").field("code", &code).field("size", &size).field("digest", &digest).finish()
     }
 }
 
@@ -162,17 +217,5 @@ impl<const S: usize> PartialOrd for Multihash<S> {
 impl<const S: usize> From<Multihash<S>> for alloc::vec::Vec<u8> {
     fn from(multihash: Multihash<S>) -> Self {
         multihash.to_bytes()
-    }
-}
-
-impl<const S: usize> From<Proved<S>> for Multihash<S> {
-    fn from(proved: Proved<S>) -> Self {
-        Self(proved)
-    }
-}
-
-impl<const S: usize> From<Multihash<S>> for Proved<S> {
-    fn from(multihash: Multihash<S>) -> Self {
-        multihash.0
     }
 }

@@ -1,6 +1,6 @@
 //! What reading and writing needs of `std::io`, where there is no `std`.
-use crate::proved::no_std_io as bare;
 use core::fmt;
+use verified_multihash::no_std_io as bare;
 
 /// Why a reader or a writer of this module failed.
 #[derive(Debug)]

@@ -18,15 +18,17 @@ impl<'de, const S: usize> Deserialize<'de> for Multihash<S> {
     }
 }
 
-/// The most bytes of an encoding and of a digest.
+/// The maximum length of an encoding, and of a digest, in bytes.
 const LENGTH_MAX: usize = 266;
 const DIGEST_MAX: usize = 255;
 
 struct Bytes<const S: usize>;
 
 impl<const S: usize> Bytes<S> {
-    /// The most bytes of an encoding: nine of the code, one of a length below 128 or two, and the digest.
+    /// The maximum length of an encoding: nine bytes of the code, one of a length below 128 or two, and the digest.
     const MOST: usize = if S < DIGEST_MAX { 10 + S / 128 + S } else { LENGTH_MAX };
+    /// The numbers of a sequence that are read before its length is an error: as many as upstream reads, or more.
+    const READ: usize = if 10 + S > Self::MOST { 10 + S } else { Self::MOST };
 }
 
 impl<'de, const S: usize> Visitor<'de> for Bytes<S> {
@@ -43,11 +45,16 @@ impl<'de, const S: usize> Visitor<'de> for Bytes<S> {
     fn visit_seq<A: SeqAccess<'de>>(self, mut numbers: A) -> Result<Multihash<S>, A::Error> {
         let (mut bytes, mut length) = ([0; LENGTH_MAX], 0);
         while let Some(byte) = numbers.next_element()? {
-            if length == Self::MOST {
+            if length == Self::READ {
                 return Err(A::Error::invalid_length(length + 1, &self));
             }
-            bytes[length] = byte;
+            if let Some(place) = bytes.get_mut(length) {
+                *place = byte;
+            }
             length += 1;
+        }
+        if length > Self::MOST {
+            return Err(A::Error::invalid_length(length, &self));
         }
         self.visit_bytes(&bytes[..length])
     }

@@ -2,7 +2,7 @@
 //! caller's error is kept beside.
 use crate::error::{Error, Kind};
 use crate::io;
-use crate::proved::{self, no_std_io as bare};
+use verified_multihash::{self as proved, no_std_io as bare};
 
 pub(crate) struct Kept<T> {
     stream: T,

@@ -7,11 +7,11 @@ use super::Error;
 
 /// A source of bytes.
 ///
-/// An implementation exposes two ghost members to contracts: `rest`, the list of bytes still to come,
-/// or `None` for a reader whose input is not known, and `failures`, the number of times that it has
-/// failed. Its methods are proved to keep the laws in their clauses. Whether the input is known never
-/// changes. A call that fails with an error of the reader itself raises the count, and no other call
-/// changes it.
+/// An implementation has to keep the laws that are stated here and at its methods; in Rattle that is
+/// proved. Contracts know it by two ghost members: `rest`, the list of bytes still to come, or `None`
+/// for a reader whose input is not known, and `failures`, the number of times that it has failed.
+/// Whether the input is known never changes. A call that fails with an error of the reader itself
+/// raises the count, and no other call changes it.
 pub trait Read {
     // The bytes still to come, if the input is known.
     ghost rest: { Self → Option (List ℕ) };
@@ -19,9 +19,9 @@ pub trait Read {
     // The number of times that the reader has failed.
     ghost failures: { Self → ℕ };
 
-    /// Reads some of the next bytes into the front of `buf`, and returns their number. The rest of
-    /// `buf` is unchanged. It returns 0 for a non-empty buffer only at the end of a known input; no law
-    /// states this of an input that is not known.
+    /// Reads some of the next bytes into the front of `buf`, and returns their number, which is at most
+    /// the length of `buf`. The rest of `buf` is unchanged. It returns 0 for a non-empty buffer only at
+    /// the end of a known input; no law states this of an input that is not known.
     ///
     /// # Errors
     ///
@@ -46,7 +46,8 @@ pub trait Read {
         while filled < buf.len() {
             match self.read(&mut buf[filled..]) {
                 Ok(0) => return Err(Error::unexpected_eof()),
-                Ok(n) => filled += n,
+                // In Rust, where no law is proved, the slice panics if the count is too large.
+                Ok(n) => filled += buf[filled..][..n].len(),
                 Err(e) => return Err(e),
             }
         }
@@ -56,12 +57,12 @@ pub trait Read {
 
 /// A sink of bytes.
 ///
-/// An implementation exposes four ghost members to contracts: `allocates`, which has to be the value of
+/// An implementation has to keep the laws that are stated here and at its methods; in Rattle that is
+/// proved. Contracts know it by four ghost members: `allocates`, which has to be the value of
 /// `ALLOCATES` (nothing checks this for a custom writer), `appended`, the relation of two states and the
 /// list of bytes appended between them, whether it is `full`, and `failures`, the number of times that
-/// it has failed. Its methods are proved to keep the laws in their clauses. A call that fails with an
-/// error of the writer itself raises the count, except one that is out of memory where it allocates, and
-/// no other call changes it.
+/// it has failed. A call that fails with an error of the writer itself raises the count, except one that
+/// is out of memory where it allocates, and no other call changes it.
 pub trait Write {
     /// Whether a call may allocate, and so return [`Error::out_of_memory`] without counting a failure.
     const ALLOCATES: bool;
@@ -78,8 +79,8 @@ pub trait Write {
     // The number of times that the writer has failed.
     ghost failures: { Self → ℕ };
 
-    /// Appends some of the first bytes of `buf`, and returns their number. It returns 0 for a non-empty
-    /// buffer only if it is full then.
+    /// Appends some of the first bytes of `buf`, and returns their number, which is at most the length of
+    /// `buf`. It returns 0 for a non-empty buffer only if it is full then.
     ///
     /// # Errors
     ///

@@ -1,0 +1,54 @@
+// Checks of arguments. An error names the argument, what was expected, and what came.
+
+/** What came, as an error names it. */
+export function received(value) {
+  if (typeof value === 'object' && value !== null) return Object.prototype.toString.call(value).slice(8, -1);
+  return ['string', 'symbol', 'function'].includes(typeof value) ? typeof value : String(value);
+}
+
+/** The error of an argument of another type. */
+export const wrongType = (name, expected, value) =>
+  new TypeError(`${name} must be ${expected}, got ${received(value)}`);
+
+const getter = (prototype, name) => Object.getOwnPropertyDescriptor(prototype, name).get;
+const typedArray = Object.getPrototypeOf(Uint8Array.prototype);
+// The getters themselves, since a subclass may define others.
+const tagOf = getter(typedArray, Symbol.toStringTag);
+export const lengthOf = getter(typedArray, 'length');
+const offsetOf = getter(typedArray, 'byteOffset');
+export const bufferOf = getter(typedArray, 'buffer');
+
+/** Whether the value is a Uint8Array, of any realm. */
+export const isBytes = (value) => tagOf.call(value) === 'Uint8Array';
+
+/** The length of a Uint8Array, 0 if its buffer is detached. Throws a TypeError for any other value. */
+export function checkedLength(data, name) {
+  // the buffer is not asked for: an engine has to make it first, which takes longer than to decode a short array
+  if (tagOf.call(data) !== 'Uint8Array') throw wrongType(name, 'a Uint8Array', data);
+  return lengthOf.call(data);
+}
+
+/** A plain Uint8Array over `length` bytes of another one, from an index on. */
+export const viewOf = (data, at, length) => new Uint8Array(bufferOf.call(data), offsetOf.call(data) + at, length);
+
+/** The options of a call, which are an object. */
+export function checkedOptions(options) {
+  if (typeof options !== 'object' || options === null) throw wrongType('options', 'an object', options);
+  return options;
+}
+
+// The first numbers as BigInts: to make one is slower than a call. They are made when core.js is connected.
+export const NUMBERS = [];
+
+/** A whole number of 64 bits, not negative, as a BigInt. */
+export function bits64(number, name) {
+  if (typeof number === 'number') {
+    if (!Number.isSafeInteger(number) || number < 0)
+      throw new RangeError(`${name} must be a whole number from 0 to 2^53 - 1, or a bigint, got ${number}`);
+    return number < NUMBERS.length ? NUMBERS[number] : BigInt(number);
+  }
+  if (typeof number !== 'bigint') throw wrongType(name, 'a number or a bigint', number);
+  if (BigInt.asUintN(64, number) !== number)
+    throw new RangeError(`${name} must be from 0 to 2^64 - 1, got ${number}`);
+  return number;
+}

@@ -1,0 +1,146 @@
+// The reader of streams.
+import { bits64, checkedLength, checkedOptions } from './arguments.js';
+import { DIGEST_MAX, read, readAt } from './core.js';
+import { sourceOf } from './sources.js';
+
+/** Reads concatenated encodings from a `ReadableStream` or an async iterable of `Uint8Array`. */
+export class MultihashReader {
+  #source;
+  #limit;
+  #bytes; // what was received, and from which index on it belongs to no multihash that was returned
+  #at = 0;
+  #calls = 0; // those that have not ended
+  #last = Promise.resolve();
+  #isReleased = false; // by its user
+  #stop; // ends the call that waits
+  #end; // what each call does once the reader has ended: it returns null, or throws an error
+
+  /** `limit` is the maximum length of a digest; `rest` holds bytes that precede those of the source. */
+  constructor(source, options = {}) {
+    const { limit = DIGEST_MAX, rest = new Uint8Array() } = checkedOptions(options);
+    this.#limit = bits64(limit, 'limit');
+    this.#bytes = joined(new Uint8Array(), 0, rest, 'rest');
+    this.#source = sourceOf(source, 'source');
+  }
+
+  /** A copy of the bytes that were received and belong to no multihash that was returned. */
+  get rest() {
+    return this.#bytes.slice(this.#at);
+  }
+
+  /**
+   * Returns the next multihash, or null after the last one. After an error each call gives that error, and the source
+   * is released, as it is after null. Calls that overlap run one after the other.
+   */
+  read() {
+    const next = this.#calls++ === 0 ? this.#next() : this.#last.then(() => this.#next());
+    if (this.#calls > 0) this.#last = next.catch(() => {});
+    return next;
+  }
+
+  async #next() {
+    try {
+      return this.#end ? this.#end() : (this.#received() ?? (await this.#awaited()) ?? this.#finish(() => null));
+    } catch (error) {
+      return this.#finish(() => {
+        throw error;
+      });
+    } finally {
+      this.#calls--;
+    }
+  }
+
+  #finish(end) {
+    this.#end ??= end;
+    this.#source.release();
+    return this.#end();
+  }
+
+  /** The next multihash, if all of it was received. */
+  #received() {
+    const found = readAt(this.#bytes, this.#at, this.#limit);
+    this.#at += found?.taken ?? 0;
+    return found?.multihash;
+  }
+
+  /** The next multihash of the source, or null after the last one. */
+  async #awaited() {
+    let multihash;
+    while (!multihash) {
+      const done = await new Promise((resolve, reject) => {
+        this.#stop = resolve;
+        this.#receive().then(resolve, reject);
+      });
+      // after a release or a cancellation meanwhile, `rest` has what was received
+      if (this.#end || (done && this.#at === this.#bytes.length)) return null;
+      multihash = done ? read(this.rest).multihash : this.#received(); // the former throws
+    }
+    return multihash;
+  }
+
+  /** Waits for a chunk of the source, which `rest` has then. Whether there is none: the source has ended. */
+  async #receive() {
+    const { done, value } = await this.#source.next();
+    if (!done) {
+      this.#bytes = joined(this.#bytes, this.#at, value, 'a chunk of the source');
+      this.#at = 0;
+    }
+    return done;
+  }
+
+  /** What `read` would give, if that is a multihash and nothing has to be awaited. */
+  #ready() {
+    try {
+      return this.#calls === 0 && !this.#end ? this.#received() : undefined;
+    } catch {
+      return undefined;
+    }
+  }
+
+  /**
+   * Unlocks a `ReadableStream`, for another reader: `rest` has what was received. `read` gives an error from then on,
+   * and nothing cancels the source.
+   */
+  release() {
+    this.#end ??= () => {
+      throw new TypeError('the reader was released');
+    };
+    this.#isReleased = true;
+    this.#source.release();
+  }
+
+  /** Cancels the source, if it was not released. `read` gives null from then on, also where it waits. */
+  async cancel(reason) {
+    this.#end ??= () => null;
+    if (this.#isReleased) return;
+    this.#stop?.();
+    await this.#source.close(reason, this.#calls > 0);
+  }
+
+  /** Yields each multihash; where the loop is left, the source is cancelled. */
+  async *[Symbol.asyncIterator]() {
+    let hasFailed = false;
+    try {
+      for (let multihash; (multihash = this.#ready() ?? (await this.read())) !== null; ) yield multihash;
+    } catch (error) {
+      hasFailed = true;
+      await this.cancel().catch(() => {}); // the first error is the one to know
+      throw error;
+    } finally {
+      if (!hasFailed) await this.cancel();
+    }
+  }
+}
+
+if (Symbol.asyncDispose) MultihashReader.prototype[Symbol.asyncDispose] = MultihashReader.prototype.cancel;
+
+/**
+ * A copy of the first from an index on, and the second. Throws a TypeError if that is no Uint8Array, or is detached.
+ */
+function joined(left, at, right, name) {
+  const rest = at === 0 ? left : left.subarray(at);
+  const both = new Uint8Array(rest.length + checkedLength(right, name));
+  both.set(rest);
+  both.set(right, rest.length);
+  return both;
+}

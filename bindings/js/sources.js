@@ -1,0 +1,44 @@
+// Sources of chunks of bytes.
+import { wrongType } from './arguments.js';
+
+/** The chunks of a ReadableStream, which in Safari is not an async iterable, or of an async iterable. */
+export function sourceOf(source, name, others = '') {
+  if (typeof source?.getReader === 'function') return chunksOfStream(source);
+  const iterator = source?.[Symbol.asyncIterator]?.();
+  if (typeof iterator?.next !== 'function')
+    throw wrongType(name, `${others}a ReadableStream or an async iterable`, source);
+  let hasBegun = false;
+  return {
+    next() {
+      hasBegun = true;
+      return iterator.next();
+    },
+    release() {},
+    // `return` waits for what `next` waits for, which a Node.js Readable ends; before the first `next` it ends nothing
+    close(_, isWaiting) {
+      if ((isWaiting || !hasBegun) && typeof source.destroy === 'function') source.destroy();
+      return iterator.return?.();
+    },
+  };
+}
+
+function chunksOfStream(stream) {
+  const reader = stream.getReader();
+  let isHeld = true;
+  return {
+    next: () => reader.read(),
+    release() {
+      isHeld = false;
+      reader.releaseLock();
+    },
+    // another reader may have locked the stream after the release
+    async close(reason) {
+      try {
+        if (isHeld) await reader.cancel(reason);
+        else if (!stream.locked) await stream.cancel(reason);
+      } finally {
+        this.release();
+      }
+    },
+  };
+}

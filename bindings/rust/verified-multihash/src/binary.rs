@@ -1,0 +1,171 @@
+//! The binary form: the varint of the code, the varint of the digest's length, and the digest.
+use crate::rattle::{std, *};
+
+use crate::multihash::whole;
+use crate::no_std_io::{self, Read, Write};
+use crate::{Error, Head, Multihash, varint};
+
+impl<const S: usize> Multihash<S> {
+    /// Reads the multihash whose encoding comes next. It consumes exactly that encoding and leaves what
+    /// follows in `r` unread. Within a varint it reads one byte at a time, and it checks the size
+    /// before it reads the digest.
+    ///
+    /// # Errors
+    ///
+    /// - [`Error::is_insufficient`] if the input ends within or before a varint; all of it was
+    ///   consumed.
+    /// - [`Error::is_overflow`] if a varint has more than nine bytes, as every number of 2^63 or more
+    ///   needs, and [`Error::is_not_minimal`] if a varint of more than one byte ends in a zero byte; the
+    ///   last byte consumed is the one that determines the error.
+    /// - [`Error::invalid_size`] with the digest's length if it exceeds `min(S, 255)`; both varints
+    ///   were consumed, and none of the digest.
+    /// - [`Error::io`] with an unexpected end of file if the input ends within the digest; both varints
+    ///   were consumed. How much of the digest was consumed depends on the reader's `read_exact`.
+    /// - [`Error::io`] with the reader's own error if it failed; what was consumed is by itself a
+    ///   truncated input.
+    #[inline(always)]
+    pub fn read<R: Read>(r: &mut R) -> Result<Self, Error> {
+        let code = varint::read(r)?;
+        Self::read_after(r, code)
+    }
+
+    /// Reads the multihash whose encoding comes next, as [`Multihash::read`] does, but returns `None`
+    /// instead of an error if the input ended before the encoding: for a reader without known input, if
+    /// its `read` returns 0.
+    ///
+    /// # Errors
+    ///
+    /// Those of [`Multihash::read`], except that for an input that ended before the encoding.
+    #[inline(always)]
+    pub fn read_next<R: Read>(r: &mut R) -> Result<Option<Self>, Error> {
+        match varint::read_next(r)? {
+            Some(code) => Ok(Some(Self::read_after(r, code)?)),
+            None => Ok(None),
+        }
+    }
+
+    // Reads the rest of an encoding whose code was read, as `read` does.
+    #[inline(always)]
+    fn read_after<R: Read>(r: &mut R, code: u64) -> Result<Self, Error> {
+        let size = Self::fitting_size(varint::read(r)?)?;
+        let mut digest = [0; S];
+        Self::read_digest(r, size, &mut digest)?;
+        Ok(Multihash {
+            code,
+            digest,
+            size: usize::from(size),
+        })
+    }
+
+    /// Reads the multihash whose encoding is the whole of `bytes`: the varint of the code, the varint
+    /// of the digest's length, and the digest.
+    ///
+    /// # Errors
+    ///
+    /// - [`Error::is_insufficient`] if the bytes end within or before a varint.
+    /// - [`Error::is_overflow`] if a varint has more than nine bytes, as every number of 2^63 or more
+    ///   needs.
+    /// - [`Error::is_not_minimal`] if a varint of more than one byte ends in a zero byte.
+    /// - [`Error::invalid_size`] with the digest's length if it exceeds `min(S, 255)`, and with the
+    ///   number of trailing bytes if some follow the digest.
+    /// - [`Error::io`] with an unexpected end of file if the bytes end within the digest.
+    pub fn from_bytes(bytes: &[u8]) -> Result<Self, Error> {
+        let head = Head::read_front(bytes)?;
+        if !Self::is_valid_size(head.digest_len) {
+            return Err(Error::from_size(head.digest_len));
+        }
+        let code = head.code;
+        let len = head.digest_len as usize;
+        let digest = &bytes[head.digest_offset..];
+        if digest.len() < len {
+            return Err(Error::from(no_std_io::Error::unexpected_eof()));
+        }
+        if digest.len() > len {
+            return Err(Error::from_size((digest.len() - len) as u64));
+        }
+        // The same paths are in `wrap`: a helper for both would copy the value once more, into its `Ok`. With
+        // a length known at compile time the digest is moved as a whole, without a call.
+        if let Some(whole) = whole::<32>(digest) {
+            return Ok(Self::in_buffer(code, 32, Self::padded(whole)));
+        }
+        if let Some(full) = whole::<S>(digest) {
+            return Ok(Self::in_buffer(code, S, *full));
+        }
+        let mut multihash = Multihash {
+            code,
+            digest: [0; S],
+            size: len,
+        };
+        multihash.fill(digest);
+        Ok(multihash)
+    }
+
+    /// Appends the encoding to `w`: the varint of the code, the varint of the digest's length, and the
+    /// digest, each by one call of `write_all`. Returns the number of bytes.
+    ///
+    /// # Errors
+    ///
+    /// [`Error::io`] with the writer's error: it is full, it failed, or, if it allocates, it is out of
+    /// memory. A strict prefix of the encoding has been appended then.
+    #[inline(always)]
+    pub fn write<W: Write>(&self, w: &mut W) -> Result<usize, Error> {
+        let digest = self.digest();
+        let code = varint::write_in_range(self.code(), w)?;
+        let size = varint::write_in_range(u64::from(self.size()), w)?;
+        write_digest(digest, w)?;
+        Ok(code + size + digest.len())
+    }
+
+    /// Returns the length of the encoding in bytes, at most 266.
+    pub fn encoded_len(&self) -> usize {
+        let code = varint::len_in_range(self.code());
+        let size = varint::len_in_range(u64::from(self.size()));
+        code + size + usize::from(self.size())
+    }
+
+    /// Returns the encoding, in a vector made by one allocation of exactly its length.
+    ///
+    /// # Errors
+    ///
+    /// [`Error::io`] if out of memory.
+    #[cfg(feature = "alloc")]
+    pub fn to_bytes(&self) -> Result<Vec<u8>, Error> {
+        use crate::rattle::fallible::Vec;
+        let mut bytes = Vec::with_capacity(self.encoded_len())?;
+        self.write(&mut bytes)?;
+        Ok(bytes)
+    }
+
+    // Reads a digest of that size into the front of the buffer.
+    #[inline(always)]
+    pub(crate) fn read_digest<R: Read>(
+        r: &mut R,
+        size: u8,
+        buffer: &mut [u8; S],
+    ) -> Result<(), no_std_io::Error> {
+        // A read whose size is known at compile time is no call.
+        if size == 32 {
+            return r.read_exact(&mut buffer[..32]);
+        }
+        r.read_exact(&mut buffer[..usize::from(size)])
+    }
+
+    // The size of a digest, if it fits the buffer.
+    #[inline(always)]
+    fn fitting_size(size: u64) -> Result<u8, Error> {
+        if Self::is_valid_size(size) {
+            Ok(size as u8)
+        } else {
+            Err(Error::from_size(size))
+        }
+    }
+}
+
+// Writes a digest. A write whose size is known at compile time needs no call for its copy.
+#[inline(always)]
+pub(crate) fn write_digest<W: Write>(digest: &[u8], w: &mut W) -> Result<(), no_std_io::Error> {
+    if let Some(array) = whole::<32>(digest) {
+        return w.write_all(array);
+    }
+    w.write_all(digest)
+}

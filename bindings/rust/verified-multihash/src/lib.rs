@@ -1,0 +1,36 @@
+#![cfg_attr(any(feature = "std", not(doctest)), doc = include_str!("../README.md"))]
+#![no_std]
+#![forbid(unsafe_code)]
+#![warn(missing_docs)]
+#![allow(dead_code, unused_imports, unstable_name_collisions, clippy::all)]
+
+#[cfg(feature = "alloc")]
+extern crate alloc;
+// Not by its own name, which is Rattle's `std` in `rattle`: to Rust below 1.72 a path could be either.
+#[cfg(feature = "std")]
+extern crate std as host;
+
+mod rattle;
+#[doc(hidden)]
+pub mod upstream;
+
+use crate::rattle::{std, *};
+mod binary;
+mod compare;
+mod error;
+mod head;
+pub mod list;
+mod multihash;
+pub mod no_std_io;
+mod scale;
+pub mod varint;
+
+pub use crate::error::Error;
+pub use crate::head::Head;
+pub use crate::multihash::Multihash;
+
+/// The result of this library's calls.
+pub type Result<T> = std::result::Result<T, Error>;
+
+/// [`Multihash`] under its former name.
+pub type MultihashGeneric<const CAPACITY: usize> = Multihash<CAPACITY>;

@@ -1,0 +1,222 @@
+//! The type and its parts.
+use crate::rattle::{std, *};
+
+use crate::{Error, varint};
+use std::fmt;
+
+/// A code below 2^63 and a digest of at most `min(S, 255)` bytes, in a buffer of the capacity `S`.
+#[derive(Clone, Copy)]
+pub struct Multihash<const S: usize> {
+    // First, so that in a `Result` no part of it straddles two words.
+    pub(crate) digest: [u8; S],
+    pub(crate) code: u64,
+    // A machine word, so that no padding after the digest is copied.
+    pub(crate) size: usize,
+}
+
+impl<const S: usize> Multihash<S> {
+    /// Returns the multihash of a code and a digest.
+    ///
+    /// # Errors
+    ///
+    /// - [`Error::invalid_size`] with the digest's length if it exceeds `min(S, 255)`.
+    /// - Otherwise [`Error::invalid_code`] with the code if it is 2^63 or more.
+    pub fn wrap(code: u64, input_digest: &[u8]) -> Result<Self, Error> {
+        let len = input_digest.len();
+        if !Self::is_valid_size(len as u64) {
+            return Err(Error::from_size(len as u64));
+        }
+        if code > varint::MAX {
+            return Err(Error::from_code(code));
+        }
+        // With a length known at compile time no array is filled on the stack and then moved.
+        if let Some(whole) = whole::<32>(input_digest) {
+            return Ok(Self::in_buffer(code, 32, Self::padded(whole)));
+        }
+        if let Some(whole) = whole::<S>(input_digest) {
+            return Ok(Self::in_buffer(code, S, *whole));
+        }
+        let mut digest = [0; S];
+        copy_to_front(input_digest, &mut digest[..]);
+        Ok(Self::in_buffer(code, len, digest))
+    }
+
+    /// Returns the code, which names the hash function: less than 2^63.
+    pub fn code(&self) -> u64 {
+        self.code
+    }
+
+    /// Returns the digest's length in bytes, at most `min(S, 255)`.
+    pub fn size(&self) -> u8 {
+        self.size as u8
+    }
+
+    /// Returns the digest.
+    pub fn digest(&self) -> &[u8] {
+        prefix(&self.digest, self.size)
+    }
+
+    /// Returns the same code with the first `size` bytes of the digest, or with all of it if it is
+    /// shorter.
+    ///
+    /// The caller must decide whether the shorter digest is still secure.
+    pub fn truncate(&self, size: u8) -> Self {
+        // Copied as one value: a literal of its fields would copy the digest by way of the stack.
+        let mut truncated = *self;
+        truncated.size = self.size.min(usize::from(size));
+        truncated
+    }
+
+    /// Returns the same code and digest in a buffer of the capacity `R`.
+    ///
+    /// # Errors
+    ///
+    /// [`Error::invalid_size`] with the digest's length if it exceeds `R`.
+    pub fn resize<const R: usize>(&self) -> Result<Multihash<R>, Error> {
+        if self.size > R {
+            return Err(Error::from_size(self.size as u64));
+        }
+        // With a length known at compile time no array is filled on the stack and then moved.
+        let digest = self.digest();
+        if let Some(whole) = whole::<32>(digest) {
+            return Ok(Multihash::of_whole(self.code, whole));
+        }
+        if let Some(whole) = whole::<S>(digest) {
+            return Ok(Multihash::of_whole(self.code, whole));
+        }
+        let mut resized = Multihash {
+            code: self.code,
+            digest: [0; R],
+            size: self.size,
+        };
+        copy_to_front(digest, &mut resized.digest[..]);
+        Ok(resized)
+    }
+
+    /// Returns the code, an array of `S` bytes that has the digest and then zeros, and the digest's
+    /// length in bytes.
+    pub fn into_inner(self) -> (u64, [u8; S], u8) {
+        (self.code, Self::array_of(self.digest()), self.size())
+    }
+
+    // Whether a digest of that many bytes fits the buffer.
+    #[inline(always)]
+    pub(crate) fn is_valid_size(size: u64) -> bool {
+        size <= S as u64 && size <= 255
+    }
+
+    // The multihash of a digest whose length is known at compile time.
+    #[inline(always)]
+    fn of_whole<const N: usize>(code: u64, digest: &[u8; N]) -> Self {
+        Multihash {
+            code,
+            digest: Self::padded(digest),
+            size: N,
+        }
+    }
+
+    // The multihash of a buffer whose first bytes are the digest.
+    #[inline(always)]
+    pub(crate) fn in_buffer(code: u64, size: usize, buffer: [u8; S]) -> Self {
+        Multihash {
+            code,
+            digest: buffer,
+            size,
+        }
+    }
+
+    // Writes a digest of the size that is already set over zeros.
+    #[inline(always)]
+    pub(crate) fn fill(&mut self, digest: &[u8]) {
+        self.digest[..digest.len()].copy_from_slice(digest);
+    }
+
+    // The digest followed by zeros. As in `wrap`, a length known at compile time is moved as a whole.
+    #[inline(always)]
+    fn array_of(digest: &[u8]) -> [u8; S] {
+        if let Some(whole) = whole::<32>(digest) {
+            return Self::padded(whole);
+        }
+        if let Some(whole) = whole::<S>(digest) {
+            return *whole;
+        }
+        let mut array = [0; S];
+        copy_to_front(digest, &mut array[..]);
+        array
+    }
+
+    // The bytes followed by zeros.
+    #[inline(always)]
+    pub(crate) fn padded<const N: usize>(bytes: &[u8; N]) -> [u8; S] {
+        let mut array = [0; S];
+        array[..N].copy_from_slice(bytes);
+        array
+    }
+}
+
+/// Prints the code, the size and the digest, and no byte after the digest.
+impl<const S: usize> fmt::Debug for Multihash<S> {
+    fn fmt(&self, f: &mut fmt::Formatter) -> fmt::Result {
+        f.debug_struct("Multihash")
+            .field("code", &self.code())
+            .field("size", &self.size())
+            .field("digest", &self.digest())
+            .finish()
+    }
+}
+
+/// The code 0 and the empty digest.
+impl<const S: usize> Default for Multihash<S> {
+    fn default() -> Self {
+        Multihash {
+            code: 0,
+            size: 0,
+            digest: [0; S],
+        }
+    }
+}
+
+// The first `len` bytes. A slice that is passed in is known to hold bytes.
+#[inline(always)]
+fn prefix(bytes: &[u8], len: usize) -> &[u8] {
+    &bytes[..len]
+}
+
+// The bytes as an array, if their number is `N`.
+#[inline(always)]
+pub(crate) fn whole<const N: usize>(bytes: &[u8]) -> Option<&[u8; N]> {
+    if bytes.len() == N {
+        bytes.first_chunk::<N>()
+    } else {
+        None
+    }
+}
+
+// Copies the digest to the front of the buffer. 16 to 64 bytes are copied as words, without a call.
+#[inline(always)]
+fn copy_to_front(digest: &[u8], buffer: &mut [u8]) {
+    let len = digest.len();
+    if len > 64 || len < 16 {
+        if len > 0 {
+            buffer[..len].copy_from_slice(digest);
+        }
+    } else if len > 32 {
+        copy_ends::<32>(digest, buffer);
+    } else {
+        copy_ends::<16>(digest, buffer);
+    }
+}
+
+// Copies the first `N` bytes and the last `N`, which may overlap and together are all.
+#[inline(always)]
+fn copy_ends<const N: usize>(digest: &[u8], buffer: &mut [u8]) {
+    copy_word::<N>(digest, 0, buffer);
+    copy_word::<N>(digest, digest.len() - N, buffer);
+}
+
+// Copies the `N` bytes from that index on to the same index.
+#[inline(always)]
+fn copy_word<const N: usize>(digest: &[u8], at: usize, buffer: &mut [u8]) {
+    let end = at + N;
+    buffer[at..end].copy_from_slice(&digest[at..end]);
+}

@@ -1,0 +1,151 @@
+//! What the sources use of Rattle's `std` and is not in Rust's `core`, written by hand: errors of vectors whose
+//! allocations may fail, vectors of bytes, the digits of a number, and what newer Rust has.
+#[cfg(feature = "alloc")]
+use crate::no_std_io::{Error, Write};
+#[cfg(feature = "alloc")]
+pub use alloc::vec::Vec;
+
+pub mod std {
+    pub use core::*;
+    #[cfg(feature = "std")] // `core` has it from Rust 1.81 on
+    pub use ::host::error;
+    pub mod alloc {
+        pub use crate::rattle::{AllocError, AllocFailed};
+    }
+    pub mod simd {
+        pub use crate::rattle::simd as prelude;
+    }
+}
+
+/// Out of memory.
+pub struct AllocError;
+
+/// Out of memory: the value that was not stored.
+pub struct AllocFailed<T>(pub T);
+
+/// What functions that return vectors call to make them: it may fail.
+#[cfg(feature = "alloc")]
+pub mod fallible {
+    pub struct Vec;
+
+    impl Vec {
+        /// Returns an empty vector with capacity for exactly that many values.
+        #[inline]
+        pub fn with_capacity<T>(capacity: usize) -> Result<alloc::vec::Vec<T>, super::AllocError> {
+            let mut vec = alloc::vec::Vec::new();
+            vec.try_reserve_exact(capacity).map_err(|_| super::AllocError)?;
+            Ok(vec)
+        }
+    }
+}
+
+/// What a vector has in Rattle.
+#[cfg(feature = "alloc")]
+pub trait Reserved<T> {
+    /// Appends a value, for which the vector has capacity.
+    fn push_reserved(&mut self, value: T);
+}
+
+#[cfg(feature = "alloc")]
+impl<T> Reserved<T> for Vec<T> {
+    #[inline]
+    fn push_reserved(&mut self, value: T) {
+        assert!(self.len() < self.capacity());
+        self.push(value);
+    }
+}
+
+/// Appends to the vector. If out of memory, the vector is unchanged.
+#[cfg(feature = "alloc")]
+impl Write for Vec<u8> {
+    const ALLOCATES: bool = true;
+
+    fn write(&mut self, buf: &[u8]) -> Result<usize, Error> {
+        self.write_all(buf).map(|()| buf.len())
+    }
+
+    fn write_all(&mut self, buf: &[u8]) -> Result<(), Error> {
+        self.try_reserve(buf.len()).map_err(|_| Error::out_of_memory())?;
+        self.extend_from_slice(buf);
+        Ok(())
+    }
+}
+
+// Vectors of bytes are arrays: the compiler compares these with the machine's vectors.
+#[allow(non_camel_case_types)]
+pub mod simd {
+    pub type u8x16<'a> = Vector<'a, 16>;
+    pub type u8x32<'a> = Vector<'a, 32>;
+
+    pub struct Vector<'a, const N: usize>(&'a [u8; N]);
+
+    impl<'a, const N: usize> Vector<'a, N> {
+        #[inline(always)]
+        pub fn from_slice(bytes: &'a [u8]) -> Self {
+            Self(super::Arrays::first_chunk(bytes).unwrap())
+        }
+
+        #[inline(always)]
+        pub fn simd_eq(self, other: Self) -> bool {
+            self.0 == other.0
+        }
+    }
+
+    /// Whether all bytes of vectors that were compared are equal.
+    pub trait Mask {
+        fn all(self) -> bool;
+    }
+
+    impl Mask for bool {
+        #[inline(always)]
+        fn all(self) -> bool {
+            self
+        }
+    }
+}
+
+/// What slices have in newer Rust: `first_chunk` from 1.77 on, `as_array` from 1.93 on.
+pub trait Arrays {
+    fn as_array<const N: usize>(&self) -> Option<&[u8; N]>;
+    fn first_chunk<const N: usize>(&self) -> Option<&[u8; N]>;
+    fn first_chunk_mut<const N: usize>(&mut self) -> Option<&mut [u8; N]>;
+}
+
+impl Arrays for [u8] {
+    #[inline(always)]
+    fn as_array<const N: usize>(&self) -> Option<&[u8; N]> {
+        self.try_into().ok()
+    }
+
+    #[inline(always)]
+    fn first_chunk<const N: usize>(&self) -> Option<&[u8; N]> {
+        self.get(..N)?.try_into().ok()
+    }
+
+    #[inline(always)]
+    fn first_chunk_mut<const N: usize>(&mut self) -> Option<&mut [u8; N]> {
+        self.get_mut(..N)?.try_into().ok()
+    }
+}
+
+pub mod itoa {
+    pub struct Buffer([u8; 20]);
+
+    impl Buffer {
+        pub fn new() -> Self {
+            Self([0; 20])
+        }
+
+        pub fn format(&mut self, mut number: u64) -> &str {
+            let mut at = self.0.len();
+            loop {
+                at -= 1;
+                self.0[at] = b'0' + (number % 10) as u8;
+                number /= 10;
+                if number == 0 {
+                    return core::str::from_utf8(&self.0[at..]).unwrap();
+                }
+            }
+        }
+    }
+}

@@ -1,0 +1,123 @@
+//! The varint at the front of a slice, from one word of its first bytes.
+use crate::rattle::{std, *};
+
+use super::{LAST_BYTE_LIMIT, MAX_CONTINUATION, MAX_LEN};
+use crate::Error;
+
+// The bytes of a word.
+const WORD_LEN: usize = 16;
+
+// The high bit of each byte of half a word.
+const HIGH_BITS: u64 = 0x8080_8080_8080_8080;
+
+// The low seven bits of the first byte of each two.
+const FIRST_OF_TWO: u64 = 0x007f_007f_007f_007f;
+
+// The low fourteen bits of the first two bytes of each four.
+const FIRST_OF_FOUR: u64 = 0x3fff_0000_3fff;
+
+// The number and the length of the varint at the front of the bytes, or nothing if it is malformed;
+// `read_counted` then returns why.
+#[inline(always)]
+pub(crate) fn read_front(bytes: &[u8]) -> Option<(u64, usize)> {
+    // Most varints have one byte, which needs no word.
+    if bytes.len() >= 1 && bytes[0] < 128 {
+        return Some((u64::from(bytes[0]), 1));
+    }
+    let (number, len) = front_by_word(bytes);
+    if len == 0 { None } else { Some((number, len)) }
+}
+
+// Reads the varint at the front as `read_front` does. An error comes with the number of bytes up to and
+// including the one that determines it: all, if they are insufficient.
+#[cold]
+#[inline(never)]
+pub(crate) fn read_counted(bytes: &[u8]) -> Result<(u64, usize), (Error, usize)> {
+    // Mostly a code, before a malformed size.
+    if bytes.len() >= 1 && bytes[0] < 128 {
+        return Ok((u64::from(bytes[0]), 1));
+    }
+    let front = &bytes[..bytes.len().min(WORD_LEN)];
+    read_word(padded_word(front), front.len())
+}
+
+// The number and the length of the varint at the front of the bytes. The length is 0 if it is malformed.
+#[inline(never)]
+fn front_by_word(bytes: &[u8]) -> (u64, usize) {
+    match bytes.first_chunk::<WORD_LEN>() {
+        Some(front) => front_in_word(u128::from_le_bytes(*front), WORD_LEN),
+        None => front_by_short_word(bytes),
+    }
+}
+
+// Does what `front_by_word` does, if fewer bytes remain than a word has.
+#[inline(never)]
+fn front_by_short_word(bytes: &[u8]) -> (u64, usize) {
+    front_in_word(padded_word(bytes), bytes.len())
+}
+
+// The word of at most sixteen bytes, lowest first, with zeros for those that are missing.
+#[inline(always)]
+fn padded_word(bytes: &[u8]) -> u128 {
+    let mut front = [0; WORD_LEN];
+    front[..bytes.len()].copy_from_slice(bytes);
+    u128::from_le_bytes(front)
+}
+
+// Does what `front_by_word` does, of bytes whose first are in the word.
+#[inline(always)]
+fn front_in_word(word: u128, present: usize) -> (u64, usize) {
+    match read_word(word, present) {
+        Ok(found) => found,
+        Err(_) => (0, 0),
+    }
+}
+
+// Does what `read_counted` does, of bytes whose first are in the word.
+#[inline(always)]
+fn read_word(word: u128, present: usize) -> Result<(u64, usize), (Error, usize)> {
+    let low = (word & 0xffff_ffff_ffff_ffff) as u64;
+    // The highest bit of each byte that is no continuation byte.
+    let stops = !low & HIGH_BITS;
+    if stops == 0 {
+        return read_high(word, present);
+    }
+    // The bits below the first of them: above it `stops - 1` has only bits that `low` lacks.
+    let varint = low & stops.wrapping_sub(1);
+    let continuation_bytes = (stops.trailing_zeros() / 8) as usize;
+    if continuation_bytes >= present {
+        return Err((Error::insufficient(), present));
+    }
+    // At most 56 bits are shifted out.
+    if varint >> (8 * continuation_bytes) == 0 && continuation_bytes > 0 {
+        // With the last byte they are at most eight.
+        return Err((Error::not_minimal(), continuation_bytes + 1));
+    }
+    // With the last byte they are at most eight.
+    Ok((join_digits(varint), continuation_bytes + 1))
+}
+
+// Does what `read_word` does, if all bytes of the low half are continuation bytes.
+#[inline(always)]
+fn read_high(word: u128, present: usize) -> Result<(u64, usize), (Error, usize)> {
+    let low = (word & 0xffff_ffff_ffff_ffff) as u64;
+    let last = (word >> 64) as u64 & 0xff;
+    if last >= LAST_BYTE_LIMIT as u64 {
+        return Err((Error::overflow(), MAX_LEN));
+    }
+    if present <= MAX_CONTINUATION {
+        return Err((Error::insufficient(), present));
+    }
+    if last == 0 {
+        return Err((Error::not_minimal(), MAX_LEN));
+    }
+    Ok((join_digits(low) | last << (7 * MAX_CONTINUATION), MAX_LEN))
+}
+
+// The number of the low seven bits of each byte of a half: first of each two bytes, then of each four.
+#[inline(always)]
+fn join_digits(half: u64) -> u64 {
+    let twos = (half & FIRST_OF_TWO) + (((half >> 8) & FIRST_OF_TWO) << 7);
+    let fours = (twos & FIRST_OF_FOUR) + (((twos >> 16) & FIRST_OF_FOUR) << 14);
+    (fours & 0xffff_ffff) + ((fours >> 32) << 28)
+}

@@ -1,0 +1,99 @@
+//! Allocations that fail, and calls that make none.
+#![cfg(feature = "alloc")]
+use std::alloc::{GlobalAlloc, Layout, System};
+use std::cell::Cell;
+use verified_multihash::no_std_io::SliceWriter;
+use verified_multihash::{list, Error, Multihash};
+
+thread_local! {
+    /// How many allocations the thread can still make.
+    static LEFT: Cell<usize> = const { Cell::new(usize::MAX) };
+}
+
+struct Limited;
+
+fn take() -> bool {
+    let left = LEFT.with(Cell::get);
+    LEFT.with(|cell| cell.set(left.saturating_sub(1)));
+    left > 0
+}
+
+// SAFETY: each call is one of the system's allocator, or fails.
+unsafe impl GlobalAlloc for Limited {
+    unsafe fn alloc(&self, layout: Layout) -> *mut u8 {
+        if take() { System.alloc(layout) } else { std::ptr::null_mut() }
+    }
+
+    unsafe fn realloc(&self, bytes: *mut u8, layout: Layout, length: usize) -> *mut u8 {
+        if take() { System.realloc(bytes, layout, length) } else { std::ptr::null_mut() }
+    }
+
+    unsafe fn dealloc(&self, bytes: *mut u8, layout: Layout) {
+        System.dealloc(bytes, layout);
+    }
+}
+
+#[global_allocator]
+static LIMITED: Limited = Limited;
+
+/// Makes a call that can make that many allocations.
+fn with<T>(allocations: usize, call: impl FnOnce() -> T) -> T {
+    LEFT.with(|cell| cell.set(allocations));
+    let result = call();
+    LEFT.with(|cell| cell.set(usize::MAX));
+    result
+}
+
+fn is_out_of_memory<T>(result: Result<T, Error>) -> bool {
+    result.err().map_or(false, |error| error.io().map_or(false, |error| error.is_out_of_memory()))
+}
+
+const ENCODING: &[u8] = b"\x12\x03abc";
+
+fn value() -> Multihash<64> {
+    Multihash::from_bytes(ENCODING).expect("a multihash")
+}
+
+#[test]
+fn to_bytes() {
+    assert!(is_out_of_memory(with(0, || value().to_bytes())));
+    let bytes = with(1, || value().to_bytes()).expect("one allocation");
+    assert_eq!((&bytes[..], bytes.capacity()), (ENCODING, 5));
+}
+
+/// Capacity for exactly the list is allocated, once, before anything is read.
+#[test]
+fn read_list() {
+    let bytes = ENCODING.repeat(1001);
+    for count in [1, 3, 1001] {
+        let mut rest = &bytes[..];
+        assert!(is_out_of_memory(with(0, || list::read_list::<64, _>(&mut rest, count))));
+        assert_eq!(rest.len(), bytes.len());
+        let read = with(1, || list::read_list::<64, _>(&mut rest, count)).expect("one allocation");
+        assert_eq!((read.len(), read.capacity()), (count, count));
+    }
+    assert!(is_out_of_memory(list::read_list::<64, _>(&mut &bytes[..], usize::MAX)));
+    assert!(with(0, || list::read_list::<64, _>(&mut &bytes[..], 0)).is_ok());
+}
+
+/// A prefix of the encoding stays where an allocation fails, and the vector is not changed by the call that failed.
+#[test]
+fn write() {
+    let mut full = Vec::new();
+    full.reserve_exact(2);
+    assert!(is_out_of_memory(with(0, || value().write(&mut full))));
+    assert_eq!(full, ENCODING[..2]);
+    assert!(is_out_of_memory(with(0, || value().scale_encode(&mut full))));
+    assert_eq!(full, ENCODING[..2]);
+}
+
+#[test]
+fn no_allocation() {
+    let mut out = [0; 16];
+    with(0, || {
+        assert_eq!(value().write(&mut SliceWriter::new(&mut out)).ok(), Some(5));
+        assert_eq!(Multihash::<3>::read(&mut &out[..]).ok(), Some(value().resize().expect("it fits")));
+        assert!(Multihash::<2>::from_bytes(ENCODING).is_err());
+        assert!(value().write(&mut &mut out[..4]).is_err());
+    });
+}

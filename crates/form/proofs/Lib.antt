@@ -1,0 +1,6 @@
+pub mod BothLemmas
+pub mod CountedLemmas
+pub mod FormLemmas
+mod FormVectors
+pub mod OneOfLemmas
+pub mod WholeLemmas

@@ -1,0 +1,33 @@
+-- Two parts, one after the other.
+use Rattle.std.proofs.Common.{◌≡◌, ◌<◌, ℕ, List, ◌++◌, length, length-append, arith, refl, sym, ap, ◌∙◌, append_assoc}
+use Rattle.form.specs.Form.{Then}
+
+-- both have encodings
+pub then_exists : {P Q : List ℕ → Type 0} → (a : List ℕ) × P a → (b : List ℕ) × Q b → (bytes : List ℕ) × Then P Q bytes
+then_exists (a, is_a) (b, is_b) =
+    (a ++ b, record { first = a; second = b; is_first = is_a; is_second = is_b; parts = refl })
+
+-- two forms at the front of one input, if the parts tell S and T
+pub then_unique : {P Q P' Q' : List ℕ → Type 0} (S T : Type 0)
+    → ((a b r s : List ℕ) → P a → P' b → a ++ r ≡ b ++ s → S × (r ≡ s))
+    → (S → (a b r s : List ℕ) → Q a → Q' b → a ++ r ≡ b ++ s → T × (r ≡ s))
+    → (a b r s : List ℕ) → Then P Q a → Then P' Q' b → a ++ r ≡ b ++ s → (S × T) × (r ≡ s)
+then_unique S T one two a b r s x y cut =
+    let joined : x.first ++ (x.second ++ r) ≡ y.first ++ (y.second ++ s) =
+    sym (append_assoc x.first x.second r) ∙ ap (λ (l : List ℕ). l ++ r) (sym x.parts) ∙ cut
+    ∙ ap (λ (l : List ℕ). l ++ s) y.parts ∙ append_assoc y.first y.second s in
+    let told = one x.first y.first (x.second ++ r) (y.second ++ s) x.is_first y.is_first joined in
+    let rest = two told.0 x.second y.second r s x.is_second y.is_second told.1 in
+    ((told.0, rest.0), rest.1)
+
+-- one encoding each, if the parts have
+pub then_one : {P Q P' Q' : List ℕ → Type 0} (a b : List ℕ) → ((c d : List ℕ) → P c → P' d → c ≡ d)
+    → ((c d : List ℕ) → Q c → Q' d → c ≡ d) → Then P Q a → Then P' Q' b → a ≡ b
+then_one a b one two x y =
+    cc (x.parts, y.parts, one x.first y.first x.is_first y.is_first, two x.second y.second x.is_second y.is_second)
+
+-- the encoding is not empty if the first part's is not
+pub then_some : {P Q : List ℕ → Type 0} → ((a : List ℕ) → P a → 0 < length a) → (bytes : List ℕ) → Then P Q bytes
+    → 0 < length bytes
+then_some some bytes x =
+    omega (arith, some x.first x.is_first, ap length x.parts, length-append x.first x.second)

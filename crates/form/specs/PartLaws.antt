@@ -1,0 +1,170 @@
+-- The laws of each form: an encoding exists, is unique, is the only one of its value, and is not empty.
+use Rattle.std.proofs.Common.{◌≡◌, ℕ, ◌<◌, List, [], ◌∷◌, ◌++◌, length, refl, sym, ap, ◌∙◌, append_assoc, subst, arith}
+use Rattle.multihash.specs.Streams.{AreParts}
+use Rattle.form.specs.Form.{Then, AreSame}
+use Rattle.form.specs.FormLaws.{then_exists, then_unique, then_one, then_some}
+use Rattle.multihash.specs.Varint.{IsVarint, varint_limit}
+use Rattle.multihash.proofs.VarintLemmas.{varint_unique, varint_same, varint_some}
+use Rattle.multihash.proofs.VarintWriteLemmas.{varint_exists}
+use Rattle.frame.specs.Frame.{IsFramed}
+use Rattle.frame.proofs.FrameLemmas.{framed_unique, framed_same, framed_some, make_framed}
+use Rattle.multihash.specs.Multihash.{Fields, pair_of}
+use Rattle.multihash.specs.Pair.{Pair}
+use Rattle.multihash.specs.Encoding.{IsEncoding, encoding_of}
+use Rattle.multihash.proofs.EncodingLemmas.{same_cut, encoding_of_value, encoding_unique, encoding_same}
+use Rattle.multihash.proofs.StreamLemmas.{encoding_some}
+
+-- a multihash has an encoding
+pub multihash_exists : {S : ℕ} (m : Fields S) → (bytes : List ℕ) × IsEncoding (pair_of m) bytes
+multihash_exists m = (encoding_of (pair_of m), encoding_of_value m)
+
+-- two at the start of one input are the same
+pub multihash_unique : {S : ℕ} (m n : Fields S) (a b r s : List ℕ) → IsEncoding (pair_of m) a → IsEncoding (pair_of n) b
+    → a ++ r ≡ b ++ s → (pair_of m ≡ pair_of n) × (r ≡ s)
+multihash_unique m n a b r s x y cut =
+    let t = encoding_unique (pair_of m) (pair_of n) a b r s x y cut in (t.0, t.2)
+
+-- and the same have one encoding
+pub multihash_one : {S : ℕ} (m n : Fields S) (a b : List ℕ) → pair_of m ≡ pair_of n → IsEncoding (pair_of m) a
+    → IsEncoding (pair_of n) b → a ≡ b
+multihash_one m n a b same x y =
+    encoding_same (pair_of m) a b x (subst (λ (p : Pair). IsEncoding p b) (sym same) y)
+
+-- and it is not empty
+pub multihash_some : {S : ℕ} (m : Fields S) (bytes : List ℕ) → IsEncoding (pair_of m) bytes → 0 < length bytes
+multihash_some m = encoding_some (pair_of m)
+
+-- a number in range has a varint
+pub number_exists : (n : ℕ) → n < varint_limit → (bytes : List ℕ) × IsVarint n bytes
+number_exists = varint_exists
+
+-- two at the start of one input are equal
+pub number_unique : (m n : ℕ) (a b r s : List ℕ) → IsVarint m a → IsVarint n b → a ++ r ≡ b ++ s → (m ≡ n) × (r ≡ s)
+number_unique m n a b r s x y cut = let t = varint_unique m n a b r s x y cut in (t.0, t.2)
+
+-- and a number has one varint
+pub number_one : (m n : ℕ) (a b : List ℕ) → m ≡ n → IsVarint m a → IsVarint n b → a ≡ b
+number_one m n a b same x y = varint_same m a b x (subst (λ k. IsVarint k b) (sym same) y)
+
+-- and it is not empty
+pub number_some : (n : ℕ) (bytes : List ℕ) → IsVarint n bytes → 0 < length bytes
+number_some = varint_some
+
+-- a tag has only one value
+pub tag_unique : (n : ℕ) (a b r s : List ℕ) → IsVarint n a → IsVarint n b → a ++ r ≡ b ++ s → Unit {0} × (r ≡ s)
+tag_unique n a b r s x y cut = (tt, (number_unique n n a b r s x y cut).1)
+
+-- and a tag has one varint
+pub tag_one : (n : ℕ) (a b : List ℕ) → Unit {0} → IsVarint n a → IsVarint n b → a ≡ b
+tag_one n a b same = varint_same n a b
+
+-- a block has a frame
+pub block_exists : (block : List ℕ) (n : ℕ) → n ≡ length block → n < varint_limit → (bytes : List ℕ) × IsFramed block bytes
+block_exists block n long below =
+    let (len, is_len) = varint_exists (length block) (omega (arith, long, below)) in
+    (len ++ block, make_framed _ block len refl is_len)
+
+-- two at the start of one input are equal
+pub block_unique : (m n a b r s : List ℕ) → IsFramed m a → IsFramed n b → a ++ r ≡ b ++ s → (m ≡ n) × (r ≡ s)
+block_unique m n a b r s x y cut = let t = framed_unique m n a b r s x y cut in (t.0, t.2)
+
+-- and a block has one frame
+pub block_one : (m n a b : List ℕ) → m ≡ n → IsFramed m a → IsFramed n b → a ≡ b
+block_one m n a b same x y = framed_same m a b x (subst (λ (k : List ℕ). IsFramed k b) (sym same) y)
+
+-- and it is not empty
+pub block_some : (block bytes : List ℕ) → IsFramed block bytes → 0 < length bytes
+block_some = framed_some
+
+-- an array has an encoding
+pub array_exists : (x : List ℕ) → (bytes : List ℕ) × (bytes ≡ x)
+array_exists x = (x, refl)
+
+-- two at the start of one input are equal
+pub array_unique : (n : ℕ) (x y : List ℕ) → length x ≡ n → length y ≡ n → (a b r s : List ℕ) → a ≡ x → b ≡ y
+    → a ++ r ≡ b ++ s → (x ≡ y) × (r ≡ s)
+array_unique n x y long also a b r s is is_b cut =
+    let t = same_cut a b r s (ap length is ∙ long ∙ sym also ∙ sym (ap length is_b)) cut in
+    (sym is ∙ t.0 ∙ is_b, t.1)
+
+-- and an array has one encoding
+pub array_one : (x y a b : List ℕ) → x ≡ y → a ≡ x → b ≡ y → a ≡ b
+array_one x y a b same is is_b = is ∙ same ∙ sym is_b
+
+-- and it is not empty
+pub array_some : (n : ℕ) (x : List ℕ) → length x ≡ n → 0 < n → (bytes : List ℕ) → bytes ≡ x → 0 < length bytes
+array_some n x long some bytes is = omega (arith, long, some, ap length is)
+
+-- items have encodings, one after another
+pub items_exist : {A : Type 0} (IsPart : A → List ℕ → Type 0) → ((x : A) → (bytes : List ℕ) × IsPart x bytes)
+    → (xs : List A) → (bytes : List ℕ) × AreParts IsPart xs bytes
+items_exist IsPart exists [] = ([], refl)
+items_exist IsPart exists (x ∷ xs) =
+    let (a, is_a) = exists x in
+    let (b, are) = items_exist IsPart exists xs in
+    (a ++ b, (a, b, is_a, are, refl))
+
+-- equally many items at the start of one input are the same
+items_unique : {A : Type 0} (IsPart : A → List ℕ → Type 0) (Same : A → A → Type 0)
+    → ((x y : A) (a b r s : List ℕ) → IsPart x a → IsPart y b → a ++ r ≡ b ++ s → Same x y × (r ≡ s))
+    → (xs ys : List A) → length xs ≡ length ys → (a b r s : List ℕ) → AreParts IsPart xs a → AreParts IsPart ys b
+    → a ++ r ≡ b ++ s → AreSame Same xs ys × (r ≡ s)
+items_unique IsPart Same unique [] [] long a b r s x y cut =
+    (tt, sym (ap (λ (l : List ℕ). l ++ r) x) ∙ cut ∙ ap (λ (l : List ℕ). l ++ s) y)
+items_unique IsPart Same unique [] (y ∷ ys) long a b r s g h cut = absurd (omega (arith, long))
+items_unique IsPart Same unique (x ∷ xs) [] long a b r s g h cut = absurd (omega (arith, long))
+items_unique IsPart Same unique (x ∷ xs) (y ∷ ys) long a b r s (a1, a2, is_a, as_, cut_a) (b1, b2, is_b, bs, cut_b) cut =
+    let joined : a1 ++ (a2 ++ r) ≡ b1 ++ (b2 ++ s) =
+    sym (append_assoc a1 a2 r) ∙ ap (λ (l : List ℕ). l ++ r) (sym cut_a) ∙ cut
+    ∙ ap (λ (l : List ℕ). l ++ s) cut_b ∙ append_assoc b1 b2 s in
+    let told = unique x y a1 b1 (a2 ++ r) (b2 ++ s) is_a is_b joined in
+    let rest = items_unique IsPart Same unique xs ys (omega (arith, long)) a2 b2 r s as_ bs told.1 in
+    ((told.0, rest.0), rest.1)
+
+-- the same items have one encoding
+items_one : {A : Type 0} (IsPart : A → List ℕ → Type 0) (Same : A → A → Type 0)
+    → ((x y : A) (a b : List ℕ) → Same x y → IsPart x a → IsPart y b → a ≡ b)
+    → (xs ys : List A) (a b : List ℕ) → AreSame Same xs ys → AreParts IsPart xs a → AreParts IsPart ys b → a ≡ b
+items_one IsPart Same one [] [] a b same x y = x ∙ sym y
+items_one IsPart Same one [] (y ∷ ys) a b same g h = absurd same
+items_one IsPart Same one (x ∷ xs) [] a b same g h = absurd same
+items_one IsPart Same one (x ∷ xs) (y ∷ ys) a b same (a1, a2, is_a, as_, cut_a) (b1, b2, is_b, bs, cut_b) =
+    cc (cut_a, cut_b, one x y a1 b1 same.0 is_a is_b, items_one IsPart Same one xs ys a2 b2 same.1 as_ bs)
+
+-- the same items are equally many
+same_length : {A : Type 0} (Same : A → A → Type 0) (xs ys : List A) → AreSame Same xs ys → length xs ≡ length ys
+same_length Same [] [] same = refl
+same_length Same [] (y ∷ ys) same = absurd same
+same_length Same (x ∷ xs) [] same = absurd same
+same_length Same (x ∷ xs) (y ∷ ys) same = omega (arith, same_length Same xs ys same.1)
+
+-- counted items have an encoding
+pub counted_exists : {A : Type 0} (IsPart : A → List ℕ → Type 0) → ((x : A) → (bytes : List ℕ) × IsPart x bytes)
+    → (xs : List A) (n : ℕ) → n ≡ length xs → n < varint_limit
+    → (bytes : List ℕ) × Then (IsVarint (length xs)) (AreParts IsPart xs) bytes
+counted_exists IsPart exists xs n long below =
+    then_exists (varint_exists (length xs) (omega (arith, long, below))) (items_exist IsPart exists xs)
+
+-- two at the start of one input are the same
+pub counted_unique : {A : Type 0} (IsPart : A → List ℕ → Type 0) (Same : A → A → Type 0)
+    → ((x y : A) (a b r s : List ℕ) → IsPart x a → IsPart y b → a ++ r ≡ b ++ s → Same x y × (r ≡ s))
+    → (xs ys : List A) (a b r s : List ℕ) → Then (IsVarint (length xs)) (AreParts IsPart xs) a
+    → Then (IsVarint (length ys)) (AreParts IsPart ys) b → a ++ r ≡ b ++ s → AreSame Same xs ys × (r ≡ s)
+counted_unique IsPart Same unique xs ys a b r s x y cut =
+    let told = then_unique (length xs ≡ length ys) (AreSame Same xs ys) (number_unique (length xs) (length ys))
+    (items_unique IsPart Same unique xs ys) a b r s x y cut in
+    (told.0.1, told.1)
+
+-- the same items have one encoding
+pub counted_one : {A : Type 0} (IsPart : A → List ℕ → Type 0) (Same : A → A → Type 0)
+    → ((x y : A) (a b : List ℕ) → Same x y → IsPart x a → IsPart y b → a ≡ b)
+    → (xs ys : List A) (a b : List ℕ) → AreSame Same xs ys → Then (IsVarint (length xs)) (AreParts IsPart xs) a
+    → Then (IsVarint (length ys)) (AreParts IsPart ys) b → a ≡ b
+counted_one IsPart Same one xs ys a b same x y =
+    then_one a b (λ c d. number_one (length xs) (length ys) c d (same_length Same xs ys same))
+    (λ c d. items_one IsPart Same one xs ys c d same) x y
+
+-- and it is not empty
+pub counted_some : {A : Type 0} (IsPart : A → List ℕ → Type 0) (xs : List A) (bytes : List ℕ)
+    → Then (IsVarint (length xs)) (AreParts IsPart xs) bytes → 0 < length bytes
+counted_some IsPart xs = then_some (varint_some (length xs))

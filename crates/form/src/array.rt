@@ -1,0 +1,51 @@
+//! Bytes whose number the type has.
+ghost use Rattle.std.specs.Prelude.{◌≡◌, ◌<◌, length};
+
+use crate::{Form, FormError};
+use multihash::no_std_io::{self, Read, Write};
+use std::alloc::Global;
+
+/// `N` bytes, with no length before them. `N` is at least 1, since no encoding is empty.
+///
+/// `read` returns an unexpected end if fewer bytes remain.
+#[derive(Clone, Copy, Debug)]
+pub struct Bytes<const N: usize> {
+    /// The bytes.
+    pub bytes: [u8; N],
+    pub ghost size: { length bytes ≡ N },
+    pub ghost some: { 0 < N },
+}
+
+impl<const N: usize> Form for Bytes<N> {
+    ghost use Rattle.multihash.specs.Refusal.{IsEof};
+    ghost use Rattle.form.specs.FormError.{IsFailed};
+    ghost use Rattle.form.specs.PartLaws.{array_exists, array_unique, array_one, array_some};
+
+    ghost is_form = { λ x bytes. bytes ≡ x.bytes };
+
+    ghost same = { λ x y. x.bytes ≡ y.bytes };
+
+    ghost rejects_with = { IsFailed IsEof };
+
+    fn write<W: Write>(&self, w: &mut W) -> Result<(), FormError> {
+        w.write_all(&self.bytes)?;
+        Ok(())
+    }
+
+    fn read<R: Read>(_alloc: Global, r: &mut R) -> Result<Self, FormError> {
+        if N == 0 {
+            return Err(no_std_io::Error::unexpected_eof().into());
+        }
+        let mut bytes = [0; N];
+        r.read_exact(&mut bytes)?;
+        Ok(Bytes { bytes })
+    }
+
+    ghost exists = { λ x. array_exists x.bytes };
+
+    ghost unique = { λ x y. array_unique N x.bytes y.bytes x.size y.size };
+
+    ghost one = { λ x y. array_one x.bytes y.bytes };
+
+    ghost some = { λ x. array_some N x.bytes x.size x.some };
+}

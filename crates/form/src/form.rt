@@ -1,0 +1,67 @@
+//! Values with one encoding.
+ghost use Rattle.std.specs.Prelude.{◌≡◌, ◌++◌, ◌<◌, ℕ, List, length, OnOk, OnErr, IfOk, IfErr};
+ghost use Rattle.multihash.specs.Consuming.{ConsumesSome};
+ghost use Rattle.multihash.specs.Reading.{CountsReaderFailures};
+ghost use Rattle.multihash.specs.Writing.{CountsWriterFailures};
+ghost use Rattle.multihash.specs.Refusal.{IsIo, IsOutOfMemory, IsReaderError};
+ghost use Rattle.form.specs.Form.{AppendsSome, AppendsPrefixOfSome, FailsAt};
+ghost use Rattle.form.specs.FormError.{IsFailed, IsTruncated};
+ghost use Rattle.form.specs.declared.error.FormError.{FormError as ReadError};
+
+use crate::FormError;
+use multihash::no_std_io::{Read, Write};
+use std::alloc::Global;
+
+/// A value with one encoding, which is not empty and no prefix of another one.
+///
+/// The ghost members are what contracts state of a form, and the laws at the end are what each implementation
+/// proves. [`read`](crate::read), [`from_bytes`](crate::from_bytes) and the functions of [`laws`](crate::laws) have
+/// more contracts, which follow from these.
+pub trait Form {
+    // The bytes are the encoding of the value.
+    ghost is_form: { Self → List ℕ → Type 0 };
+
+    // The two values are the same, as far as their encodings show.
+    ghost same: { Self → Self → Type 0 };
+
+    // The errors of `read` if the reader does not fail.
+    ghost rejects_with: { ReadError → Type 0 };
+
+    /// Appends the encoding to `w`.
+    ///
+    /// # Errors
+    ///
+    /// The writer's error. A strict prefix of the encoding has been appended then.
+    fn write<W: Write>(&self, w: &mut W) -> Result<(), FormError>
+        ensures ok { OnOk result (AppendsSome W.appended (is_form self.now) w.old w.new) }
+        ensures err { OnErr result (AppendsPrefixOfSome W.appended (is_form self.now) w.old w.new) }
+        ensures faults { CountsWriterFailures (λ P. IsFailed (IsIo P)) W.allocates
+            (W.failures w.old) (W.failures w.new) (W.full w.new) result };
+
+    /// Reads the value whose encoding comes next, and leaves what follows it in `r` unread.
+    ///
+    /// # Errors
+    ///
+    /// The reader's own error, or one of those in the description of the type. If the encoding of a value comes next,
+    /// out of memory is the only one; if the input ends within the encoding, the error is
+    /// [`FormError::is_incomplete`] or out of memory.
+    fn read<R: Read>(alloc: Global, r: &mut R) -> Result<Self, FormError>
+        ensures ok { IfOk result (λ x. ConsumesSome (is_form x) (R.rest r.old) (R.rest r.new)) }
+        ensures faults { CountsReaderFailures (IsFailed IsReaderError) rejects_with
+            (R.failures r.old) (R.failures r.new) result }
+        ensures err { IfErr result (λ e. (x : Self) → FailsAt (is_form x) (R.failures r.new ≡ R.failures r.old)
+            (IsFailed IsOutOfMemory e) (IsFailed IsTruncated e) (R.rest r.old)) };
+
+    // Each value has an encoding.
+    ghost exists: { (x : Self) → (bytes : List ℕ) × is_form x bytes };
+
+    // Two encodings at the start of one input are of the same value, and so is what follows them.
+    ghost unique: { (x y : Self) (a b r s : List ℕ) → is_form x a → is_form y b → a ++ r ≡ b ++ s →
+        same x y × (r ≡ s) };
+
+    // A value has only one encoding.
+    ghost one: { (x y : Self) (a b : List ℕ) → same x y → is_form x a → is_form y b → a ≡ b };
+
+    // No encoding is empty.
+    ghost some: { (x : Self) (bytes : List ℕ) → is_form x bytes → 0 < length bytes };
+}

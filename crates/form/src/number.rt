@@ -1,0 +1,49 @@
+//! A number and a tag, each as a varint.
+ghost use Rattle.std.specs.Prelude.{◌≡◌, ◌<◌};
+ghost use Rattle.multihash.specs.Varint.{varint_limit};
+
+use crate::{Form, FormError};
+use multihash::no_std_io::{Read, Write};
+use multihash::varint;
+use std::alloc::Global;
+
+/// A number below 2^63. Its encoding is its varint.
+///
+/// `read` returns the errors of [`varint::read`].
+#[derive(Clone, Copy, Debug)]
+pub struct Number {
+    /// The number.
+    pub value: u64,
+    pub ghost in_range: { value < varint_limit },
+}
+
+impl Form for Number {
+    ghost use Rattle.multihash.specs.Varint.{IsVarint};
+    ghost use Rattle.multihash.specs.Refusal.{IsAnyVarintError};
+    ghost use Rattle.form.specs.FormError.{IsFailed};
+    ghost use Rattle.form.specs.PartLaws.{number_exists, number_unique, number_one, number_some};
+
+    ghost is_form = { λ x. IsVarint x.value };
+
+    ghost same = { λ x y. x.value ≡ y.value };
+
+    ghost rejects_with = { IsFailed IsAnyVarintError };
+
+    fn write<W: Write>(&self, w: &mut W) -> Result<(), FormError> {
+        varint::write(self.value, w)?;
+        Ok(())
+    }
+
+    fn read<R: Read>(_alloc: Global, r: &mut R) -> Result<Self, FormError> {
+        let value = varint::read(r)?;
+        Ok(Number { value })
+    }
+
+    ghost exists = { λ x. number_exists x.value x.in_range };
+
+    ghost unique = { λ x y. number_unique x.value y.value };
+
+    ghost one = { λ x y. number_one x.value y.value };
+
+    ghost some = { λ x. number_some x.value };
+}

@@ -1,0 +1,54 @@
+//! A fixed number, as a varint.
+ghost use Rattle.std.specs.Prelude.{◌≡◌, ◌≢◌, ◌<◌, ◌⊎◌, ℕ};
+ghost use Rattle.multihash.specs.Varint.{varint_limit};
+
+use crate::{Form, FormError};
+use multihash::no_std_io::{Read, Write};
+use multihash::varint;
+use std::alloc::Global;
+
+/// The number `N`, which is below 2^63, such as a version or the code of a format. Its encoding is its varint.
+///
+/// `read` returns the errors of [`varint::read`], and [`FormError::OtherTag`] with the number that comes next if that is
+/// not `N`.
+#[derive(Clone, Copy, Debug)]
+pub struct Tag<const N: u64> {
+    pub ghost in_range: { N < varint_limit },
+}
+
+impl<const N: u64> Form for Tag<N> {
+    ghost use Rattle.multihash.specs.Varint.{IsVarint};
+    ghost use Rattle.multihash.specs.Refusal.{IsAnyVarintError};
+    ghost use Rattle.form.specs.FormError.{IsFailed};
+    ghost use Rattle.form.specs.declared.error.FormError.TheVariants.{OtherTag};
+    ghost use Rattle.form.specs.PartLaws.{number_exists, tag_unique, tag_one, number_some};
+
+    ghost is_form = { λ _. IsVarint N };
+
+    ghost same = { λ _ _. Unit {0} };
+
+    ghost rejects_with = { λ e. IsFailed IsAnyVarintError e
+        ⊎ ((n : ℕ) × (e ≡ OtherTag n) × (n ≢ N)) };
+
+    fn write<W: Write>(&self, w: &mut W) -> Result<(), FormError> {
+        let _in_range = *self;
+        varint::write(N, w)?;
+        Ok(())
+    }
+
+    fn read<R: Read>(_alloc: Global, r: &mut R) -> Result<Self, FormError> {
+        let number = varint::read(r)?;
+        if number != N {
+            return Err(FormError::OtherTag(number));
+        }
+        Ok(Tag {})
+    }
+
+    ghost exists = { λ x. number_exists N x.in_range };
+
+    ghost unique = { λ _ _. tag_unique N };
+
+    ghost one = { λ _ _. tag_one N };
+
+    ghost some = { λ _. number_some N };
+}
