@@ -82,14 +82,12 @@ class Expressions:
     def expression(self, node: Node, wanted: Type | None = None) -> Value:
         """Translates an expression. One that is a number, a tuple, or a part of an Option or a Result needs a type."""
         self.depth += 1
-        value: Value = getattr(self, f"of_{node.kind}", self.of_other)(node, wanted)
+        translate = getattr(self, f"of_{node.kind}", None) or self.it.refuse(node, "no known expression")
+        value: Value = translate(node, wanted)
         self.depth -= 1
         if wanted and value.type != wanted and (wanted, value.type) != (Type("slice", (U8,)), Type("slice_mut", (U8,))):
-            self.it.refuse(node, f"a {value.type} in place of a {wanted}")
+            self.it.refuse(node, f"a {value.type.name} in place of a {wanted.name}")
         return value
-
-    def of_other(self, node: Node, wanted: Type | None) -> Value:
-        self.it.refuse(node, "no known expression")
 
     def inner(self, value: Value, mark: str = "") -> str:
         """Returns an operand, in parentheses if it is an operation that needs them."""
@@ -109,12 +107,6 @@ class Expressions:
         if not wanted or (wanted.name not in NUMBERS and wanted.name != "i32"):
             self.it.refuse(node, "a number of no known type")
         return Value(wanted, text if int(text, 0) < 1 << 31 else ONES["u64"].format(text))
-
-    def typed(self, node: Node, wanted: Type | None) -> Value:
-        """Returns a value whose type C knows, also if it is a number."""
-        value = self.expression(node, wanted)
-        is_bare = node.kind == "number" and value.code.isalnum()
-        return value._replace(code=ONES[value.type.name].format(value.code)) if is_bare else value
 
     def of_text(self, node: Node, wanted: Type | None) -> Value:
         return Value(Type("slice", (U8,)), f"(const uint8_t *){node.name[1:]}", "cast", str(len(node.name) - 3))
@@ -164,7 +156,9 @@ class Expressions:
         if mark in COMPARE:
             wanted = None
         if mark in ("<<", ">>"):
-            left, right = self.typed(x, wanted), self.expression(y, U32 if y.kind == "number" else None)
+            left, right = self.expression(x, wanted), self.expression(y, U32 if y.kind == "number" else None)
+            if x.kind == "number":  # without a type in C
+                left = left._replace(code=ONES[left.type.name].format(x.name))
         elif x.kind == "number":
             right = self.expression(y, wanted)
             left = self.expression(x, right.type)
@@ -172,7 +166,7 @@ class Expressions:
             left = self.expression(x, wanted)
             right = self.expression(y, left.type)
         if not {left.type.name, right.type.name} <= ({"bool"} if mark in ("&&", "||") else {*NUMBERS}):
-            self.it.refuse(node, f"no known operation of {left.type}")
+            self.it.refuse(node, f"no known operation of {left.type.name}")
         if left.type == USIZE and mark in ("+", "*", "<<") and not is_constant(node):
             self.need_bound(node)
         code = f"{self.inner(left, mark)} {mark} {self.inner(right, '*' if mark == '-' else mark)}"
@@ -194,7 +188,7 @@ class Expressions:
 
     def converted(self, node: Node, value: Value, kind: Type) -> Value:
         if value.type.name not in NUMBERS or kind.name not in NUMBERS:
-            self.it.refuse(node, f"no known conversion of a {value.type} to a {kind}")
+            self.it.refuse(node, f"no known conversion of a {value.type.name} to a {kind.name}")
         return Value(kind, f"({self.program.c_type(kind)}){self.inner(value)}", "cast") if kind != value.type else value
 
     def of_tuple(self, node: Node, wanted: Type | None) -> Value:
@@ -292,7 +286,7 @@ class Expressions:
     def helper(self, node: Node, value: Value, method: str) -> str:
         """Returns the name of a method of Rust's library in the prelude."""
         name = f"mh_{value.type.name}_{method}"
-        return name if f" {name}(" in PRELUDE else self.it.refuse(node, f"no known method of a {value.type}")
+        return name if f" {name}(" in PRELUDE else self.it.refuse(node, f"no known method of a {value.type.name}")
 
     def of_method(self, node: Node, wanted: Type | None) -> Value:
         receiver, generic, *kids = node.kids

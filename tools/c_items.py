@@ -55,9 +55,10 @@ class Item(NamedTuple):
         found = re.search(r"(?:^ *(?://(?!!)|#\[)[^\n]*\n)*\Z", self.item.text[: self.item.start].rstrip(" "), re.M)
         lines = [line for line in found[0].splitlines() if "//" in line] if found else []
         if self.item.kind == "fn":
-            start, end = self.item.signature_end(), self.item.contract_end()
-            for clause in re.findall(r"\brequires(?: \w+)? \{(.*?)\}(?=\s*\n|$)", self.item.text[start:end], re.S):
-                lines += wrap(f"// Proved: {ascii_of(' '.join(clause.split()))}.", 104, subsequent_indent="//   ")
+            contract = self.item.text[self.item.signature_end() : self.item.contract_end()]
+            clauses = re.findall(r"\brequires(?: \w+)? \{(.*?)\}(?=\s*\n|$)", contract, re.S)
+            required = ascii_of("; ".join(" ".join(clause.split()) for clause in clauses))
+            lines += wrap(f"// Proved: {required}.", 104, subsequent_indent="//   ") if required else []
         return ["", *comment(lines)]
 
 

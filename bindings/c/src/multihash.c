@@ -473,9 +473,7 @@ MH_INLINE uint64_t mh_word_at(const uint8_t *bytes, size_t at)
 }
 
 /* Whether the eight bytes from that index on are equal too, if those before it are.
- * Proved: at + 8 <= length a.
- * Proved: at + 8 <= length b.
- * Proved: take at a == take at b. */
+ * Proved: at + 8 <= length a; at + 8 <= length b; take at a == take at b. */
 MH_INLINE bool mh_same_word(const uint8_t *a, const uint8_t *b, size_t at)
 {
     return mh_word_at(a, at) == mh_word_at(b, at);
@@ -491,10 +489,8 @@ MH_NOT_INLINE int32_t mh_sign_of_words(uint64_t a, uint64_t b)
 }
 
 /* How bytes compare that are equal before an index, and differ in the word there.
- * Proved: at + 8 <= length a.
- * Proved: at + 8 <= length b.
- * Proved: take at a == take at b.
- * Proved: take (at + 8) a != take (at + 8) b. */
+ * Proved: at + 8 <= length a; at + 8 <= length b; take at a == take at b; take (at + 8) a != take (at +
+ *   8) b. */
 MH_INLINE int32_t mh_sign_at(const uint8_t *a, const uint8_t *b, size_t at)
 {
     return mh_sign_of_words(mh_word_at(a, at), mh_word_at(b, at));
@@ -502,10 +498,7 @@ MH_INLINE int32_t mh_sign_at(const uint8_t *a, const uint8_t *b, size_t at)
 
 /* How bytes compare that are equal before an index, with 8 to 16 from there on: by the word there and by
  * the last one, which may overlap.
- * Proved: at + 8 <= length a.
- * Proved: length a <= at + 16.
- * Proved: length a == length b.
- * Proved: take at a == take at b. */
+ * Proved: at + 8 <= length a; length a <= at + 16; length a == length b; take at a == take at b. */
 MH_INLINE int32_t mh_compare_last(const uint8_t *a, size_t a_length, const uint8_t *b, size_t at)
 {
     if (!mh_same_word(a, b, at)) return mh_sign_at(a, b, at);
@@ -515,9 +508,7 @@ MH_INLINE int32_t mh_compare_last(const uint8_t *a, size_t a_length, const uint8
 }
 
 /* How 16 to 32 bytes compare, by four words; the last two may overlap those before.
- * Proved: 16 <= length a.
- * Proved: length a <= 32.
- * Proved: length a == length b. */
+ * Proved: 16 <= length a; length a <= 32; length a == length b. */
 MH_INLINE int32_t mh_compare_usual(const uint8_t *a, size_t a_length, const uint8_t *b)
 {
     if (!mh_same_word(a, b, 0)) return mh_sign_at(a, b, 0);
@@ -526,8 +517,7 @@ MH_INLINE int32_t mh_compare_usual(const uint8_t *a, size_t a_length, const uint
 }
 
 /* How 16 bytes or more compare, by pairs of words; the last pair may overlap the one before.
- * Proved: 16 <= length a.
- * Proved: length a == length b. */
+ * Proved: 16 <= length a; length a == length b. */
 MH_INLINE int32_t mh_compare_many(const uint8_t *a, size_t a_length, const uint8_t *b)
 {
     const size_t last = a_length - 16;
@@ -781,8 +771,7 @@ static inline multihash_encoded mh_count(size_t length, size_t buffer)
 
 /* Writes the encoding of a code of one byte and a digest of the usual length. Each part has a constant
  * place, so nothing is tested but whether all of it fits.
- * Proved: code < 128.
- * Proved: length digest == 32. */
+ * Proved: code < 128; length digest == 32. */
 MH_INLINE multihash_encoded mh_encode_usual(uint64_t code, const uint8_t *digest, size_t digest_length,
     uint8_t *out, size_t out_length)
 {
@@ -818,8 +807,7 @@ MH_INLINE size_t mh_sized_len(size_t digest_length)
 }
 
 /* Does what `mh_put_varint` does, byte by byte.
- * Proved: n < varint_limit.
- * Proved: (bytes : List number) -> IsVarint n bytes -> length bytes <= length buffer. */
+ * Proved: n < varint_limit; (bytes : List number) -> IsVarint n bytes -> length bytes <= length buffer. */
 MH_INLINE size_t mh_put_digits(uint64_t n, uint8_t *buffer)
 {
     size_t at = 0;
@@ -836,8 +824,7 @@ MH_INLINE size_t mh_put_digits(uint64_t n, uint8_t *buffer)
 }
 
 /* Writes the varint of a number to the front of a buffer that is large enough, and returns its length.
- * Proved: n < varint_limit.
- * Proved: (bytes : List number) -> IsVarint n bytes -> length bytes <= length buffer. */
+ * Proved: n < varint_limit; (bytes : List number) -> IsVarint n bytes -> length bytes <= length buffer. */
 MH_INLINE size_t mh_put_varint(uint64_t n, uint8_t *buffer)
 {
     if (n < 128) {
@@ -861,9 +848,8 @@ MH_INLINE size_t mh_put_varint(uint64_t n, uint8_t *buffer)
 }
 
 /* Writes the varint of a digest's length and the digest to the front of a buffer that is large enough.
- * Proved: length digest <= 255.
- * Proved: (size : List number) -> IsVarint (length digest) size -> length size + length digest <=
- *   length buffer. */
+ * Proved: length digest <= 255; (size : List number) -> IsVarint (length digest) size -> length size +
+ *   length digest <= length buffer. */
 MH_INLINE void mh_put_sized(const uint8_t *digest, size_t digest_length, uint8_t *buffer)
 {
     /* As a byte, so that the compiler sees that the varint has two bytes at most. */
@@ -872,10 +858,8 @@ MH_INLINE void mh_put_sized(const uint8_t *digest, size_t digest_length, uint8_t
 }
 
 /* Writes the encoding of a code and a digest to the front of a buffer that is large enough.
- * Proved: code < varint_limit.
- * Proved: length digest <= 255.
- * Proved: (bytes : List number) and IsEncoding (record { code = code; digest = digest }) bytes and
- *   (length bytes <= length buffer). */
+ * Proved: code < varint_limit; length digest <= 255; (bytes : List number) and IsEncoding (record {
+ *   code = code; digest = digest }) bytes and (length bytes <= length buffer). */
 static inline void mh_put_encoding(uint64_t code, const uint8_t *digest, size_t digest_length,
     uint8_t *buffer)
 {
@@ -915,9 +899,7 @@ multihash_encoded multihash_encode(uint64_t code, const uint8_t *digest, size_t 
 }
 
 /* Writes the SCALE form of a code and a digest to the front of a buffer that is large enough.
- * Proved: code < varint_limit.
- * Proved: length digest <= 255.
- * Proved: 9 + length digest <= length buffer. */
+ * Proved: code < varint_limit; length digest <= 255; 9 + length digest <= length buffer. */
 MH_INLINE void mh_put_scale_form(uint64_t code, const uint8_t *digest, size_t digest_length, uint8_t *buffer)
 {
     mh_u64_to_le_bytes(buffer, code);
@@ -955,8 +937,7 @@ multihash_encoded multihash_scale_encode(uint64_t code, const uint8_t *digest, s
 }
 
 /* The result for a code whose varint has that many bytes and a digest of that many.
- * Proved: code_length <= 9.
- * Proved: digest_length <= 255. */
+ * Proved: code_length <= 9; digest_length <= 255. */
 MH_INLINE multihash_encoded mh_count_parts(size_t code_length, size_t digest_length)
 {
     /* This is at most 273: nine bytes of each varint, and 255. */
