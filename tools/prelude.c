@@ -1,4 +1,5 @@
-/* What tools/c_source.py writes before the functions: what they need of Rust's library, by its names. */
+/* The library for C, in one file beside multihash.h. What is `Proved:` before a function or a statement is proved of
+ * each call: so no test of it is left. First comes what the functions need of Rust's library, by its names. */
 #include "multihash.h"
 
 #include <stdbool.h>
@@ -9,44 +10,44 @@ void *memcpy(void *, const void *, size_t);
 #endif
 
 #if defined(__GNUC__)
-#define ALWAYS_INLINE static inline __attribute__((always_inline))
-#define NOT_INLINE static __attribute__((noinline))
-#define COLD static __attribute__((noinline, cold))
+#define MH_INLINE static inline __attribute__((always_inline))
+#define MH_NOT_INLINE static __attribute__((noinline))
+#define MH_COLD static __attribute__((noinline, cold))
 #else
-#define ALWAYS_INLINE static inline
-#define NOT_INLINE static
-#define COLD static
+#define MH_INLINE static inline
+#define MH_NOT_INLINE static
+#define MH_COLD static
 #endif
 
 /* So C makes no `int` of operands of these types. */
 _Static_assert(sizeof(int) <= sizeof(uint32_t) && sizeof(int) <= sizeof(size_t), "int is wider");
 
-typedef enum Ordering { ORDERING_LESS = -1, ORDERING_EQUAL, ORDERING_GREATER } Ordering;
+typedef enum mh_ordering { MH_LESS = -1, MH_EQUAL, MH_GREATER } mh_ordering;
 
-typedef struct u128 {
+typedef struct mh_u128 {
     uint64_t low;
     uint64_t high;
-} u128;
+} mh_u128;
 
 /* Copies bytes. With the length 0 a pointer may be null, as memcpy's may not. */
-static inline void copy(uint8_t *to, const uint8_t *from, size_t length)
+static inline void mh_copy(uint8_t *to, const uint8_t *from, size_t length)
 {
     if (length > 0) memcpy(to, from, length);
 }
 
 /* Eight bytes as a number, lowest first, on every machine: compilers know that and make one load of it. */
-static inline uint64_t u64_from_le_bytes(const uint8_t *bytes)
+static inline uint64_t mh_u64_from_le_bytes(const uint8_t *bytes)
 {
     return (uint64_t)bytes[0] | (uint64_t)bytes[1] << 8 | (uint64_t)bytes[2] << 16 | (uint64_t)bytes[3] << 24 |
            (uint64_t)bytes[4] << 32 | (uint64_t)bytes[5] << 40 | (uint64_t)bytes[6] << 48 | (uint64_t)bytes[7] << 56;
 }
 
-static inline u128 u128_from_le_bytes(const uint8_t *bytes)
+static inline mh_u128 mh_u128_from_le_bytes(const uint8_t *bytes)
 {
-    return (u128){u64_from_le_bytes(bytes), u64_from_le_bytes(bytes + 8)};
+    return (mh_u128){mh_u64_from_le_bytes(bytes), mh_u64_from_le_bytes(bytes + 8)};
 }
 
-static inline void u64_to_le_bytes(uint8_t *to, uint64_t n)
+static inline void mh_u64_to_le_bytes(uint8_t *to, uint64_t n)
 {
     to[0] = (uint8_t)n;
     to[1] = (uint8_t)(n >> 8);
@@ -58,14 +59,14 @@ static inline void u64_to_le_bytes(uint8_t *to, uint64_t n)
     to[7] = (uint8_t)(n >> 56);
 }
 
-static inline uint64_t u64_swap_bytes(uint64_t n)
+static inline uint64_t mh_u64_swap_bytes(uint64_t n)
 {
     n = (n & 0x00ff00ff00ff00ff) << 8 | (n >> 8 & 0x00ff00ff00ff00ff);
     n = (n & 0x0000ffff0000ffff) << 16 | (n >> 16 & 0x0000ffff0000ffff);
     return n << 32 | n >> 32;
 }
 
-static inline uint32_t u64_leading_zeros(uint64_t n)
+static inline uint32_t mh_u64_leading_zeros(uint64_t n)
 {
 #if defined(__GNUC__)
     return n == 0 ? 64 : (uint32_t)__builtin_clzll(n);
@@ -76,7 +77,7 @@ static inline uint32_t u64_leading_zeros(uint64_t n)
 #endif
 }
 
-static inline uint32_t u64_trailing_zeros(uint64_t n)
+static inline uint32_t mh_u64_trailing_zeros(uint64_t n)
 {
 #if defined(__GNUC__)
     return n == 0 ? 64 : (uint32_t)__builtin_ctzll(n);
@@ -88,30 +89,30 @@ static inline uint32_t u64_trailing_zeros(uint64_t n)
 }
 
 /* An unsigned number wraps. */
-static inline uint64_t u64_wrapping_sub(uint64_t a, uint64_t b)
+static inline uint64_t mh_u64_wrapping_sub(uint64_t a, uint64_t b)
 {
     return a - b;
 }
 
-static inline size_t usize_min(size_t a, size_t b)
+static inline size_t mh_usize_min(size_t a, size_t b)
 {
     return b < a ? b : a;
 }
 
-static inline Ordering u64_cmp(uint64_t a, uint64_t b)
+static inline mh_ordering mh_u64_cmp(uint64_t a, uint64_t b)
 {
-    return a < b ? ORDERING_LESS : a > b ? ORDERING_GREATER : ORDERING_EQUAL;
+    return a < b ? MH_LESS : a > b ? MH_GREATER : MH_EQUAL;
 }
 
-static inline Ordering usize_cmp(size_t a, size_t b)
+static inline mh_ordering mh_usize_cmp(size_t a, size_t b)
 {
-    return a < b ? ORDERING_LESS : a > b ? ORDERING_GREATER : ORDERING_EQUAL;
+    return a < b ? MH_LESS : a > b ? MH_GREATER : MH_EQUAL;
 }
 
-static inline Ordering slice_cmp(const uint8_t *a, size_t a_length, const uint8_t *b, size_t b_length)
+static inline mh_ordering mh_slice_cmp(const uint8_t *a, size_t a_length, const uint8_t *b, size_t b_length)
 {
     for (size_t i = 0; i < a_length && i < b_length; i++) {
-        if (a[i] != b[i]) return a[i] < b[i] ? ORDERING_LESS : ORDERING_GREATER;
+        if (a[i] != b[i]) return a[i] < b[i] ? MH_LESS : MH_GREATER;
     }
-    return usize_cmp(a_length, b_length);
+    return mh_usize_cmp(a_length, b_length);
 }

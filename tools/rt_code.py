@@ -2,7 +2,7 @@
 needs. Anything else is an error that names its line."""
 
 import re
-from collections.abc import Callable
+from collections.abc import Callable, Iterable
 from dataclasses import dataclass, field
 from pathlib import Path
 from typing import NamedTuple, NoReturn
@@ -22,8 +22,8 @@ class Refused(Exception):
 
 @dataclass
 class Node:
-    """A part of a function: its kind, a name or a mark, its parts, and the comments before it. What may be left out of
-    it is a part of the kind `none` then."""
+    """A part of a function: its kind, a name or a mark, its parts, and the comments before it. A part that is left out
+    has the kind `none`."""
 
     kind: str
     name: str
@@ -39,14 +39,15 @@ class Token(NamedTuple):
 
 
 class Parser:
-    def __init__(self, path: Path, text: str, start: int, end: int) -> None:
+    """Reads ranges of a text, as one."""
+
+    def __init__(self, path: Path, text: str, ranges: Iterable[tuple[int, int]]) -> None:
         self.path, self.at = path, 0
         self.tokens: list[Token] = []
-        line = text.count("\n", 0, start) + 1
-        for found in TOKEN.finditer(text, start, end):
-            if found.lastgroup:
-                self.tokens.append(Token(found.lastgroup, found[0], line))
-            line += found[0].count("\n")
+        for start, end in ranges:
+            for found in TOKEN.finditer(text, start, end):
+                line = text.count("\n", 0, found.start()) + 1
+                self.tokens += [Token(found.lastgroup, found[0], line)] if found.lastgroup else []
         self.tokens.append(Token("end", "", line))
 
     @property
@@ -105,11 +106,9 @@ class Parser:
         if self.accept("&"):
             return self.node("type", "&mut" if self.accept("mut") else "&", self.type())
         if self.accept("["):
-            found = self.node("type", "slice", self.type())
-            if self.accept(";"):
-                found = self.node("type", "array", *found.kids, self.expression())
+            kids = [self.type(), *([self.expression()] if self.accept(";") else [])]
             self.need("]")
-            return found
+            return self.node("type", "array" if len(kids) == 2 else "slice", *kids)
         if self.accept("("):
             return self.node("type", "tuple", *self.listed(self.type, ")"))
         name = self.path_name()
@@ -187,11 +186,8 @@ class Parser:
                     value = self.node("field", name, value)
             elif self.accept("["):
                 low = self.node("none") if self.token.text == ".." else self.expression()
-                if self.accept(".."):
-                    high = self.node("none") if self.token.text == "]" else self.expression()
-                    value = self.node("slice", "", value, low, high)
-                else:
-                    value = self.node("index", "", value, low)
+                high = [self.node("none") if self.token.text == "]" else self.expression()] if self.accept("..") else []
+                value = self.node("slice" if high else "index", "", value, low, *high)
                 self.need("]")
             elif self.accept("?"):
                 value = self.node("try", "", value)
@@ -214,9 +210,9 @@ class Parser:
             return found[0] if len(found) == 1 else self.node("tuple", "", *found)
         if self.accept("["):
             first = self.expression()
-            if not self.accept(";"):
+            value = self.node("repeat", "", first, self.after(";", self.expression))
+            if value.kids[1].kind == "none":
                 return self.node("array", "", first, *(self.listed(self.expression, "]") if self.accept(",") else ()))
-            value = self.node("repeat", "", first, self.expression())
             self.need("]")
             return value
         if self.accept("if"):
@@ -257,18 +253,17 @@ class Parser:
         self.need(":")
         return self.node("parameter", name, self.type())
 
-    def function(self) -> Node:
-        """Reads a function: its parameters, then its result as a type, and its body."""
-        name = self.take("word")
+    def function(self) -> list[Node]:
+        """Reads the parameters of a function, its result as a type, and its body."""
+        self.take("word")
         self.need("(")
         parameters = self.listed(self.parameter, ")")
-        result = self.type() if self.accept("->") else self.node("type", "unit")
-        return self.node("fn", name, *parameters, result, self.block())
+        return [*parameters, self.type() if self.accept("->") else self.node("type", "unit"), self.block()]
 
-    def constant(self) -> Node:
-        """Reads a constant: its type and its value."""
-        name = self.take("word")
+    def constant(self) -> list[Node]:
+        """Reads the type and the value of a constant."""
+        self.take("word")
         self.need(":")
         kind = self.type()
         self.need("=")
-        return self.node("const", name, kind, self.expression())
+        return [kind, self.expression()]

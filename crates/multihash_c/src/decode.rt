@@ -154,6 +154,7 @@ pub extern "C" fn multihash_scale_decode(bytes: &[u8]) -> Decoded
         return rejected_end(CODE_LEN);
     }
     let size = usize::from(rest[0]);
+    // This is at most 264.
     let taken = SCALE_HEAD + size;
     if bytes.len() < taken {
         return rejected_end(SCALE_HEAD);
@@ -185,6 +186,7 @@ fn decode_whole(front: &[u8], whole_length: usize) -> Decoded
     if head.digest_len > DIGEST_MAX as u64 {
         return rejected_size(head.digest_len, whole_length);
     }
+    // This is at most 255.
     let size = head.digest_len as usize;
     let left = whole_length - head.digest_offset;
     if left < size {
@@ -209,10 +211,12 @@ fn read_within(bytes: &[u8], limit: usize) -> Decoded
     if head.digest_len > limit as u64 || head.digest_len > DIGEST_MAX as u64 {
         return rejected_size(head.digest_len, head.digest_offset);
     }
+    // This is at most 255.
     let size = head.digest_len as usize;
     if bytes.len() - head.digest_offset < size {
         return rejected_end(head.digest_offset);
     }
+    // The digest is in `bytes`, so the sum is at most their number.
     accept(head.code, size, head.digest_offset + size)
 }
 

@@ -32,11 +32,10 @@ pub struct Encoded {
 pub extern "C" fn multihash_encode(code: u64, digest: &[u8], out: &mut [u8]) -> Encoded
     ensures { WritesForm IsEncoding (record { code = code; digest = digest.now }) result out.old out.new }
 {
-    if digest.len() == USUAL_DIGEST {
-        if code < 128 {
-            return encode_usual(code, digest, out);
-        }
-    } else if digest.len() > DIGEST_MAX {
+    if digest.len() == USUAL_DIGEST && code < 128 {
+        return encode_usual(code, digest, out);
+    }
+    if digest.len() > DIGEST_MAX {
         return rejected_size(digest.len() as u64);
     }
     encode_any(code, digest, out)
@@ -116,6 +115,7 @@ fn encode_any(code: u64, digest: &[u8], out: &mut [u8]) -> Encoded
     let Ok(code_length) = varint::len(code) else {
         return rejected_code();
     };
+    // This is at most 273: nine bytes of each varint, and 255.
     let encoding_length = code_length + sized_len(digest.len());
     if encoding_length <= out.len() {
         put_encoding(code, digest, out);
@@ -142,6 +142,7 @@ fn scale_encode(code: u64, digest: &[u8], out: &mut [u8]) -> Encoded
     if code > varint::MAX {
         return rejected_code();
     }
+    // This is at most 264.
     let form_length = SCALE_HEAD + digest.len();
     if form_length <= out.len() {
         put_scale_form(code, digest, out);
@@ -157,6 +158,7 @@ fn count_parts(code_length: usize, digest_length: usize) -> Encoded
     ensures { (code : ℕ) (bytes : List ℕ) → IsVarint code bytes → code_length ≡ length bytes →
         ReportsLength code digest_length result }
 {
+    // This is at most 273: nine bytes of each varint, and 255.
     let length = code_length + sized_len(digest_length);
     count(length, length)
 }
@@ -171,6 +173,7 @@ fn sized_len(digest_length: usize) -> usize
     let Ok(size_length) = varint::len(digest_length as u64) else {
         unreachable!()
     };
+    // This is at most 264.
     size_length + digest_length
 }
 
@@ -300,10 +303,12 @@ fn put_digits(n: u64, buffer: &mut [u8]) -> usize
     let mut rest = n;
     while rest >= 128 {
         buffer[at] = (rest & 0x7f) as u8 | 0x80;
+        // This is at most eight.
         at += 1;
         rest >>= 7;
     }
     buffer[at] = rest as u8;
+    // This is at most nine.
     at + 1
 }
 

@@ -38,8 +38,7 @@ impl Head {
         }
     }
 
-    /// Finds the two varints at the front of `bytes` as [`Head::read_front`] does, but returns no error:
-    /// `None` if one of them is malformed.
+    /// Finds the two varints at the front of `bytes`. Returns nothing if one of them is malformed.
     #[inline(always)]
     pub fn find_front(bytes: &[u8]) -> Option<Self> {
         // Mostly each varint has one byte.
@@ -52,6 +51,7 @@ impl Head {
         }
         let (code, code_len) = word::read_front(bytes)?;
         let (digest_len, size_len) = word::read_front(&bytes[code_len..])?;
+        // The sum is at most the number of bytes.
         Some(Head {
             code,
             digest_len,
@@ -59,19 +59,21 @@ impl Head {
         })
     }
 
-    /// Reads the two varints at the front of `bytes` as [`Head::read_front`] does. An error comes with the
-    /// number of bytes that `read` consumes then: all of an insufficient input, otherwise those up to and
-    /// including the byte that determines the error.
+    /// Reads the two varints at the front of `bytes`. An error comes with the number of bytes that reading
+    /// consumes: all of an insufficient input, otherwise those up to and including the byte that determines
+    /// the error.
     #[cold]
     #[inline(never)]
     pub fn read_counted(bytes: &[u8]) -> Result<Self, (Error, usize)> {
         let (code, code_len) = word::read_counted(bytes)?;
         match word::read_counted(&bytes[code_len..]) {
+            // The sum is at most the number of bytes.
             Ok((digest_len, size_len)) => Ok(Head {
                 code,
                 digest_len,
                 digest_offset: code_len + size_len,
             }),
+            // The sum is at most the number of bytes.
             Err((error, taken)) => Err((error, code_len + taken)),
         }
     }

@@ -16,7 +16,7 @@ const FIRST_OF_TWO: u64 = 0x007f_007f_007f_007f;
 // The low fourteen bits of the first two bytes of each four.
 const FIRST_OF_FOUR: u64 = 0x3fff_0000_3fff;
 
-// The number and the length of the varint at the front of the bytes. None if it is malformed;
+// The number and the length of the varint at the front of the bytes, or nothing if it is malformed;
 // `read_counted` then returns why.
 #[inline(always)]
 pub(crate) fn read_front(bytes: &[u8]) -> Option<(u64, usize)> {
@@ -41,8 +41,7 @@ pub(crate) fn read_counted(bytes: &[u8]) -> Result<(u64, usize), (Error, usize)>
     read_word(padded_word(front), front.len())
 }
 
-// The number and the length of the varint at the front of the bytes, and no length if it is malformed:
-// plain numbers, which stay in registers.
+// The number and the length of the varint at the front of the bytes. The length is 0 if it is malformed.
 #[inline(never)]
 fn front_by_word(bytes: &[u8]) -> (u64, usize) {
     match bytes.first_chunk::<WORD_LEN>() {
@@ -89,9 +88,12 @@ fn read_word(word: u128, present: usize) -> Result<(u64, usize), (Error, usize)>
     if continuation_bytes >= present {
         return Err((Error::insufficient(), present));
     }
+    // At most 56 bits are shifted out.
     if varint >> (8 * continuation_bytes) == 0 && continuation_bytes > 0 {
+        // With the last byte they are at most eight.
         return Err((Error::not_minimal(), continuation_bytes + 1));
     }
+    // With the last byte they are at most eight.
     Ok((join_digits(varint), continuation_bytes + 1))
 }
 
