@@ -46,7 +46,7 @@ with_flags() {
   prints 'Build ID: 01234567' readelf -n "$work/flags/libmultihash_c.so"
   rejects 'No tests were found' build flags
   cmake --install "$work/flags" --prefix "$work/no pages"
-  [ ! -e "$work/no pages/$man" ]
+  [ ! -e "$work/no pages/$man/man3" ]
 }
 
 # The variables that a project sets before it adds the repository count each time that it is configured.
