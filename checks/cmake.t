@@ -46,7 +46,7 @@ with_flags() {
   prints 'Build ID: 01234567' readelf -n "$work/flags/libmultihash_c.so"
   rejects 'No tests were found' build flags
   cmake --install "$work/flags" --prefix "$work/no pages"
-  [ ! -e "$work/no pages/$man" ]
+  [ ! -e "$work/no pages/$man/man3" ]
 }
 
 # The variables that a project sets before it adds the repository count each time that it is configured.
@@ -79,7 +79,7 @@ has_configurations() {
   paste -sd ' ' "$work/names" | tr -s ' ' | diff <(echo "-lmultihash_cd -lmultihash_c ") -
 }
 
-needs="ar cmake=3.21+" try "options of a project" has_options_of_project
+needs=ar try "options of a project" has_options_of_project
 needs="ninja pkg-config" try "several configurations" has_configurations
 needs=clang try "other systems" systems
 try "flags of a distribution" with_flags
