@@ -250,7 +250,7 @@ static PyObject *status_text(PyObject *module, PyObject *status)
 
 static PyMethodDef functions[] = {
     {"decode", WITH_NAMES(decode),
-     "decode(data)\n--\n\nDecodes the multihash whose encoding is the whole of `data`."},
+     "decode(data)\n--\n\nDecodes `data`, which must be exactly one multihash."},
     {"read", WITH_NAMES(read_front),
      "read(data, limit=255)\n--\n\n"
      "Decodes the multihash at the start of `data`, with a digest of at most `limit` bytes.\n\n"

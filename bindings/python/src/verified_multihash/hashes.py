@@ -2,10 +2,11 @@
 
 from __future__ import annotations
 
+import functools
 import hashlib
 import hmac
 from types import MappingProxyType
-from typing import TYPE_CHECKING, Any, Dict, Iterable, Iterator, Mapping, Union
+from typing import TYPE_CHECKING, Any, Callable, Dict, Iterable, Iterator, Mapping, Union
 
 from . import Multihash, MultihashError, _Readable, decode
 
@@ -56,17 +57,22 @@ class _Identity:
         return self._data
 
 
-def _new(name: str) -> Any:
-    """An object of hashlib, or a ValueError."""
-    if name == "identity":
-        return _Identity()
+@functools.lru_cache(maxsize=None)
+def _maker(name: str) -> Callable[[], Any]:
+    """Returns what makes an object of hashlib, or raises ValueError."""
+    if name not in CODES:
+        raise ValueError("name must be in hashes.CODES, such as 'sha2-256', not %r" % (name,))
     kind, _, bits = name.partition("-")
+    if kind == "identity":
+        return _Identity
     if kind in ("blake2b", "blake2s"):
-        return (hashlib.blake2b if kind == "blake2b" else hashlib.blake2s)(digest_size=int(bits) // 8)
+        return functools.partial(getattr(hashlib, kind), digest_size=int(bits) // 8)
+    make = functools.partial(hashlib.new, _IN_HASHLIB.get(name, name.replace("sha2-", "sha").replace("-", "_")))
     try:
-        return hashlib.new(_IN_HASHLIB.get(name, name.replace("sha2-", "sha").replace("-", "_")))
+        make()
     except ValueError:
         raise ValueError("hashlib does not have %s here" % name) from None
+    return make
 
 
 class Hasher:
@@ -75,11 +81,11 @@ class Hasher:
     Raises ValueError if the name is not in CODES, or if this build of hashlib does not have the function.
     """
 
+    __slots__ = ("_name", "_hash")
+
     def __init__(self, name: str) -> None:
-        if name not in CODES:
-            raise ValueError("name must be in hashes.CODES, such as 'sha2-256', not %r" % (name,))
         self._name = name
-        self._hash = _new(name)
+        self._hash = _maker(name)()
 
     def update(self, data: Buffer) -> None:
         """Appends data. Raises MultihashError if "identity" gets more than DIGEST_MAX bytes."""
@@ -95,6 +101,8 @@ class Hasher:
 
 
 def _parts(file: _Readable) -> Iterator[bytes]:
+    if not hasattr(file, "read"):
+        raise TypeError("file must be an object with a method read, not %s" % type(file).__name__)
     while True:
         part = file.read(1 << 18)
         if part is None:
@@ -126,7 +134,11 @@ def digest_file(file: _Readable, name: str) -> Multihash:
 
 
 def _verify(multihash: Union[Multihash, Buffer], parts: Iterable[Buffer]) -> bool:
-    claimed = multihash if isinstance(multihash, Multihash) else decode(multihash)
+    try:
+        claimed = multihash if isinstance(multihash, Multihash) else decode(multihash)
+    except TypeError:
+        kind = type(multihash).__name__
+        raise TypeError("multihash must be a Multihash or its encoding, not %s" % kind) from None
     if claimed.code not in NAMES:
         raise ValueError("the code %#x has no name in hashes.NAMES" % claimed.code)
     hasher = Hasher(NAMES[claimed.code])
