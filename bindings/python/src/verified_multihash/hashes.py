@@ -129,7 +129,7 @@ def digest(data: Buffer, name: str) -> Multihash:
 
 
 def digest_file(file: _Readable, name: str) -> Multihash:
-    """Returns the multihash of the bytes of a binary file up to its end, as `digest` does. It keeps 256 KiB of them."""
+    """Returns the multihash of the bytes of a binary file up to its end, as `digest` does, with 256 KiB in memory."""
     return _digest(_parts(file), name)
 
 
@@ -151,7 +151,7 @@ def _verify(multihash: Union[Multihash, Buffer], parts: Iterable[Buffer]) -> boo
 
 
 def verify(multihash: Union[Multihash, Buffer], data: Buffer) -> bool:
-    """Returns whether the multihash, or its encoding, is that of the data. Returns False for a truncated digest.
+    """Returns whether data has this multihash: a Multihash or its encoding. Returns False for a truncated digest.
 
     Raises ValueError if the code is not in NAMES, or if this build of hashlib does not have the function. The time
     that it takes to compare digests of equal lengths does not depend on their bytes.
@@ -160,5 +160,5 @@ def verify(multihash: Union[Multihash, Buffer], data: Buffer) -> bool:
 
 
 def verify_file(multihash: Union[Multihash, Buffer], file: _Readable) -> bool:
-    """Returns whether the multihash is that of the bytes of a binary file up to its end, as `verify` does."""
+    """Returns whether the bytes of a binary file up to its end have this multihash, as `verify` does."""
     return _verify(multihash, _parts(file))
