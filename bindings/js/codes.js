@@ -10,7 +10,7 @@ export const CODES = Object.freeze({
   'sha3-224': 0x17, 'shake-128': 0x18, 'shake-256': 0x19, 'keccak-224': 0x1a, 'keccak-256': 0x1b, 'keccak-384': 0x1c,
   'keccak-512': 0x1d, blake3: 0x1e, 'sha2-384': 0x20, 'murmur3-x64-64': 0x22, 'murmur3-32': 0x23,
   'dbl-sha2-256': 0x56, md4: 0xd4, md5: 0xd5, bmt: 0xd6,
-  'fr32-sha2-256-trunc254-padded-binary-tree': 0x1011, 'sha2-256-trunc254-padded': 0x1012, 'sha2-224': 0x1013,
+  'fr32-sha256-trunc254-padbintree': 0x1011, 'sha2-256-trunc254-padded': 0x1012, 'sha2-224': 0x1013,
   'sha2-512-224': 0x1014, 'sha2-512-256': 0x1015, 'murmur3-x64-128': 0x1022, 'ripemd-128': 0x1052,
   'ripemd-160': 0x1053, 'ripemd-256': 0x1054, 'ripemd-320': 0x1055, x11: 0x1100, kangarootwelve: 0x1d01,
   'sm3-256': 0x534d, sha256a: 0x7012, ...family('blake2b', 0xb201, 64), ...family('blake2s', 0xb241, 32),

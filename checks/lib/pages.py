@@ -15,6 +15,7 @@ import contracts
 
 FORMAT, DIFFERENCES, CONTRACTS = "docs/FORMAT.md", "docs/DIFFERENCES.md", "docs/CONTRACTS.md"
 C, CALLING, HEADER = "bindings/c/README.md", "crates/multihash/CALLING.md", "bindings/c/include/multihash.h"
+PACKED = (C, "bindings/python/README.md")  # their links lead to no other file
 MAN, RUST = "crates/mh_show/mh_show.1", "bindings/rust"
 # what a source declares is named on a page
 DECLARED = (
@@ -94,7 +95,7 @@ def link_errors(texts: Texts) -> Iterator[str]:
         for link in re.findall(r"\[[^\]]*\](?:\(<?|: +)(?!<?[a-z]+:)([^\s)>]+)", text):
             target, _, anchor = link.partition("#")
             to = os.path.normpath(os.path.join(os.path.dirname(page), target)) if target else page
-            if page == C and target:
+            if page in PACKED and target:
                 yield f"{page}: it is installed without {target}"
             if not (TOP / to).exists() or anchor and anchor not in anchors(texts.get(to, "")):
                 yield f"{placed(page, texts[page], link)}: a link leads nowhere: {link}"

@@ -25,8 +25,8 @@ PyObject *module_of_type(PyTypeObject *type)
     return PyErr_Format(PyExc_TypeError, "not the module of a Multihash: %R", module);
 }
 
-/* Raises a MultihashError, without its __init__, which takes longer. The numbers and the reason are taken over; null is
- * a failure that has raised an error. */
+/* Raises a MultihashError, without its __init__, which takes longer. It steals the references to the numbers and the
+ * reason, of which a null one has raised an error. */
 static PyObject *raise_error(PyObject *module, multihash_status status, PyObject *size, PyObject *code, size_t taken,
                              PyObject *reason)
 {
@@ -103,7 +103,7 @@ PyObject *decoded(PyObject *module, const uint8_t *bytes, multihash_decoded foun
     return new_multihash(type_of_module(module), found.code, code, copied);
 }
 
-/* The same of an input, which is taken over, with the number of bytes consumed. */
+/* The same for an input, which it steals, with the number of bytes consumed. */
 static PyObject *decoded_front(PyObject *module, input *from, multihash_decoded found, PyObject *reason)
 {
     PyObject *multihash = decoded(module, from->bytes, found, reason);
@@ -250,7 +250,7 @@ static PyObject *status_text(PyObject *module, PyObject *status)
 
 static PyMethodDef functions[] = {
     {"decode", WITH_NAMES(decode),
-     "decode(data)\n--\n\nDecodes the multihash whose encoding is the whole of `data`."},
+     "decode(data)\n--\n\nDecodes `data`, which must be exactly one multihash."},
     {"read", WITH_NAMES(read_front),
      "read(data, limit=255)\n--\n\n"
      "Decodes the multihash at the start of `data`, with a digest of at most `limit` bytes.\n\n"
@@ -273,7 +273,7 @@ static PyMethodDef functions[] = {
     {NULL, NULL, 0, NULL},
 };
 
-/* Adds a type, which keeps the module. It is taken over. */
+/* Adds a type, which keeps the module, and steals the reference to it. */
 static int add_type(PyObject *module, const char *name, PyObject *type)
 {
     if (type != NULL && PyObject_SetAttrString(type, "_core", module) == 0 &&

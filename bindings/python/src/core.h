@@ -51,7 +51,7 @@ int get_pair(PyObject *arguments, PyObject *named, const char *format, PyObject 
 PyObject *reason_of(const input *from, size_t limit, multihash_status status);
 PyObject *reason_of_scale(const input *from, multihash_decoded found);
 
-/* The same of a digest of that length, or of that code, which is taken over. */
+/* The same for a digest of that length, or for that code: steals the reference to the number. */
 PyObject *reason_of_pair(int is_size, PyObject *number);
 
 /* ---- core.c */
@@ -61,20 +61,20 @@ extern long version; /* of CPython, as sys.hexversion */
 /* The module of a type, which keeps it; null is a failure that has raised an error. */
 PyObject *module_of_type(PyTypeObject *type);
 
-/* Raises the error of an encoding. The length, which may be null, and the code are taken over. */
+/* Raises the error of an encoding. It steals the references to the length, which may be null, and to the code. */
 PyObject *encoding_error(PyObject *module, multihash_status status, PyObject *length, PyObject *code);
 
-/* The multihash that a decoding found in these bytes, or the error of that reason, which is taken over. */
+/* The multihash that a decoding found in these bytes, or an error with that reason, whose reference it steals. */
 PyObject *decoded(PyObject *module, const uint8_t *bytes, multihash_decoded found, PyObject *reason);
 
-/* The multihash whose encoding is the whole of an input, which is taken over. */
+/* The multihash whose encoding is the whole of an input, which it steals. */
 PyObject *decoded_whole(PyObject *module, input *from);
 
 /* ---- value.c */
 
 extern PyType_Spec multihash_spec;
 
-/* Makes a multihash of a code, its number and a digest, which are taken over; null is a failure that has raised an
+/* Makes a multihash of a code, its number and a digest, and steals both references; a null one has raised an
  * error. */
 PyObject *new_multihash(PyTypeObject *type, uint64_t number, PyObject *code, PyObject *digest);
 

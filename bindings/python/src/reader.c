@@ -78,7 +78,7 @@ static void reader_dealloc(PyObject *self)
     Py_DECREF(type);
 }
 
-/* The number of bytes that the multihash still needs at least; 0 also where it is rejected. */
+/* The number of bytes that the multihash still needs at least, or 0 if it is rejected. */
 static size_t missing(const reader_object *reader)
 {
     if (reader->length == 0) return 2; /* an encoding has at least two bytes */
@@ -104,7 +104,7 @@ static Py_ssize_t begin(reader_object *reader)
     return (Py_ssize_t)count;
 }
 
-/* Ends it with what the file returned: 1, or 0 at its end, where these are no bytes; negative with an error set. */
+/* Ends it with what the file returned: 1, or 0 if that is empty, at the end of the file; negative with an error set. */
 static int end(reader_object *reader, PyObject *chunk)
 {
     input from;
@@ -164,7 +164,7 @@ static PyObject *next_multihash(reader_object *reader)
     return count < 0 || kept < 0 ? NULL : take_multihash(reader);
 }
 
-/* This reader ends with the call: after an error, as of a file that ends within a multihash, what was read is lost. */
+/* The reader exists for this call alone, so after an error the bytes read are lost. */
 PyObject *read_once(PyObject *module, PyObject *arguments)
 {
     PyObject *file, *most;

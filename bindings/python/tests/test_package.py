@@ -97,6 +97,8 @@ TEXTS = [
     (hashes.digest, [b"", "sha256"], "name must be in hashes.CODES, such as 'sha2-256', not 'sha256'"),
     (hashes.digest, [b"", "blake3"], "hashlib does not have blake3 here"),
     (hashes.verify, [Multihash(1, b""), b""], "the code 0x1 has no name in hashes.NAMES"),
+    (hashes.verify, ["1220", b""], "multihash must be a Multihash or its encoding, not str"),
+    (hashes.digest_file, ["path", "sha1"], "file must be an object with a method read, not str"),
 ]
 
 

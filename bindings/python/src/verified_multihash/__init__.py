@@ -1,7 +1,8 @@
 """Multihashes by a verified C library: decoding, encoding and order.
 
 Functions that take bytes accept any object that supports the buffer protocol, and raise TypeError for anything else.
-Invalid input, and a code or digest that is too large, raise MultihashError, a subclass of ValueError.
+Invalid input, and a code or digest that is too large, raise MultihashError, a subclass of ValueError. The module
+verified_multihash.hashes has the names of codes, and makes and verifies multihashes with hashlib.
 """
 
 from __future__ import annotations

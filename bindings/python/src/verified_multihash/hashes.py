@@ -2,10 +2,11 @@
 
 from __future__ import annotations
 
+import functools
 import hashlib
 import hmac
 from types import MappingProxyType
-from typing import TYPE_CHECKING, Any, Dict, Iterable, Iterator, Mapping, Union
+from typing import TYPE_CHECKING, Any, Callable, Dict, Iterable, Iterator, Mapping, Union
 
 from . import Multihash, MultihashError, _Readable, decode
 
@@ -56,17 +57,22 @@ class _Identity:
         return self._data
 
 
-def _new(name: str) -> Any:
-    """An object of hashlib, or a ValueError."""
-    if name == "identity":
-        return _Identity()
+@functools.lru_cache(maxsize=None)
+def _maker(name: str) -> Callable[[], Any]:
+    """Returns what makes an object of hashlib, or raises ValueError."""
+    if name not in CODES:
+        raise ValueError("name must be in hashes.CODES, such as 'sha2-256', not %r" % (name,))
     kind, _, bits = name.partition("-")
+    if kind == "identity":
+        return _Identity
     if kind in ("blake2b", "blake2s"):
-        return (hashlib.blake2b if kind == "blake2b" else hashlib.blake2s)(digest_size=int(bits) // 8)
+        return functools.partial(getattr(hashlib, kind), digest_size=int(bits) // 8)
+    make = functools.partial(hashlib.new, _IN_HASHLIB.get(name, name.replace("sha2-", "sha").replace("-", "_")))
     try:
-        return hashlib.new(_IN_HASHLIB.get(name, name.replace("sha2-", "sha").replace("-", "_")))
+        make()
     except ValueError:
         raise ValueError("hashlib does not have %s here" % name) from None
+    return make
 
 
 class Hasher:
@@ -75,11 +81,11 @@ class Hasher:
     Raises ValueError if the name is not in CODES, or if this build of hashlib does not have the function.
     """
 
+    __slots__ = ("_name", "_hash")
+
     def __init__(self, name: str) -> None:
-        if name not in CODES:
-            raise ValueError("name must be in hashes.CODES, such as 'sha2-256', not %r" % (name,))
         self._name = name
-        self._hash = _new(name)
+        self._hash = _maker(name)()
 
     def update(self, data: Buffer) -> None:
         """Appends data. Raises MultihashError if "identity" gets more than DIGEST_MAX bytes."""
@@ -95,6 +101,8 @@ class Hasher:
 
 
 def _parts(file: _Readable) -> Iterator[bytes]:
+    if not hasattr(file, "read"):
+        raise TypeError("file must be an object with a method read, not %s" % type(file).__name__)
     while True:
         part = file.read(1 << 18)
         if part is None:
@@ -121,12 +129,16 @@ def digest(data: Buffer, name: str) -> Multihash:
 
 
 def digest_file(file: _Readable, name: str) -> Multihash:
-    """Returns the multihash of the bytes of a binary file up to its end, as `digest` does. It keeps 256 KiB of them."""
+    """Returns the multihash of the bytes of a binary file up to its end, as `digest` does, with 256 KiB in memory."""
     return _digest(_parts(file), name)
 
 
 def _verify(multihash: Union[Multihash, Buffer], parts: Iterable[Buffer]) -> bool:
-    claimed = multihash if isinstance(multihash, Multihash) else decode(multihash)
+    try:
+        claimed = multihash if isinstance(multihash, Multihash) else decode(multihash)
+    except TypeError:
+        kind = type(multihash).__name__
+        raise TypeError("multihash must be a Multihash or its encoding, not %s" % kind) from None
     if claimed.code not in NAMES:
         raise ValueError("the code %#x has no name in hashes.NAMES" % claimed.code)
     hasher = Hasher(NAMES[claimed.code])
@@ -139,7 +151,7 @@ def _verify(multihash: Union[Multihash, Buffer], parts: Iterable[Buffer]) -> boo
 
 
 def verify(multihash: Union[Multihash, Buffer], data: Buffer) -> bool:
-    """Returns whether the multihash, or its encoding, is that of the data. Returns False for a truncated digest.
+    """Returns whether data has this multihash: a Multihash or its encoding. Returns False for a truncated digest.
 
     Raises ValueError if the code is not in NAMES, or if this build of hashlib does not have the function. The time
     that it takes to compare digests of equal lengths does not depend on their bytes.
@@ -148,5 +160,5 @@ def verify(multihash: Union[Multihash, Buffer], data: Buffer) -> bool:
 
 
 def verify_file(multihash: Union[Multihash, Buffer], file: _Readable) -> bool:
-    """Returns whether the multihash is that of the bytes of a binary file up to its end, as `verify` does."""
+    """Returns whether the bytes of a binary file up to its end have this multihash, as `verify` does."""
     return _verify(multihash, _parts(file))
