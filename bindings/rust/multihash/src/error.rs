@@ -2,14 +2,14 @@ use crate::{io, StdError};
 use core::fmt;
 use verified_multihash as proved;
 
-/// Why a call failed. [`source`](StdError::source) is the error of the reader or the writer, if one
-/// of these failed.
+/// The error of a call. Its [`source`](StdError::source) is the error of the reader or the writer, if one of
+/// these failed.
 #[derive(Debug)]
 pub struct Error {
     pub(crate) kind: Kind,
 }
 
-/// The names are shown by `Debug`.
+// `Debug` prints the names, which are upstream's.
 #[derive(Debug)]
 pub(crate) enum Kind {
     Io(io::Error),
@@ -27,7 +27,7 @@ pub(crate) enum Varint {
 }
 
 impl Error {
-    /// The error of a proved function, without one of a reader or a writer.
+    /// Returns the error of a proved function that was not an error of the caller's reader or writer.
     #[cold]
     pub(crate) fn of(error: &proved::Error) -> Self {
         #[cfg(feature = "std")]

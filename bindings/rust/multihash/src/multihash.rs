@@ -8,13 +8,15 @@ use verified_multihash::{upstream, Multihash as Proved};
 /// A code, which names the hash function, and a digest of at most `S` bytes.
 ///
 /// The code is below 2^63, and the digest has at most 255 bytes. Values of different `S` with the same code
-/// and digest are equal and have the same hash. Only `wrap`, `read` and `from_bytes` make a value of other parts:
+/// and digest are equal and have the same hash. Only functions of this type make a value:
 ///
 /// ```compile_fail,E0423
 /// fn multihash(value: verified_multihash::Multihash<64>) -> multihash::Multihash<64> {
 ///     multihash::Multihash(value)
 /// }
 /// ```
+///
+/// They return this type, not the one of `verified-multihash`:
 ///
 /// ```compile_fail,E0308
 /// use verified_multihash::Multihash as Verified;
@@ -157,7 +159,7 @@ impl<const S: usize> Multihash<S> {
 
     /// Returns the multihash with the first `size` bytes of the digest, or with all if it has fewer.
     ///
-    /// Whether a truncated digest is secure is for the caller to know. [`Multihash::into_inner`] and `Debug`
+    /// The caller must decide whether the shorter digest is still secure. [`Multihash::into_inner`] and `Debug`
     /// still expose the bytes that were removed.
     pub fn truncate(&self, size: u8) -> Self {
         Self(self.0.truncate(size))

@@ -1,8 +1,8 @@
-//! What reading and writing needs of `std::io`, where there is no `std`.
+//! Readers and writers for targets without `std`: the part of `std::io` that this crate uses.
 use core::fmt;
 use verified_multihash::no_std_io as bare;
 
-/// Why a reader or a writer of this module failed.
+/// The error of a reader or a writer of this module.
 #[derive(Debug)]
 pub struct Error {
     #[allow(dead_code)] // `Debug` shows it
@@ -27,9 +27,9 @@ impl fmt::Display for Error {
 
 impl core::error::Error for Error {}
 
-/// A source of bytes, as `std::io::Read`.
+/// A source of bytes, like `std::io::Read`.
 pub trait Read {
-    /// Reads up to `buf.len()` bytes to the start of `buf`, and returns their number, 0 at the end.
+    /// Reads up to `buf.len()` bytes into the front of `buf`, and returns their number. It returns 0 at the end.
     fn read(&mut self, buf: &mut [u8]) -> Result<usize, Error>;
 
     /// Fills `buf`.
@@ -44,9 +44,9 @@ pub trait Read {
     }
 }
 
-/// A sink for bytes, as `std::io::Write`.
+/// A sink of bytes, like `std::io::Write`.
 pub trait Write {
-    /// Writes bytes from the start of `buf`, and returns their number: 0 if the sink is full.
+    /// Writes some of the first bytes of `buf`, and returns their number. It returns 0 if the sink is full.
     fn write(&mut self, buf: &[u8]) -> Result<usize, Error>;
 
     /// Writes all of `buf`.
@@ -88,14 +88,14 @@ impl Read for &[u8] {
     }
 }
 
-/// Overwrites the front of the slice, and leaves what comes after it.
+/// Overwrites the front of the slice, and advances past what was written.
 impl Write for &mut [u8] {
     fn write(&mut self, buf: &[u8]) -> Result<usize, Error> {
         bare::Write::write(self, buf).map_err(|_| WRITE_ZERO)
     }
 }
 
-/// Appends.
+/// Appends to the vector.
 #[cfg(feature = "alloc")]
 impl Write for alloc::vec::Vec<u8> {
     fn write(&mut self, buf: &[u8]) -> Result<usize, Error> {

@@ -1,4 +1,4 @@
-//! The encoding as bytes, or as a sequence of numbers where a format has no bytes.
+//! Serializes the encoding as bytes, or as a sequence of numbers in formats without bytes.
 use crate::Multihash;
 use core::fmt;
 use serde::de::{Error, SeqAccess, Visitor};
@@ -35,7 +35,7 @@ impl<'de, const S: usize> Visitor<'de> for Bytes<S> {
     type Value = Multihash<S>;
 
     fn expecting(&self, f: &mut fmt::Formatter<'_>) -> fmt::Result {
-        f.write_str("a valid Multihash in bytes") // as upstream
+        f.write_str("a valid Multihash in bytes") // upstream's text
     }
 
     fn visit_bytes<E: Error>(self, bytes: &[u8]) -> Result<Multihash<S>, E> {

@@ -1,5 +1,5 @@
-//! Readers and writers of `std::io` or `no_std_io` as those of the proved functions, whose error has a text alone: the
-//! caller's error is kept beside.
+//! Adapts readers and writers of `std::io` or `no_std_io` to the proved functions, whose errors hold only a text. The
+//! adapter keeps the caller's error.
 use crate::error::{Error, Kind};
 use crate::io;
 use verified_multihash::{self as proved, no_std_io as bare};
@@ -15,7 +15,7 @@ impl<T> Kept<T> {
         Self { stream, error: None }
     }
 
-    /// The caller's error, if there was one, else the other.
+    /// Returns the caller's error if there was one, or else the other.
     #[cold]
     #[inline(never)]
     pub(crate) fn error(self, error: proved::Error) -> Error {

@@ -79,7 +79,8 @@ fn parts() {
 fn limits() {
     assert_eq!(text(Multihash::<300>::wrap(1, &[7; 256])), "Invalid multihash size 256.");
     assert_eq!(text(Multihash::<3>::wrap(u64::MAX, b"abcd")), "Invalid multihash size 4.");
-    assert_eq!(text(Multihash::<4>::wrap(1 << 63, b"abcd")), "Invalid multihash code 9223372036854775808.");
+    assert_eq!(text(Multihash::<4>::wrap(CODE_MAX + 1, b"abcd")), "Invalid multihash code 9223372036854775808.");
+    assert_eq!(of::<4>(CODE_MAX, b"abcd").code(), CODE_MAX);
 }
 
 #[test]

@@ -48,6 +48,26 @@ fn sizes() {
     assert_eq!((&buffer[..20], &buffer[20..], size), (&[7; 20][..], &[0; 235][..], 20));
 }
 
+/// Digests that differ in one byte are unlike, and compare as slices do.
+#[test]
+fn each_byte() {
+    for size in 1..=255 {
+        let digest = [0x55; 255];
+        let value = of::<255>(0x12, &digest[..size]);
+        for at in 0..size {
+            let mut other = digest;
+            other[at] = if at % 2 == 0 { 0x54 } else { 0xd5 };
+            let unlike = of::<255>(0x12, &other[..size]);
+            assert!(value != unlike && !value.same_as(&of::<300>(0x12, &other[..size])), "{size} {at}");
+            assert_eq!(value.cmp(&unlike), digest.cmp(&other), "{size} {at}");
+            if size <= 64 {
+                let (value, unlike) = (of::<64>(0x12, &digest[..size]), of::<64>(0x12, &other[..size]));
+                assert_eq!((value == unlike, value.cmp(&unlike)), (false, digest.cmp(&other)), "{size} {at}");
+            }
+        }
+    }
+}
+
 #[test]
 fn long_slices() {
     // 2^32 and 1, or as much as fits: no page is touched but the first
