@@ -114,9 +114,9 @@ few_joined n a few long bytes =
 pub shorter_front : (i j : ℕ) (a b : List ℕ) → i ≤ j → take j a ≡ take j b → take i a ≡ take i b
 shorter_front i j a b within same = sym (take-take i j a within) ∙ ap (take i) same ∙ take-take i j b within
 
--- the window after an equal front is equal if a longer front is
-pub window_of_front : (n at : ℕ) (a b : List ℕ) → take (at + n) a ≡ take (at + n) b → window n at a ≡ window n at b
-window_of_front n at a b same = sym (drop-take at n a) ∙ ap (drop at) same ∙ drop-take at n b
+-- the word after an equal front is equal if a longer front is
+pub word_of_front : (at : ℕ) (a b : List ℕ) → take (at + 8) a ≡ take (at + 8) b → window 8 at a ≡ window 8 at b
+word_of_front at a b same = sym (drop-take at 8 a) ∙ ap (drop at) same ∙ drop-take at 8 b
 
 -- fronts that are the whole lists
 pub whole_front : (n : ℕ) (a b : List ℕ) → length a ≤ n → length b ≤ n → take n a ≡ take n b → a ≡ b

@@ -1,5 +1,5 @@
 //! Comparison and hashing.
-ghost use Rattle.std.specs.Prelude.{◌≡◌, ◌≢◌, ◌==◌, ◌<◌, ◌≤◌, ◌+◌, ◌↔◌, length, take, drop, Some, IsTrue};
+ghost use Rattle.std.specs.Prelude.{◌≡◌, ◌==◌, ◌<◌, ◌≤◌, ◌+◌, ◌↔◌, length, take, drop, Some, IsTrue};
 ghost use Rattle.std.proofs.Common.{rules};
 ghost use Rattle.std.specs.Cmp.{partial_order_from_own_ties};
 ghost use Rattle.std.specs.Cmp.Lexicographic.{pointwise, slice_cmp};
@@ -188,14 +188,13 @@ fn order_of_many(a: &[u8], b: &[u8]) -> Ordering
     if !same_word(a, b, 8) {
         return order_at(a, b, 8);
     }
-    if !same_words(a, b, 16) {
-        return order_of_words(a, b, 16);
+    if !same_word(a, b, 16) {
+        return order_at(a, b, 16);
     }
-    let last = a.len() - 32;
-    if !same_words(a, b, last) {
-        return order_of_words(a, b, last);
+    if !same_word(a, b, 24) {
+        return order_at(a, b, 24);
     }
-    order_last(a, b, last + 16)
+    order_from(a, b, a.len() - 32)
 }
 
 // How bytes compare that are equal before an index, with 16 to 32 from there on.
@@ -234,21 +233,6 @@ fn order_last(a: &[u8], b: &[u8], at: usize) -> Ordering
     order_at(a, b, a.len() - 8)
 }
 
-// How bytes compare that are equal before an index, and differ in the two words there.
-#[inline(always)]
-fn order_of_words(a: &[u8], b: &[u8], at: usize) -> Ordering
-    requires a { at + 16 ≤ length a.now }
-    requires b { at + 16 ≤ length b.now }
-    requires front { take at a.now ≡ take at b.now }
-    requires unlike { take (at + 16) a.now ≢ take (at + 16) b.now }
-    ensures { result ≡ slice_cmp nat_cmp a.now b.now }
-{
-    if !same_word(a, b, at) {
-        return order_at(a, b, at);
-    }
-    order_at(a, b, at + 8)
-}
-
 // How bytes compare that are equal before an index, and differ in the word there if they differ.
 #[inline(always)]
 fn order_at(a: &[u8], b: &[u8], at: usize) -> Ordering
@@ -283,17 +267,6 @@ fn same_word(a: &[u8], b: &[u8], at: usize) -> bool
     ensures { IsTrue result ↔ (take (at + 8) a.now ≡ take (at + 8) b.now) }
 {
     word_at(a, at) == word_at(b, at)
-}
-
-// Whether the two words from that index on are equal too, if the bytes before it are.
-#[inline(always)]
-fn same_words(a: &[u8], b: &[u8], at: usize) -> bool
-    requires a { at + 16 ≤ length a.now }
-    requires b { at + 16 ≤ length b.now }
-    requires front { take at a.now ≡ take at b.now }
-    ensures { IsTrue result ↔ (take (at + 16) a.now ≡ take (at + 16) b.now) }
-{
-    same_ends_of_16(&a[at..at + 16], &b[at..at + 16])
 }
 
 // The eight bytes from that index on as a number, the first as the highest.

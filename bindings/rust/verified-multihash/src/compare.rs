@@ -126,14 +126,13 @@ fn order_of_many(a: &[u8], b: &[u8]) -> Ordering {
     if !same_word(a, b, 8) {
         return order_at(a, b, 8);
     }
-    if !same_words(a, b, 16) {
-        return order_of_words(a, b, 16);
+    if !same_word(a, b, 16) {
+        return order_at(a, b, 16);
     }
-    let last = a.len() - 32;
-    if !same_words(a, b, last) {
-        return order_of_words(a, b, last);
+    if !same_word(a, b, 24) {
+        return order_at(a, b, 24);
     }
-    order_last(a, b, last + 16)
+    order_from(a, b, a.len() - 32)
 }
 
 // How bytes compare that are equal before an index, with 16 to 32 from there on.
@@ -158,15 +157,6 @@ fn order_last(a: &[u8], b: &[u8], at: usize) -> Ordering {
     order_at(a, b, a.len() - 8)
 }
 
-// How bytes compare that are equal before an index, and differ in the two words there.
-#[inline(always)]
-fn order_of_words(a: &[u8], b: &[u8], at: usize) -> Ordering {
-    if !same_word(a, b, at) {
-        return order_at(a, b, at);
-    }
-    order_at(a, b, at + 8)
-}
-
 // How bytes compare that are equal before an index, and differ in the word there if they differ.
 #[inline(always)]
 fn order_at(a: &[u8], b: &[u8], at: usize) -> Ordering {
@@ -185,12 +175,6 @@ fn order_of_first(a: &[u8], b: &[u8], count: usize) -> Ordering {
 #[inline(always)]
 fn same_word(a: &[u8], b: &[u8], at: usize) -> bool {
     word_at(a, at) == word_at(b, at)
-}
-
-// Whether the two words from that index on are equal too, if the bytes before it are.
-#[inline(always)]
-fn same_words(a: &[u8], b: &[u8], at: usize) -> bool {
-    same_ends_of_16(&a[at..at + 16], &b[at..at + 16])
 }
 
 // The eight bytes from that index on as a number, the first as the highest.
