@@ -167,8 +167,12 @@ fn empty_node(alloc: Global) -> Node {
     Both {
         first: Number { value: 1 },
         second: Both {
-            first: Counted { items: Vec::new(alloc) },
-            second: Block { bytes: Vec::new(alloc) },
+            first: Counted {
+                items: Vec::new(alloc),
+            },
+            second: Block {
+                bytes: Vec::new(alloc),
+            },
         },
     }
 }
