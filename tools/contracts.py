@@ -16,14 +16,14 @@ from rt_source import Item, items
 
 TOP = Path(__file__).resolve().parents[1]
 PAGE = TOP / "docs" / "CONTRACTS.md"
-CRATES = ("headline", "multihash", "frame", "multihash_c", "mh_show")
+CRATES = ("headline", "multihash", "frame", "form", "multihash_c", "mh_show")
 # attributes that no caller can see
 OF_BODIES = re.compile(r"#\[(cold|inline|tactic)\b")
 INTRODUCTION = """\
 # Contracts
 
 Written by `tools/contracts.py`, and compared with the sources in CI: the main theorems, then
-the public items of the library, of `frame`, of the library's part for C and of `mh_show`, as they stand in their files,
+the public items of the library, of `frame` and `form`, of the library's part for C and of `mh_show`, as they stand in their files,
 without bodies.
 A difference here is a changed promise.
 [What contracts see](../crates/multihash/CALLING.md#what-contracts-see) says how to read a clause; its

@@ -1,6 +1,5 @@
 -- Reading and writing two parts.
 use Rattle.std.proofs.Common.{◌≡◌, ℕ, ◌<◌, ◌⊎◌, inl, inr, List, ◌++◌, length, Option, refl, sym, ap, subst, ◌∙◌, append_assoc, length-append, arith}
-use Rattle.std.specs.Prelude.{Result, Ok, Err, OnOk, OnErr}
 use Rattle.multihash.specs.Reading.{Consumes}
 use Rattle.multihash.specs.Consuming.{ConsumesSome}
 use Rattle.multihash.proofs.ReadingLemmas.{Consumes-known, Consumes-concatenated}
@@ -74,13 +73,3 @@ second_fails P Q R T U V M S old mid unique (c, is_c, consumes) sooner fails = r
     longer M S part left a b c bytes is split long (inl memory) = inl memory
     longer M S part left a b c bytes is split long (inr (short, few)) =
         inr (short, omega (arith, few, long, ap length is, length-append a b, ap length split, length-append c left))
-
--- what follows from a fact on an Ok
-pub OnOk-map : {T E P Q : Type 0} (r : Result T E) → OnOk r P → (P → Q) → OnOk r Q
-OnOk-map (Ok x) h f = f h
-OnOk-map (Err e) h f = tt
-
--- what follows from a fact on an Err
-pub OnErr-map : {T E P Q : Type 0} (r : Result T E) → OnErr r P → (P → Q) → OnErr r Q
-OnErr-map (Ok x) h f = tt
-OnErr-map (Err e) h f = f h

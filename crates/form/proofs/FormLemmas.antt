@@ -1,22 +1,20 @@
--- What is known of a reading that failed, of each part.
+-- What is known of reading each part if it failed.
 use Rattle.std.proofs.Common.{◌≡◌, ℕ, ◌<◌, ◌≤◌, ◌⊎◌, inl, inr, List, [], ◌++◌, length, take, drop, Option, Some, refl, sym, ap, subst, ◌∙◌, append_assoc, append-nil, arith}
-use Rattle.std.specs.Prelude.{Result, Ok, Err, MatchResult, IfSome, IsErrAnd}
+use Rattle.std.specs.Prelude.{IfSome}
 use Rattle.std.proofs.lemmas.Bool.Decides.{leb_tells}
 use Rattle.std.proofs.lemmas.List.{take-append-drop, length-take-le}
 use Rattle.multihash.specs.Pair.{Pair, FitsBuffer}
-use Rattle.multihash.specs.Varint.{IsVarint, insufficient, overflow, not_minimal}
+use Rattle.multihash.specs.Varint.{IsVarint}
 use Rattle.multihash.specs.Encoding.{IsEncoding}
-use Rattle.multihash.specs.Verdict.{Verdict, accepted, invalid_size, invalid_code, malformed, unexpected_eof, HasVerdict, IsIncomplete}
+use Rattle.multihash.specs.Verdict.{Verdict, HasVerdict}
 use Rattle.multihash.specs.Outcome.{IsErrorOf}
 use Rattle.multihash.specs.Refusal.{Refusal, IsReaderError, IsAnyVarintError, IsEof, IsOutOfMemory}
 use Rattle.multihash.proofs.EncodingLemmas.{same_cut}
-use Rattle.multihash.proofs.SettlingLemmas.{verdict_kept}
-use Rattle.multihash.proofs.ReadConsumingLemmas.{incomplete_error}
-use Rattle.multihash.proofs.CallingLemmas.{encoding_no_error, number_found, number_truncated, exact_found, exact_truncated}
+use Rattle.multihash.proofs.CallingLemmas.{encoding_no_error, encoding_truncated, number_found, number_truncated, exact_found, exact_truncated}
 use Rattle.multihash.specs.Consuming.{VarintFails, ExactFails, ConsumesSome}
 use Rattle.multihash.specs.Reading.{Consumes}
 use Rattle.multihash.proofs.ReadingLemmas.{Consumes-known}
-use Rattle.frame.specs.Frame.{IsFramed, FrameFails, IsTruncatedOrMemory}
+use Rattle.frame.specs.Frame.{IsFramed, FrameFails, MayFailWith, IsTruncatedOrMemory}
 use Rattle.frame.specs.Frame.{IsFailed as IsFrameFailed}
 use Rattle.frame.specs.declared.error.FrameError.{FrameError}
 use Rattle.frame.proofs.FrameLemmas.{frame_found, frame_truncated}
@@ -89,27 +87,6 @@ pub faults_as : (before after : ℕ) (Listed : Refusal → Type 0) (e : Refusal)
 faults_as before after Listed e (inl (up, own)) = inl (up, (e, refl, own))
 faults_as before after Listed e (inr (same, listed)) = inr (same, (e, refl, listed))
 
--- a verdict is incomplete, or it is not
-incomplete_or_not : (v : Verdict) → IsIncomplete v ⊎ (¬ (IsIncomplete v))
-incomplete_or_not (accepted p) = inr (λ h. h)
-incomplete_or_not (invalid_size size) = inr (λ h. h)
-incomplete_or_not (invalid_code code) = inr (λ h. h)
-incomplete_or_not (malformed insufficient) = inl tt
-incomplete_or_not (malformed overflow) = inr (λ h. h)
-incomplete_or_not (malformed not_minimal) = inr (λ h. h)
-incomplete_or_not unexpected_eof = inl tt
-
--- a part of an input that starts with an encoding that fits is rejected only if it ends within that
-pub encoding_truncated : (S : ℕ) (p : Pair) (bytes rest part more : List ℕ) (v : Verdict) (e : Refusal)
-    → IsEncoding p bytes → FitsBuffer S p → part ++ more ≡ bytes ++ rest → HasVerdict S part v
-    → IsErrorOf e v → IsTruncated e
-encoding_truncated S p bytes rest part more v e encodes fits cut has is =
-    elim (incomplete_or_not v) [
-      | inl ends ↦ incomplete_error e v is ends
-      | inr late ↦ absurd (encoding_no_error S p bytes rest (part ++ more) v e encodes fits cut
-          (verdict_kept S part more v late has) is)
-    ]
-
 -- `Multihash::read` failed
 pub multihash_fails : (S : ℕ) (p : Pair) (U : Type 0) (e : Refusal) (old : Option (List ℕ)) → FitsBuffer S p
     → IfSome old (λ rest. U → (v : Verdict) × HasVerdict S rest v × IsErrorOf e v)
@@ -163,28 +140,13 @@ frame_fails_at block limit before after f e old new within passed fails =
     sorted e (cause, is, inr (inl eof)) = inr (cause, is, inr eof)
     sorted e (cause, is, inr (inr memory)) = inl (cause, is, memory)
 
--- the errors of a frame, and the reader's failures
-pub frame_faults : (limit before after : ℕ) (f : FrameError) (e : FormError) (old new : Option (List ℕ))
-    → IsErrorOfFrame f e → FrameFails limit before after f old new
+-- the clause `faults` of `frame::read`, as that of `read` of a block
+pub block_faults : (limit before after : ℕ) (f : FrameError) (e : FormError) → IsErrorOfFrame f e
+    → ((before < after) × IsFrameFailed IsReaderError f) ⊎ ((after ≡ before) × MayFailWith limit f)
     → ((before < after) × IsFailed IsReaderError e) ⊎ ((after ≡ before)
     × (IsFailed (λ r. IsAnyVarintError r ⊎ IsEof r ⊎ IsOutOfMemory r) e ⊎ ((n : ℕ) × (e ≡ TooLong n) × (limit < n))))
-frame_faults limit before after f e old new passed (inl (cause, is, fails)) =
-    elim fails.cause [
-      | inl own ↦ inl (own.0, frame_failure IsReaderError f e passed (cause, is, own.1))
-      | inr any ↦ inr (any.0, inl (frame_failure (λ r. IsAnyVarintError r ⊎ IsEof r ⊎ IsOutOfMemory r) f e passed (cause, is, inl any.1)))
-    ]
-frame_faults limit before after f e old new passed (inr (n, mid, first, inl (is, over, same, kept))) =
+block_faults limit before after f e passed (inl (own, fails)) = inl (own, frame_failure IsReaderError f e passed fails)
+block_faults limit before after f e passed (inr (same, inl fails)) =
+    inr (same, inl (frame_failure (λ r. IsAnyVarintError r ⊎ IsEof r ⊎ IsOutOfMemory r) f e passed fails))
+block_faults limit before after f e passed (inr (same, inr (n, is, over))) =
     inr (same, inr (n, subst (λ (x : FrameError). IsErrorOfFrame x e) is passed, over))
-frame_faults limit before after f e old new passed (inr (n, mid, first, inr (within, inl (memory, same, few)))) =
-    inr (same, inl (frame_failure (λ r. IsAnyVarintError r ⊎ IsEof r ⊎ IsOutOfMemory r) f e passed (memory.0, memory.1, inr (inr memory.2))))
-frame_faults limit before after f e old new passed (inr (n, mid, first, inr (within, inr (cause, is, fails)))) =
-    elim fails.cause [
-      | inl own ↦ inl (own.0, frame_failure IsReaderError f e passed (cause, is, own.1))
-      | inr eof ↦ inr (eof.0, inl (frame_failure (λ r. IsAnyVarintError r ⊎ IsEof r ⊎ IsOutOfMemory r) f e passed (cause, is, inr (inl eof.1))))
-    ]
-
--- what follows from what is known of the error of a `?`
-pub if_given : {T E : Type 0} (Given : E → Type 0) (Q : T → Type 0) (P : E → Type 0) (r : Result T E) → IsErrAnd r Given
-    → ((e : E) → Given e → P e) → MatchResult r Q P
-if_given Given Q P (Ok x) is so = absurd is
-if_given Given Q P (Err e) is so = so e is

@@ -1,8 +1,8 @@
 -- What the definitions exclude.
-use Rattle.std.proofs.Common.{◌≡◌, ◌<◌, ℕ, List, [], ◌∷◌, ◌++◌, length, Option, Some, None, inl, inr, refl, ap, ◌∙◌, arith}
+use Rattle.std.proofs.Common.{◌≡◌, ℕ, List, [], ◌∷◌, ◌++◌, Some, inl, inr, refl, ap, ◌∙◌, arith}
 use Rattle.std.specs.Prelude.{⊤, codes}
 use Rattle.std.specs.Fmt.{digits}
-use Rattle.multihash.specs.Refusal.{of_varint, of_size}
+use Rattle.multihash.specs.Refusal.{of_varint}
 use Rattle.multihash.specs.Varint.{overflow}
 use Rattle.frame.specs.declared.error.FrameError.TheVariants.{TooLong as FrameTooLong}
 use Rattle.form.specs.ByteCount.{HasCounted}

@@ -7,7 +7,7 @@ use Rattle.multihash.specs.Varint.{IsVarint, varint_limit}
 use Rattle.multihash.proofs.VarintLemmas.{varint_unique, varint_same, varint_some}
 use Rattle.multihash.proofs.VarintWriteLemmas.{varint_exists}
 use Rattle.frame.specs.Frame.{IsFramed}
-use Rattle.frame.proofs.FrameLemmas.{framed_unique, framed_same, framed_some, make_framed}
+use Rattle.frame.proofs.FrameLemmas.{framed_unique, framed_same, framed_some, framed_exists}
 use Rattle.multihash.specs.Multihash.{Fields, pair_of}
 use Rattle.multihash.specs.Pair.{Pair}
 use Rattle.multihash.specs.Encoding.{IsEncoding, encoding_of}
@@ -60,9 +60,7 @@ tag_one n a b same = varint_same n a b
 
 -- a block has a frame
 pub block_exists : (block : List ℕ) (n : ℕ) → n ≡ length block → n < varint_limit → (bytes : List ℕ) × IsFramed block bytes
-block_exists block n long below =
-    let (len, is_len) = varint_exists (length block) (omega (arith, long, below)) in
-    (len ++ block, make_framed _ block len refl is_len)
+block_exists block n long below = framed_exists block (omega (arith, long, below))
 
 -- two at the start of one input are equal
 pub block_unique : (m n a b r s : List ℕ) → IsFramed m a → IsFramed n b → a ++ r ≡ b ++ s → (m ≡ n) × (r ≡ s)

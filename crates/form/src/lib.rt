@@ -5,13 +5,13 @@
 //! | A part | Its encoding |
 //! |---|---|
 //! | [`Multihash<S>`](multihash::Multihash) | as the library writes it |
-//! | [`Number`] | a varint |
-//! | [`Tag<N>`](Tag) | the varint of `N` |
-//! | [`Bytes<N>`](Bytes) | `N` bytes |
-//! | [`Block<MAX>`](Block) | the varint of the length, and at most `MAX` bytes |
-//! | [`Counted<T, MAX>`](Counted) | the varint of the number of items, and at most `MAX` items |
-//! | [`Both<A, B>`](Both) | one part, and then the other |
-//! | [`OneOf<A, B, M, N>`](OneOf) | the varint of `M` and then an `A`, or the varint of `N` and then a `B` |
+//! | `Number` | a varint |
+//! | `Tag<N>` | the varint of `N` |
+//! | `Bytes<N>` | `N` bytes |
+//! | `Block<MAX>` | the varint of the length, and at most `MAX` bytes |
+//! | `Counted<T, MAX>` | the varint of the number of items, and at most `MAX` items |
+//! | `Both<A, B>` | one part, and then the other |
+//! | `OneOf<A, B, M, N>` | the varint of `M` and then an `A`, or the varint of `N` and then a `B` |
 //!
 //! A node of three parts is a type, `Both<Number, Both<Counted<Multihash<64>, 1000>, Block<1_000_000>>>`. The last part
 //! of a format that is the whole of an input may have no length: [`Rest`].

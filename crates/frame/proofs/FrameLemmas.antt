@@ -1,12 +1,13 @@
 -- Frames: how they are split and made; what is known of reading one.
-use Rattle.std.proofs.Common.{◌≡◌, ◌<◌, ◌≤◌, ℕ, List, ◌++◌, Option, Some, length, inl, inr, refl, sym, ap, ◌∙◌, subst, arith, append_assoc, length-append}
-use Rattle.multihash.specs.Varint.{IsVarint}
-use Rattle.multihash.specs.Refusal.{Refusal, IsOutOfMemory}
+use Rattle.std.proofs.Common.{◌≡◌, ◌<◌, ◌≤◌, ◌⊎◌, ℕ, List, ◌++◌, Option, Some, length, inl, inr, refl, sym, ap, ◌∙◌, subst, arith, append_assoc, length-append}
+use Rattle.multihash.specs.Varint.{IsVarint, varint_limit}
+use Rattle.multihash.specs.Refusal.{Refusal, IsOutOfMemory, IsReaderError}
 use Rattle.multihash.specs.Consuming.{ConsumesVarint}
 use Rattle.multihash.proofs.CallingLemmas.{number_read, number_in_part, number_found, number_truncated, exact_found, exact_truncated, front_no_error}
 use Rattle.multihash.proofs.VarintLemmas.{varint_same, varint_unique, varint_some}
+use Rattle.multihash.proofs.VarintWriteLemmas.{varint_exists}
 use Rattle.multihash.proofs.EncodingLemmas.{same_cut}
-use Rattle.frame.specs.Frame.{IsFramed, IsFailed, IsTruncatedOrMemory, FrameFails, FrontFails, BeginsFramed}
+use Rattle.frame.specs.Frame.{IsFramed, IsFailed, IsTruncatedOrMemory, FrameFails, FrontFails, BeginsFramed, MayFailWith}
 use Rattle.frame.specs.declared.error.FrameError.{FrameError}
 
 -- the parts of a frame and of what follows it
@@ -35,6 +36,12 @@ pub framed_same : (block a b : List ℕ) → IsFramed block a → IsFramed block
 framed_same block a b h k =
     cc (h.parts, k.parts, varint_same (length block) h.len k.len h.is_len k.is_len)
 
+-- a block has a frame
+pub framed_exists : (block : List ℕ) → length block < varint_limit → (bytes : List ℕ) × IsFramed block bytes
+framed_exists block below =
+    let (len, is_len) = varint_exists (length block) below in
+    (len ++ block, make_framed _ block len refl is_len)
+
 -- a frame is not empty
 pub framed_some : (block bytes : List ℕ) → IsFramed block bytes → 0 < length bytes
 framed_some block bytes h =
@@ -44,6 +51,25 @@ framed_some block bytes h =
       ap length h.parts,
       length-append h.len block,
     )
+
+-- the clause `faults` of an error: from the clause `err`
+pub frame_faults : (limit before after : ℕ) (e : FrameError) (old new : Option (List ℕ))
+    → FrameFails limit before after e old new
+    → ((before < after) × IsFailed IsReaderError e) ⊎ ((after ≡ before) × MayFailWith limit e)
+frame_faults limit before after e old new (inl (r, is, fails)) =
+    elim fails.cause [
+      | inl own ↦ inl (own.0, (r, is, own.1))
+      | inr any ↦ inr (any.0, inl (r, is, inl any.1))
+    ]
+frame_faults limit before after e old new (inr (n, mid, first, inl (is, over, same, kept))) =
+    inr (same, inr (n, is, over))
+frame_faults limit before after e old new (inr (n, mid, first, inr (within, inl ((r, is, memory), same, few)))) =
+    inr (same, inl (r, is, inr (inr memory)))
+frame_faults limit before after e old new (inr (n, mid, first, inr (within, inr (r, is, fails)))) =
+    elim fails.cause [
+      | inl own ↦ inl (own.0, (r, is, own.1))
+      | inr eof ↦ inr (eof.0, inl (r, is, inr (inl eof.1)))
+    ]
 
 module _ (limit before after : ℕ) (same : after ≡ before) (e : FrameError) where
   module _ (block bytes : List ℕ) (h : IsFramed block bytes) (within : length block ≤ limit) where

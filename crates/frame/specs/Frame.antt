@@ -2,7 +2,7 @@
 use Rattle.std.specs.Prelude.{◌≡◌, ◌<◌, ◌≤◌, ℕ, ◌⊎◌, List, ◌++◌, length, Option, codes}
 use Rattle.std.specs.Fmt.{decimal}
 use Rattle.multihash.specs.Varint.{IsVarint, insufficient}
-use Rattle.multihash.specs.Refusal.{Refusal, refusal_text, IsOutOfMemory, IsVarintError, IsEof, IsFrontError}
+use Rattle.multihash.specs.Refusal.{Refusal, refusal_text, IsOutOfMemory, IsVarintError, IsAnyVarintError, IsEof, IsFrontError}
 use Rattle.multihash.specs.Reading.{ConsumesFewerThan}
 use Rattle.multihash.specs.Consuming.{ConsumesVarint, FailsInTurn, VarintFails, ExactFails}
 use Rattle.frame.specs.declared.error.FrameError.{FrameError}
@@ -40,6 +40,11 @@ abbrev pub FrameFails : ℕ → ℕ → ℕ → FrameError → Option (List ℕ)
 FrameFails limit before after e =
     FailsInTurn (λ old new. IsFailed (λ r. VarintFails before after r old new) e) ConsumesVarint
     (BlockFails limit before after e)
+
+-- the errors of reading a frame if the reader does not fail
+abbrev pub MayFailWith : ℕ → FrameError → Type 0
+MayFailWith limit e =
+    IsFailed (λ r. IsAnyVarintError r ⊎ IsEof r ⊎ IsOutOfMemory r) e ⊎ ((n : ℕ) × (e ≡ TooLong n) × (limit < n))
 
 -- the input was truncated, or an allocation failed
 abbrev pub IsTruncatedOrMemory : Refusal → Type 0

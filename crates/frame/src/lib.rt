@@ -3,11 +3,11 @@
 #![tactic(auto)]
 
 ghost use Rattle.std.specs.Prelude.{◌≡◌, ◌≤◌, ℕ, List, ◌++◌, Some, length, IfOk, IfErr, IfSome, OnOk, OnErr, IsOkAnd, IsSomeAnd, MatchResult};
-ghost use Rattle.multihash.specs.Reading.{Consumes, EndsInNone};
+ghost use Rattle.multihash.specs.Reading.{Consumes, EndsInNone, CountsReaderFailures};
 ghost use Rattle.multihash.specs.Consuming.{ConsumesSome};
 ghost use Rattle.multihash.specs.Writing.{AppendsPrefix, CountsWriterFailures};
-ghost use Rattle.multihash.specs.Refusal.{IsIo, IsOutOfMemory};
-ghost use Rattle.frame.specs.Frame.{IsFramed, IsFailed, FrontFails, BytesFail, BlockFails, FrameFails};
+ghost use Rattle.multihash.specs.Refusal.{IsIo, IsOutOfMemory, IsReaderError};
+ghost use Rattle.frame.specs.Frame.{IsFramed, IsFailed, FrontFails, BytesFail, BlockFails, FrameFails, MayFailWith};
 
 mod error;
 
@@ -51,7 +51,8 @@ pub fn read<R: Read>(alloc: Global, r: &mut R, limit: usize) -> Result<Vec<u8>, 
     ensures ok { IfOk result (λ block.
         ConsumesSome (IsFramed block.items) (R.rest r.old) (R.rest r.new)) }
     ensures within { IfOk result (λ block. length block.items ≤ limit) }
-    ensures unfailed { OnOk result (R.failures r.new ≡ R.failures r.old) }
+    ensures faults { CountsReaderFailures (IsFailed IsReaderError) (MayFailWith limit)
+        (R.failures r.old) (R.failures r.new) result }
     ensures err { IfErr result (λ e. FrameFails limit (R.failures r.old) (R.failures r.new) e
         (R.rest r.old) (R.rest r.new)) }
 
@@ -79,7 +80,8 @@ pub fn read_next<R: Read>(
     ensures ok { IfOk result (λ next. IfSome next (λ block.
         ConsumesSome (IsFramed block.items) (R.rest r.old) (R.rest r.new))) }
     ensures within { IfOk result (λ next. IfSome next (λ block. length block.items ≤ limit)) }
-    ensures unfailed { OnOk result (R.failures r.new ≡ R.failures r.old) }
+    ensures faults { CountsReaderFailures (IsFailed IsReaderError) (MayFailWith limit)
+        (R.failures r.old) (R.failures r.new) result }
     ensures end { EndsInNone (R.rest r.old) (R.rest r.new) (R.failures r.old) (R.failures r.new) result }
     ensures err { IfErr result (λ e. FrameFails limit (R.failures r.old) (R.failures r.new) e
         (R.rest r.old) (R.rest r.new)) }

@@ -6,10 +6,11 @@ use Rattle.std.proofs.lemmas.List.{length-map}
 use Rattle.multihash.specs.Pair.{Pair, FitsBuffer, digest_limit}
 use Rattle.multihash.specs.Encoding.{IsEncoding}
 use Rattle.multihash.specs.Streams.{AreConcatenated, ConsumesPairs, StopsAfterPairs}
-use Rattle.multihash.specs.Varint.{VarintError, insufficient, IsVarint}
-use Rattle.multihash.specs.Verdict.{Verdict, accepted, invalid_size, invalid_code, malformed, unexpected_eof, BeginsWithSize, HasHead, HasVerdict, HasWholeVerdict}
+use Rattle.multihash.specs.Varint.{VarintError, insufficient, overflow, not_minimal, IsVarint}
+use Rattle.multihash.specs.Verdict.{Verdict, accepted, invalid_size, invalid_code, malformed, unexpected_eof, BeginsWithSize, HasHead, HasVerdict, HasWholeVerdict, IsIncomplete}
 use Rattle.multihash.specs.Consuming.{ConsumesVarint, ConsumesAtVarintError, FailsBy, VarintFails, ExactFails}
-use Rattle.multihash.proofs.SettlingLemmas.{error_of_part}
+use Rattle.multihash.proofs.SettlingLemmas.{error_of_part, verdict_kept}
+use Rattle.multihash.proofs.ReadConsumingLemmas.{incomplete_error}
 use Rattle.multihash.specs.Fault.{Fault, IsOwnFault, IsUnexpectedEof}
 use Rattle.multihash.specs.Reading.{Consumes, ConsumesFewerThan, HasFewerThan}
 use Rattle.multihash.specs.Scale.{IsScale, HasScaleVerdict}
@@ -50,7 +51,7 @@ read_list_of_encodings S count before after old new pairs bytes more (Ok list) c
     let (left, is, cut) = Consumes-known (bytes ++ more) ok.1.bytes new (sym rest ∙ ok.1.consumes) in
     let long : length (map pair_of list.items) ≡ length pairs = omega (arith, length-map list.items pair_of, ok.0) in
     let told = parts_unique IsEncoding encoding_unique (map pair_of list.items) pairs ok.1.bytes bytes left more long ok.1.concatenated concatenated (sym cut) in
-    (told.0, is ∙ ap Some told.1)
+    (told.0, is ∙ ap Some told.2)
 read_list_of_encodings S count before after old new pairs bytes more (Err e) concatenated fit many rest same ok (inl memory) = memory.0
 read_list_of_encodings S count before after old new pairs bytes more (Err e) concatenated fit many rest same ok (inr stop) =
     absurd (never_stops S count e before new pairs bytes more concatenated fit many
@@ -253,3 +254,48 @@ error_of_unique e f (invalid_size size) h k = h ∙ sym k
 error_of_unique e f (invalid_code code) h k = h ∙ sym k
 error_of_unique e f (malformed error) h k = h ∙ sym k
 error_of_unique e f unexpected_eof h k = cc (h.1, h.2, k.1, k.2)
+
+-- ---- a truncated input
+
+-- a verdict is incomplete, or it is not
+pub incomplete_or_not : (v : Verdict) → IsIncomplete v ⊎ (¬ (IsIncomplete v))
+incomplete_or_not (accepted p) = inr (λ h. h)
+incomplete_or_not (invalid_size size) = inr (λ h. h)
+incomplete_or_not (invalid_code code) = inr (λ h. h)
+incomplete_or_not (malformed insufficient) = inl tt
+incomplete_or_not (malformed overflow) = inr (λ h. h)
+incomplete_or_not (malformed not_minimal) = inr (λ h. h)
+incomplete_or_not unexpected_eof = inl tt
+
+-- a part of an input that starts with an encoding that fits is rejected only if it ends within the encoding
+pub encoding_truncated : (S : ℕ) (p : Pair) (bytes rest part more : List ℕ) (v : Verdict) (e : Refusal) → IsEncoding p bytes → FitsBuffer S p
+    → part ++ more ≡ bytes ++ rest → HasVerdict S part v → IsErrorOf e v → IsVarintError insufficient e ⊎ IsEof e
+encoding_truncated S p bytes rest part more v e encodes fits cut has is =
+    elim (incomplete_or_not v) [
+      | inl ends ↦ incomplete_error e v is ends
+      | inr late ↦ absurd (encoding_no_error S p bytes rest (part ++ more) v e encodes fits cut (verdict_kept S part more v late has) is)
+    ]
+
+-- if reading a list from a part of an input that starts with the list stops, the part ends within the list
+pub list_truncated : (S count before after : ℕ) (same : after ≡ before) (e : Refusal) (pairs : List Pair) (bytes rest part more : List ℕ)
+    (new : Option (List ℕ)) → AreConcatenated pairs bytes → All (FitsBuffer S) pairs → length pairs ≡ count → bytes ++ rest ≡ part ++ more
+    → StopsAfterPairs S count e before after (Some part) new → IsVarintError insufficient e ⊎ IsEof e
+list_truncated S count before after same e pairs bytes rest part more new are fit many cut stop =
+    let (left, is_left, split) = Consumes-known part stop.consumed.bytes stop.following stop.consumed.consumes in
+    let joined : stop.consumed.bytes ++ (left ++ more) ≡ bytes ++ rest =
+    sym (append_assoc stop.consumed.bytes left more) ∙ ap (λ (l : List ℕ). l ++ more) (sym split) ∙ sym cut in
+    let (p, one, after_one, encodes, comes, of_all) = next_part IsEncoding encoding_unique stop.pairs pairs stop.consumed.bytes bytes
+    (left ++ more) rest stop.consumed.concatenated are (omega (arith, stop.fewer, many)) joined in
+    let (v, has, is) = (rw is_left at stop.failed.verdict) same in
+    encoding_truncated S p one after_one left more v e encodes (of_all (FitsBuffer S) fit) comes has is
+
+-- a list was read from a part of an input that starts with it: the rest of the part is left
+pub list_in_part : (S : ℕ) (pairs found : List Pair) (bytes rest part more : List ℕ) (new : Option (List ℕ)) → AreConcatenated pairs bytes
+    → length found ≡ length pairs → bytes ++ rest ≡ part ++ more → ConsumesPairs S found (Some part) new
+    → (left : List ℕ) × (new ≡ Some left) × (found ≡ pairs) × (rest ≡ left ++ more)
+list_in_part S pairs found bytes rest part more new are long cut read =
+    let (left, is_left, split) = Consumes-known part read.bytes new read.consumes in
+    let joined : read.bytes ++ (left ++ more) ≡ bytes ++ rest =
+    sym (append_assoc read.bytes left more) ∙ ap (λ (l : List ℕ). l ++ more) (sym split) ∙ sym cut in
+    let told = parts_unique IsEncoding encoding_unique found pairs read.bytes bytes (left ++ more) rest long read.concatenated are joined in
+    (left, is_left, told.0, sym told.2)

@@ -23,3 +23,9 @@ pub only_error : {T E : Type 0} (r : Result T E) (Q : T → Type 0) (Given Kind 
     → ((e : E) → Kind e → P e) → MatchResult r Q P
 only_error (Ok x) Q Given Kind P given kind weaker = absurd given
 only_error (Err e) Q Given Kind P given kind weaker = weaker e kind
+
+-- what follows from the property that `from_gives` states holds of the error that a `?` returns
+pub if_given : {T E : Type 0} (Given : E → Type 0) (Q : T → Type 0) (P : E → Type 0) (r : Result T E) → IsErrAnd r Given
+    → ((e : E) → Given e → P e) → MatchResult r Q P
+if_given Given Q P (Ok t) given weaker = absurd given
+if_given Given Q P (Err e) given weaker = weaker e given

@@ -48,13 +48,18 @@ module _ {A : Type 0} (IsPart : A → List ℕ → Type 0) where
         let (zs, c, same, others, whole, left) = parts_split xs ys a' b' r s g h (omega arith) first.2 in
         (zs, c, cc (first.0, same), others, cc (a_cut, b_cut, whole, first.1, append_assoc p a' c), left)
 
-    -- two lists of as many items at the front of one input are equal, and so is what follows them
+    -- two lists of as many items at the front of one input are equal, and so are their parts and what follows them
     pub parts_unique : (xs ys : List A) (a b r s : List ℕ) → length xs ≡ length ys → AreParts IsPart xs a → AreParts IsPart ys b
-        → a ++ r ≡ b ++ s → (xs ≡ ys) × (r ≡ s)
+        → a ++ r ≡ b ++ s → (xs ≡ ys) × (a ≡ b) × (r ≡ s)
     parts_unique xs ys a b r s long g h e = by (parts_split xs ys a b r s g h (omega arith) e)
       where
-        by : (zs : List A) × (c : List ℕ) × (ys ≡ xs ++ zs) × AreParts IsPart zs c × (b ≡ a ++ c) × (r ≡ c ++ s) → (xs ≡ ys) × (r ≡ s)
-        by ([], c, same, none, _, left) = (sym (same ∙ append-nil xs), left ∙ ap (λ z. z ++ s) none)
+        by : (zs : List A) × (c : List ℕ) × (ys ≡ xs ++ zs) × AreParts IsPart zs c × (b ≡ a ++ c) × (r ≡ c ++ s)
+            → (xs ≡ ys) × (a ≡ b) × (r ≡ s)
+        by ([], c, same, none, cut, left) = (
+          sym (same ∙ append-nil xs),
+          sym (cut ∙ ap (λ z. a ++ z) none ∙ append-nil a),
+          left ∙ ap (λ z. z ++ s) none,
+        )
         by (z ∷ zs, c, same, _, _, _) = absurd (omega (arith, long, ap length same, length-append xs (z ∷ zs)))
 
     -- after the parts of fewer items comes the part of another item

@@ -19,24 +19,26 @@ use Rattle.storage.specs.Content.{content_pair}
 use Rattle.storage.specs.Log.{IsEntry, EntryFails, HasEntry, AreEntries}
 use Rattle.frame.specs.Frame.{IsFailed}
 use Rattle.frame.specs.declared.error.FrameError.{FrameError}
-use Rattle.frame.proofs.FrameLemmas.{framed_unique, frame_found}
+use Rattle.frame.proofs.FrameLemmas.{frame_found}
+use Rattle.form.specs.FormLaws.{then_unique}
+use Rattle.form.specs.PartLaws.{block_unique}
 
 -- the parts of an entry and of what follows it
-pub entry_cut : (p : Pair) (block bytes more : List ℕ) (h : IsEntry p block bytes) → bytes ++ more ≡ h.encoding ++ (h.framed ++ more)
-entry_cut p block bytes more h = ap (λ (z : List ℕ). z ++ more) h.parts ∙ append_assoc h.encoding h.framed more
+pub entry_cut : (p : Pair) (block bytes more : List ℕ) (h : IsEntry p block bytes) → bytes ++ more ≡ h.first ++ (h.second ++ more)
+entry_cut p block bytes more h = ap (λ (z : List ℕ). z ++ more) h.parts ∙ append_assoc h.first h.second more
 
 -- where an entry comes next, its multihash is read
 module _ (p : Pair) (block bytes more : List ℕ) (h : IsEntry p block bytes) where
   pub hash_read : (S before after : ℕ) (old new : Option (List ℕ)) (e : Refusal) → FitsBuffer S p → old ≡ Some (bytes ++ more) → after ≡ before
       → IfSome old (λ rest. after ≡ before → (v : Verdict) × HasVerdict S rest v × IsErrorOf e v) → ⊥
   hash_read S before after old new e fits rest same verdict =
-      read_of_encoding S before after old new p h.encoding (h.framed ++ more) (Err e) h.encodes fits
+      read_of_encoding S before after old new p h.first (h.second ++ more) (Err e) h.is_first fits
       (rest ∙ ap Some (entry_cut p block bytes more h)) same verdict tt
 
   pub hash_consumed : (q : Pair) (old new : Option (List ℕ)) → old ≡ Some (bytes ++ more) → ConsumesSome (IsEncoding q) old new
-      → (q ≡ p) × (new ≡ Some (h.framed ++ more))
+      → (q ≡ p) × (new ≡ Some (h.second ++ more))
   hash_consumed q old new rest consumed =
-      part_read IsEncoding encoding_unique q p h.encoding (h.framed ++ more) old new consumed h.encodes (rest ∙ ap Some (entry_cut p block bytes more h))
+      part_read IsEncoding encoding_unique q p h.first (h.second ++ more) old new consumed h.is_first (rest ∙ ap Some (entry_cut p block bytes more h))
 
   -- so an entry that fits and is not too long is read, or out of memory
   module _ (S limit before after : ℕ) (old new : Option (List ℕ)) (fits : FitsBuffer S p) (within : length block ≤ limit)
@@ -44,7 +46,7 @@ module _ (p : Pair) (block bytes more : List ℕ) (h : IsEntry p block bytes) wh
     pub entry_fails : (e : FrameError) → EntryFails S limit before after e old new → IsFailed IsOutOfMemory e
     entry_fails e (inl (r, _, fails)) = absurd (hash_read S before after old new r fits rest same fails.verdict)
     entry_fails e (inr (q, left, (_, first), fails)) =
-        frame_found limit before after same e block h.framed h.is_framed within more left new (hash_consumed q old left rest first).1 fails
+        frame_found limit before after same e block h.second h.is_second within more left new (hash_consumed q old left rest first).1 fails
 
     pub rejected_found : {T : Type 0} (P : FrameError → Type 0) (Q : T → Type 0) (r : Result T FrameError) → IsErrAnd r P
         → IfErr r (λ e. EntryFails S limit before after e old new) → MatchResult r Q (IsFailed IsOutOfMemory)
@@ -59,10 +61,10 @@ content_fits content = omega (arith, length-sha256 content)
 pub entry_unique : (p q : Pair) (a b x y r s : List ℕ) → IsEntry p a x → IsEntry q b y → x ++ r ≡ y ++ s
     → (p ≡ q) × (a ≡ b) × (x ≡ y) × (r ≡ s)
 entry_unique p q a b x y r s h k same =
-    let hashes = encoding_unique p q h.encoding k.encoding (h.framed ++ r) (k.framed ++ s) h.encodes k.encodes
-    (sym (entry_cut p a x r h) ∙ (same ∙ entry_cut q b y s k)) in
-    let blocks = framed_unique a b h.framed k.framed r s h.is_framed k.is_framed hashes.2 in
-    (hashes.0, blocks.0, append_cancel_right x y r (same ∙ ap (λ (z : List ℕ). y ++ z) (sym blocks.2)), blocks.2)
+    let hashes : (c d u v : List ℕ) → IsEncoding p c → IsEncoding q d → c ++ u ≡ d ++ v → (p ≡ q) × (u ≡ v) =
+    λ c d u v f g e. let t = encoding_unique p q c d u v f g e in (t.0, t.2) in
+    let told = then_unique (p ≡ q) (a ≡ b) hashes (λ _. block_unique a b) x y r s h k same in
+    (told.0.0, told.0.1, append_cancel_right x y r (same ∙ ap (λ (z : List ℕ). y ++ z) (sym told.1)), told.1)
 
 -- an entry that was read is the one that comes next
 pub entry_found : (p q : Pair) (a b y more : List ℕ) (old new : Option (List ℕ)) → (x : List ℕ) × IsEntry p a x × Consumes old x new

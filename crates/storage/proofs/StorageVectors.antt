@@ -15,11 +15,11 @@ consumed_pair_fits S p old new h = h.0
 one_entry : (block entry : List ℕ) → IsEntry (content_pair block) block entry → ¬ (IsValidPrefix [] entry)
 one_entry block entry is h = omega (
   arith,
-  varint_some (length block) is.is_framed.len is.is_framed.is_len,
+  varint_some (length block) is.is_second.len is.is_second.is_len,
   ap (λ (z : List ℕ). length z) is.parts,
-  length-append is.encoding is.framed,
-  ap (λ (z : List ℕ). length z) is.is_framed.parts,
-  length-append is.is_framed.len block,
+  length-append is.first is.second,
+  ap (λ (z : List ℕ). length z) is.is_second.parts,
+  length-append is.is_second.len block,
   h.longest entry [] (block ∷ [], (entry, [], is, refl, sym (append-nil entry))) (sym (append-nil entry)),
 )
 
@@ -38,9 +38,9 @@ three_zeros h = by h.entries.0 h.entries.1
       ap (λ (z : List ℕ). length z) cut,
       length-append part rest,
       ap (λ (z : List ℕ). length z) is.parts,
-      length-append is.encoding is.framed,
-      ap (λ (z : List ℕ). length z) is.encodes.spelled,
-      length-append is.encodes.code (is.encodes.size ++ sha256 block),
-      length-append is.encodes.size (sha256 block),
+      length-append is.first is.second,
+      ap (λ (z : List ℕ). length z) is.is_first.spelled,
+      length-append is.is_first.code (is.is_first.size ++ sha256 block),
+      length-append is.is_first.size (sha256 block),
       length-sha256 block,
     )

@@ -5,16 +5,13 @@ use Rattle.multihash.specs.Encoding.{IsEncoding}
 use Rattle.multihash.specs.Consuming.{ConsumesSome, FailsInTurn, ReadFails}
 use Rattle.multihash.specs.Streams.{AreParts}
 use Rattle.storage.specs.Content.{content_pair}
+use Rattle.form.specs.Form.{Then}
 use Rattle.frame.specs.Frame.{IsFramed, IsFailed, FrameFails}
 use Rattle.frame.specs.declared.error.FrameError.{FrameError}
 
 -- the bytes are the multihash, and the block with its length before it
-pub record IsEntry (p : Pair) (block bytes : List ℕ) : Type 0 where
-  pub encoding : List ℕ
-  pub framed : List ℕ
-  pub encodes : IsEncoding p encoding
-  pub is_framed : IsFramed block framed
-  pub parts : bytes ≡ encoding ++ framed
+abbrev pub IsEntry : Pair → List ℕ → List ℕ → Type 0
+IsEntry p block = Then (IsEncoding p) (IsFramed block)
 
 -- the encoding of the pair, which fits, was consumed
 abbrev pub ConsumesPair : ℕ → Pair → Option (List ℕ) → Option (List ℕ) → Type 0

@@ -2,12 +2,13 @@
 //! error is passed on, what is reserved, and that memory suffices.
 use examples::any_reader::read_up_to;
 use examples::content_id::{Codec, ContentId, ContentIdError};
-use examples::merkle::{through, write_node};
+use examples::formats::{self, Identifier, Node};
 use examples::std_reader::StdReader;
 use examples::{code_table, loops};
 use fakes::expect::ErrorKind;
 use fakes::streams::{Counts, CountsWrites, Cuts, Drip, FailAt, FailWrite};
 use fakes::{check, check_eq, expect_bytes, expect_ok, expect_rejected};
+use form::{Block, Both, Bytes, Counted, Form, FormError, Number, OneOf, OtherCase, Tag};
 use headline::{list_through, read_verdict};
 use multihash::no_std_io::{Read, Write};
 use multihash::{Error, Multihash};
@@ -29,8 +30,9 @@ enum Reads {
     Coded,
     UpTo(usize),
     Listed,
-    Linked,
     Identifier,
+    Node,
+    FormIdentifier,
     Framed,
     NextFramed,
     Entry,
@@ -52,6 +54,14 @@ fn of_id<T: Drop>(outcome: Result<T, ContentIdError>) -> Result<(), Error> {
     }
 }
 
+pub fn of_form<T: Drop>(outcome: Result<T, FormError>) -> Result<(), Error> {
+    match outcome {
+        Ok(_value) => Ok(()),
+        Err(FormError::Failed(e)) => Err(e),
+        Err(_e) => Ok(()),
+    }
+}
+
 fn done<T: Drop>(outcome: Result<T, Error>) -> Result<(), Error> {
     match outcome {
         Ok(_value) => Ok(()),
@@ -68,8 +78,9 @@ impl Reads {
             Reads::Coded => done(code_table::read::<32, _>(&[18], r)),
             Reads::UpTo(limit) => done(read_up_to::<32, _>(alloc, r, limit)),
             Reads::Listed => done(list_through::<32, 32, _, _>(alloc, &one, &mut out, r)),
-            Reads::Linked => done(through::<32, 32, _, _>(alloc, &one, &[], &mut out, r)),
             Reads::Identifier => of_id(ContentId::<32>::read(r)),
+            Reads::Node => of_form(form::read::<Node, R>(alloc, r)),
+            Reads::FormIdentifier => of_form(form::read::<Identifier, R>(alloc, r)),
             Reads::Framed => of_entry(frame::read(alloc, r, usize::MAX)),
             Reads::NextFramed => of_entry(frame::read_next(alloc, r, usize::MAX)),
             Reads::Entry => of_entry(read_entry::<32, _>(alloc, r, usize::MAX)),
@@ -109,16 +120,20 @@ fn calls_of_readers_are_counted(rt: HostRuntime) {
     let mut entry = [0; 38];
     entry[..34].copy_from_slice(hash);
     entry[34..].copy_from_slice(&BLOCK);
-    let rows: [(Reads, &[u8], [usize; 4]); 12] = [
+    let mut node = [1; 40];
+    node[2..].copy_from_slice(&entry);
+    let rows: [(Reads, &[u8], [usize; 4]); 14] = [
         (Reads::Verdict, hash, [2, 0, 1, 34]),
         (Reads::Coded, hash, [2, 0, 1, 34]),
         (Reads::UpTo(0), hash, [0; 4]),
         (Reads::UpTo(1), hash, [2, 0, 1, 34]),
         (Reads::UpTo(2), hash, [3, 0, 1, 35]),
         (Reads::Listed, hash, [2, 0, 1, 34]),
-        (Reads::Linked, hash, [2, 0, 1, 34]),
         (Reads::Identifier, hash, [2, 0, 1, 34]),
         (Reads::Identifier, &IDENTIFIER, [4, 0, 1, 36]),
+        (Reads::Node, &node, [5, 0, 2, 40]),
+        (Reads::FormIdentifier, hash, [2, 0, 1, 34]),
+        (Reads::FormIdentifier, &IDENTIFIER, [4, 0, 1, 36]),
         (Reads::Framed, &BLOCK, [1, 0, 1, 4]),
         (Reads::NextFramed, &BLOCK, [1, 0, 1, 4]),
         (Reads::Entry, &entry, [3, 0, 2, 38]),
@@ -135,9 +150,31 @@ fn calls_of_readers_are_counted(rt: HostRuntime) {
 enum Writes {
     Framed,
     Entry,
-    Node,
     Version0,
     Version1,
+    FormVersion0,
+}
+
+fn version_0(digest: [u8; 32]) -> Identifier {
+    let value = Both {
+        first: Tag {},
+        second: Bytes { bytes: digest },
+    };
+    OneOf::Second(OtherCase { value })
+}
+
+fn empty_node(alloc: Global) -> Node {
+    Both {
+        first: Number { value: 1 },
+        second: Both {
+            first: Counted {
+                items: Vec::new(alloc),
+            },
+            second: Block {
+                bytes: Vec::new(alloc),
+            },
+        },
+    }
 }
 
 impl Writes {
@@ -146,12 +183,12 @@ impl Writes {
         match self {
             Writes::Framed => frame::write(content, w),
             Writes::Entry => write_entry(&hash, content, w),
-            Writes::Node => write_node(&[hash], content, w),
             Writes::Version0 => ContentId::<32>::V0([7; 32]).write(w),
             Writes::Version1 => match Codec::new(0x55) {
                 Some(codec) => ContentId::V1 { codec, hash }.write(w),
                 None => Ok(()),
             },
+            Writes::FormVersion0 => of_form(version_0([7; 32]).write(w)),
         }
     }
 }
@@ -160,9 +197,9 @@ impl Writes {
 const WRITES: [(Writes, usize); 5] = [
     (Writes::Framed, 2),
     (Writes::Entry, 5),
-    (Writes::Node, 4),
     (Writes::Version0, 3),
     (Writes::Version1, 5),
+    (Writes::FormVersion0, 3),
 ];
 
 fn failing_writer(rt: &impl Abort, alloc: Global, at: usize, why: ErrorKind) -> FailWrite<false> {
@@ -197,8 +234,8 @@ fn nothing_is_read_after_a_failed_write(rt: HostRuntime) {
     for at in 0..3 {
         let mut reader = Counts::new(&IDENTIFIER);
         let mut writer = failing_writer(&rt, alloc, at, why);
-        let failed = through::<32, 32, _, _>(alloc, &one, &[], &mut writer, &mut reader);
-        expect_rejected!(&rt; &failed, why, at);
+        let failed = formats::node_through(alloc, &empty_node(alloc), &mut writer, &mut reader);
+        expect_rejected!(&rt; &of_form(failed), why, at);
         let mut writer = failing_writer(&rt, alloc, at, why);
         let failed = list_through::<32, 32, _, _>(alloc, &one, &mut writer, &mut reader);
         expect_rejected!(&rt; &failed, why, at);
@@ -298,9 +335,6 @@ fn expect_items(rt: &impl Abort, alloc: Global, count: usize) {
     let (out, input) = (&mut Vec::new(alloc), &mut bytes.as_slice());
     let list = expect_ok!(rt; list_through::<4, 4, _, _>(alloc, &items, out, input));
     check_eq!(rt; (list.len(), list.capacity()), (count, count));
-    let (out, input) = (&mut Vec::new(alloc), &mut bytes.as_slice());
-    let list = expect_ok!(rt; through::<4, 4, _, _>(alloc, &items, &[], out, input));
-    check_eq!(rt; (list.len(), list.capacity()), (count, count));
 }
 
 #[test]
@@ -352,4 +386,38 @@ fn a_known_content_is_verified(rt: HostRuntime) {
     let other = expect_ok!(&rt; Multihash::<64>::wrap(0x13, one.digest()));
     check_eq!(&rt; verify(&other, b"one"), Err(UnknownCode { code: 0x13 }));
     check!(&rt; is_damaged(&one, b"two") && !is_damaged(&one, b"one") && !is_damaged(&other, b"two"));
+}
+
+#[test]
+fn known_identifiers_are_read(rt: HostRuntime) {
+    let alloc = rt.alloc();
+    let known: [&[u8]; 2] = [&IDENTIFIER, &LOG[..34]];
+    for bytes in known {
+        let id = expect_ok!(&rt; formats::read_identifier(alloc, bytes));
+        check!(&rt; match &id {
+            OneOf::First(case) => case.value.first.value == 0x55 && case.value.second.digest() == &bytes[4..],
+            OneOf::Second(case) => case.value.second.bytes.as_slice() == &bytes[2..],
+        });
+        expect_bytes!(&rt; &expect_ok!(&rt; form::to_bytes(alloc, &id)), bytes);
+        check_eq!(&rt; form::encoded_len(&id), bytes.len() as u64);
+        for len in 0..bytes.len() {
+            let outcome = formats::read_identifier(alloc, &bytes[..len]);
+            check!(&rt; outcome.is_err_and(|e| e.is_incomplete()), len);
+        }
+    }
+    let outcome = formats::read_identifier(alloc, &LOG);
+    check!(&rt; matches!(outcome, Err(FormError::Trailing(39))));
+    let outcome = formats::read_identifier(alloc, &[2]);
+    check!(&rt; matches!(outcome, Err(FormError::OtherTag(2))));
+}
+
+// The entries of the known log, with the numbers 300 and 6.
+#[test]
+fn numbers_of_entries_are_read(rt: HostRuntime) {
+    let mut log = [6; 76];
+    log[..2].copy_from_slice(&[0xac, 2]);
+    log[2..40].copy_from_slice(&LOG[..38]);
+    log[41..].copy_from_slice(&LOG[38..]);
+    let numbers = expect_ok!(&rt; formats::entry_numbers(rt.alloc(), &log));
+    check!(&rt; matches!(numbers.as_slice(), [300, 6]));
 }

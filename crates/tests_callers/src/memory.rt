@@ -3,13 +3,13 @@
 //! turn: the call then has to return out of memory, and the test fails with `FAILED`.
 ghost use Rattle.std.specs.Prelude.{◌<◌, ◌^◌};
 
-use crate::callers::of_entry;
+use crate::callers::{of_entry, of_form};
 use examples::any_reader::read_up_to;
 use examples::forms::{json, scale, there_and_back};
-use examples::merkle::through;
 use fakes::expect::{ErrorKind, is_rejected};
 use fakes::forms::{CASES, USUAL, case, different};
 use fakes::{check, check_eq, expect_ok};
+use form::Counted;
 use headline::list_through;
 use multihash::list::{read_list, write_list};
 use multihash::no_std_io::Write;
@@ -275,7 +275,9 @@ fn allocating_examples(rt: HostRuntime) -> Result<(), Fail> {
     let rt = &rt;
     let (m, nine) = (content::hash_of::<32>(b"a"), [Multihash::<4>::default(); 9]);
     let (input, mut out) = ([0u8; 18], [0u8; 36]);
-    let (mut read, mut list, mut links) = (input.as_slice(), input.as_slice(), input.as_slice());
+    let mut counted = [0u8; 19];
+    counted[0] = 9;
+    let (mut read, mut list, mut links) = (input.as_slice(), input.as_slice(), counted.as_slice());
     let mut room = out.as_mut_slice();
     unless_failed(
         succeeded(rt, &read_up_to::<4, _>(alloc, &mut read, usize::MAX))
@@ -285,7 +287,7 @@ fn allocating_examples(rt: HostRuntime) -> Result<(), Fail> {
             )
             && succeeded(
                 rt,
-                &through::<4, 4, _, _>(alloc, &nine, &[], &mut room, &mut links),
+                &of_form(form::read::<Counted<Multihash<4>, 9>, &[u8]>(alloc, &mut links)),
             )
             && succeeded(rt, &there_and_back(alloc, m.digest()))
             && succeeded(rt, &scale(alloc, &m))

@@ -1,12 +1,12 @@
-use Rattle.std.proofs.Common.{◌++◌, inl, inr, refl}
-use Rattle.std.proofs.lemmas.Result.{IfOk-weaker, IfErr-weaker, MatchResult-from_both}
+use Rattle.std.proofs.Common.{◌++◌, inl, inr, refl, ◌∙◌}
+use Rattle.std.proofs.lemmas.Result.{IfOk-weaker, IfErr-weaker, MatchResult-from_both, on_ok_weaker}
 use Rattle.multihash.proofs.ReadingLemmas.{Consumes-concatenated}
 use Rattle.multihash.proofs.CallingLemmas.{varint_fails}
 use Rattle.multihash.proofs.OutcomeLemmas.{passed_on, only_error}
 use Rattle.multihash.proofs.StreamLemmas.{part_read}
 use Rattle.frame.specs.Frame.{IsFramed}
 use Rattle.frame.specs.declared.error.FrameError.TheVariants.{Failed}
-use Rattle.frame.proofs.FrameLemmas.{make_framed, framed_unique, frame_found}
+use Rattle.frame.proofs.FrameLemmas.{make_framed, framed_unique, frame_found, frame_faults}
 use Rattle.frame.proofs.read.Goals as goal
 
 pub returns-in_err-len-clause-err : goal.returns-in_err-len-clause-err
@@ -20,6 +20,17 @@ returns-clause-err g c =
     let len = c.in_ok-len.ensures in
     IfErr-weaker c.read_within.result _ _
     (λ e fails. inr (_, _, len.ok, rw len.faults at fails)) c.read_within.ensures.err
+
+pub returns-in_err-len-clause-faults : goal.returns-in_err-len-clause-faults
+returns-in_err-len-clause-faults g c =
+    only_error c.from_residual.result _ _ _ _ c.from_residual.ensures.1 (returns-in_err-len-clause-err g c)
+    (λ e. frame_faults c.args.limit _ _ e _ _)
+
+pub returns-clause-faults : goal.returns-clause-faults
+returns-clause-faults g c =
+    MatchResult-from_both c.read_within.result _ _
+    (on_ok_weaker c.read_within.result (λ same. same ∙ c.in_ok-len.ensures.faults) c.read_within.ensures.unfailed)
+    (IfErr-weaker c.read_within.result _ _ (λ e. frame_faults c.args.limit _ _ e _ _) (returns-clause-err g c))
 
 pub returns-clause-ok : goal.returns-clause-ok
 returns-clause-ok g c =

@@ -5,7 +5,7 @@ use Rattle.multihash.proofs.OutcomeLemmas.{passed_on, only_error}
 use Rattle.multihash.proofs.StreamLemmas.{part_read}
 use Rattle.frame.specs.Frame.{IsFramed}
 use Rattle.frame.specs.declared.error.FrameError.TheVariants.{Failed}
-use Rattle.frame.proofs.FrameLemmas.{make_framed, framed_unique, frame_found}
+use Rattle.frame.proofs.FrameLemmas.{make_framed, framed_unique, frame_found, frame_faults}
 use Rattle.frame.proofs.read_next.Goals as goal
 
 pub returns-in_err-len-clause-err : goal.returns-in_err-len-clause-err
@@ -20,6 +20,16 @@ returns-in_err-block-clause-err g c =
     passed_on c.from_residual-in_err-block.result c.in_err-block.field-0.0 _ _
     c.from_residual-in_err-block.ensures.1
     (inr (_, _, n, rw c.in_ok-len.ensures.faults at c.in_err-block.ensures.err))
+
+pub returns-in_err-len-clause-faults : goal.returns-in_err-len-clause-faults
+returns-in_err-len-clause-faults g c =
+    only_error c.from_residual.result _ _ _ _ c.from_residual.ensures.1 (returns-in_err-len-clause-err g c)
+    (λ e. frame_faults c.args.limit _ _ e _ _)
+
+pub returns-in_err-block-clause-faults : goal.returns-in_err-block-clause-faults
+returns-in_err-block-clause-faults g c =
+    only_error c.from_residual-in_err-block.result _ _ _ _ c.from_residual-in_err-block.ensures.1
+    (returns-in_err-block-clause-err g c) (λ e. frame_faults c.args.limit _ _ e _ _)
 
 pub returns-clause-ok : goal.returns-clause-ok
 returns-clause-ok g c =

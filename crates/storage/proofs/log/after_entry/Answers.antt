@@ -14,12 +14,12 @@ returns-in_default-clause-none c h =
 pub returns-in_default-read_front-clause-none : goal.returns-in_default-read_front-clause-none
 returns-in_default-read_front-clause-none c h =
     let one = hash_consumed _ h.block h.entry h.rest h.is_entry _ _ (Some c.read.new.r.now) (ap Some h.cut) c.in-Ok.ensures.ok in
-    c.in_default-read_front.ensures.found h.block h.is_entry.framed h.rest h.is_entry.is_framed cc
+    c.in_default-read_front.ensures.found h.block h.is_entry.second h.rest h.is_entry.is_second cc
 
 pub returns-then-not-same_as-clause-none : goal.returns-then-not-same_as-clause-none
 returns-then-not-same_as-clause-none c h =
     let one = hash_consumed _ h.block h.entry h.rest h.is_entry _ _ (Some c.read.new.r.now) (ap Some h.cut) c.in-Ok.ensures.ok in
-    let two = c.in-Ok-read_front.ensures.found h.block h.is_entry.framed h.rest h.is_entry.is_framed cc in
+    let two = c.in-Ok-read_front.ensures.found h.block h.is_entry.second h.rest h.is_entry.is_second cc in
     let same : pair_of c.hash_of.result ≡ pair_of c.in-Ok.hash = c.hash_of.ensures ∙ (ap content_pair two.0 ∙ sym one.0) in
     false≢true (sym c.if-not-same_as.true ∙ c.same_as.ensures.1 same)
 
@@ -31,6 +31,6 @@ returns-clause-some c =
     let first = Consumes-cut c.args.bytes.now h.0 c.read.new.r.now h.2 in (
       c.in-Ok-read_front.block.now,
       h.0 ++ framed,
-      record { encoding = h.0; framed = framed; encodes = subst (λ p. IsEncoding p h.0) own h.1; is_framed = is_framed; parts = refl },
+      record { first = h.0; second = framed; is_first = subst (λ p. IsEncoding p h.0) own h.1; is_second = is_framed; parts = refl },
       first ∙ (ap (λ z. h.0 ++ z) second ∙ sym (append_assoc h.0 framed c.in-Ok-read_front.rest.now)),
     )

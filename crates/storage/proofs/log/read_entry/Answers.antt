@@ -1,5 +1,8 @@
-use Rattle.std.proofs.Common.{◌++◌, inl, inr, refl}
-use Rattle.multihash.proofs.ReadingLemmas.{Consumes-concatenated}
+use Rattle.std.proofs.Common.{inl, inr, refl}
+use Rattle.multihash.specs.Encoding.{IsEncoding}
+use Rattle.multihash.specs.Multihash.{pair_of}
+use Rattle.form.proofs.BothLemmas.{then_read}
+use Rattle.frame.specs.Frame.{IsFramed}
 use Rattle.multihash.proofs.OutcomeLemmas.{passed_on}
 use Rattle.frame.specs.declared.error.FrameError.TheVariants.{Failed}
 use Rattle.storage.proofs.LogLemmas.{rejected_found, entry_found}
@@ -20,12 +23,8 @@ returns-in_err-block-clause-err g c =
 
 pub returns-clause-ok : goal.returns-clause-ok
 returns-clause-ok g c =
-    let h = c.in_ok-hash.ensures.ok in
-    let b = c.in_ok-block.ensures.ok in (
-      h.0 ++ b.0,
-      record { encoding = h.0; framed = b.0; encodes = h.1; is_framed = b.1; parts = refl },
-      Consumes-concatenated _ _ _ h.0 b.0 _ refl h.2 b.2,
-    )
+    then_read (IsEncoding (pair_of c.in_ok-hash.hash)) (IsFramed c.in_ok-block.block.items) _ _ _ c.in_ok-hash.ensures.ok
+    c.in_ok-block.ensures.ok
 
 -- ---- an entry that comes next
 

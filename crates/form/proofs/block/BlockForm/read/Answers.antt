@@ -1,5 +1,6 @@
 use Rattle.std.proofs.Common.{arith}
-use Rattle.form.proofs.FormLemmas.{if_given, frame_fails_at, frame_faults}
+use Rattle.multihash.proofs.OutcomeLemmas.{if_given}
+use Rattle.form.proofs.FormLemmas.{frame_fails_at, block_faults}
 use Rattle.form.proofs.block.BlockForm.read.Goals as goal
 
 pub returns-in_err-bytes-clause-err : goal.returns-in_err-bytes-clause-err
@@ -11,4 +12,4 @@ returns-in_err-bytes-clause-err g c =
 pub returns-in_err-bytes-clause-faults : goal.returns-in_err-bytes-clause-faults
 returns-in_err-bytes-clause-faults g c =
     if_given _ _ _ c.from_residual.result c.from_residual.ensures.1
-    (λ e passed. frame_faults g.row.MAX _ _ _ e _ _ passed c.in_err-bytes.ensures.err)
+    (λ e passed. block_faults g.row.MAX _ _ _ e passed c.in_err-bytes.ensures.faults)
