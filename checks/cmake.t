@@ -79,7 +79,7 @@ has_configurations() {
   paste -sd ' ' "$work/names" | tr -s ' ' | diff <(echo "-lmultihash_cd -lmultihash_c ") -
 }
 
-needs=ar try "options of a project" has_options_of_project
+needs="ar" try "options of a project" has_options_of_project
 needs="ninja pkg-config" try "several configurations" has_configurations
 needs=clang try "other systems" systems
 try "flags of a distribution" with_flags
