@@ -73,7 +73,6 @@ all_tests() {
 drawn() {
   local -x MULTIHASH_VERDICTS=$work/drawn/verdicts.tsv
   mkdir "$work/drawn"
-  cp crates/vectors/data/hashes.tsv "$work/drawn"
   crates/vectors/verdicts.py --draw 1 3000 > "$work/drawn/verdicts.tsv"
   "$python" -m unittest discover -s "$here/tests" -k Vectors
 }
