@@ -75,7 +75,7 @@ async function compiledBefore() {
 
 /** Without node:crypto content is hashed by WebCrypto, which pages lack without HTTPS. */
 async function webCrypto(text) {
-  const entries = [{}, { crypto, Blob }].map((globals) => inContext('module.js', '', undefined, globals));
+  const entries = [{}, { crypto, ArrayBuffer, Blob }].map((globals) => inContext('module.js', '', undefined, globals));
   const [without, entry] = await Promise.all(entries);
   for (const each of [without, entry]) each.connect(new Module(bytesOf('multihash.wasm')));
   same(await told(without.sha256.digest(new Uint8Array())),
