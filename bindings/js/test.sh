@@ -57,8 +57,9 @@ packed_script() {
       WebAssembly.Module(require('fs').readFileSync(require.resolve('verified-multihash/multihash.wasm')));
     import('verified-multihash/module').then((found) => console.log(found.connect(compiled), \
       found.decode(Uint8Array.of(2, 0)).code));
-    import('verified-multihash').then((found) => console.log(found.decode(Uint8Array.of(1, 0)).code));" |
-    sort | paste -sd ' ' | grep -x '1 undefined 2'
+    for (const name of ['', '/hashes'])
+      import('verified-multihash' + name).then((found) => console.log(found.decode(Uint8Array.of(1, 0)).code));" |
+    sort | paste -sd ' ' | grep -x '1 1 undefined 2'
 }
 
 # The types of what is packed, which need none of pages.

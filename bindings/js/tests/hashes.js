@@ -35,8 +35,7 @@ async function rowOf(module, hasher, wanted) {
   const multihash = await digest(ABC);
   same(`0x${code.toString(16)}\t${NAMES[code]}\t${hex(multihash.digest)}`, wanted, name);
   same(multihash instanceof module.Multihash, true, name);
-  const { size, bytes } = multihash;
-  for (const claim of [multihash, bytes, { code, size, digest: multihash.digest, bytes }])
+  for (const claim of [multihash, multihash.bytes, structuredClone(multihash)])
     same(`${await verify(claim, ABC)} ${await verify(claim, ABC.subarray(1))}`, 'true false', `verify ${name}`);
   for (const kind of KINDS) same((await digest(kind(ABC))).equals(multihash), true, `${name} of other memory`);
   const input = ABC.slice();
@@ -61,13 +60,16 @@ export async function hashes(module, _, text) {
   for (const each of [identity, sha256, sha384, sha512]) same(hashers[each.name], each, 'a function with a name');
   same(`${CODES.constructor} ${NAMES.toString} ${hashers.valueOf}`, 'undefined undefined undefined', 'not names');
   same([CODES, NAMES, hashers, sha256].every(Object.isFrozen), true, 'constants');
-  Object.prototype[0x1e] = 'SHA-256';
+  Object.prototype.blake3 = 'SHA-256';
   const claim = Multihash.of(0x1e, ABC);
   const missing = await told(verify(claim, ABC));
-  delete Object.prototype[0x1e];
+  delete Object.prototype.blake3;
   same(missing, 'RangeError: this platform has no function for the code 0x1e (blake3)', 'a code without a function');
   same(await told(verify(Multihash.of(0x5555, ABC), ABC)),
     'RangeError: this platform has no function for the code 0x5555', 'a code without a name');
+  const moved = Multihash.of(0, ABC);
+  structuredClone(moved.digest.buffer, { transfer: [moved.digest.buffer] });
+  same((await told(verify(moved, new Uint8Array()))).startsWith('TypeError: '), true, 'a digest that is gone');
   const { digest } = await sha256.digest(ABC);
   const others = [digest.subarray(1), digest.subarray(0, 31), digest.subarray(0, 0), Uint8Array.of(...digest, 0),
     Uint8Array.of(...digest.subarray(0, 31), digest[31] ^ 1)];
