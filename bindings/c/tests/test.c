@@ -28,7 +28,8 @@ static void check_cuts(void)
 /* Each capacity from 0 to more than is needed, and each error of an encoding before those of capacities. */
 static void check_capacities(void)
 {
-    static const uint64_t codes[] = {0, 127, 128, INT64_MAX, (uint64_t)INT64_MAX + 1, UINT64_MAX};
+    static const uint64_t codes[] = {0,       127,     128,       16383,                   16384,
+                                     2097151, 2097152, INT64_MAX, (uint64_t)INT64_MAX + 1, UINT64_MAX};
     static const size_t lengths[] = {0, 1, 32, 127, 128, 255, 256, 300};
     uint8_t digest[300];
     for (size_t i = 0; i < sizeof digest; i++) digest[i] = (uint8_t)(7 * i + 3);
@@ -38,6 +39,16 @@ static void check_capacities(void)
             for (size_t room = 0; room <= 320; room++) check_encodings(codes[i], exact, lengths[k], room);
             release(exact);
         }
+    }
+}
+
+/* Digests of each length up to 80 bytes that differ in one byte, at each place. */
+static void check_orders(void)
+{
+    uint8_t bytes[80];
+    for (size_t i = 0; i < sizeof bytes; i++) bytes[i] = (uint8_t)(7 * i + 3);
+    for (size_t length = 1; length <= sizeof bytes; length++) {
+        for (size_t at = 0; at < length; at++) check_input(at, bytes, length, 2 * at);
     }
 }
 
@@ -109,6 +120,7 @@ static const struct {
 } cases[] = {
     {"cuts", check_cuts},
     {"capacities", check_capacities},
+    {"orders", check_orders},
     {"lengths", check_lengths},
     {"large", check_large},
     {"texts", check_texts},
