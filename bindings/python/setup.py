@@ -22,6 +22,7 @@ COPIES = {
     "portable/multihash.h": "bindings/c/include/multihash.h",
     "tests/not_shown.txt": "checks/lib/not_shown.txt",
     "tests/hashes.tsv": "crates/vectors/data/hashes.tsv",
+    "tests/values.tsv": "crates/vectors/data/values.tsv",
     "tests/verdicts.tsv": "crates/vectors/data/verdicts.tsv",
 }
 SOURCES = ["src/arguments.c", "src/core.c", "src/reader.c", "src/value.c"]

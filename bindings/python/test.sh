@@ -18,7 +18,7 @@ builds() {
   mkdir -p "$clone"/bindings/python/{portable,src/verified_multihash.egg-info}
   tar -c LICENSE bindings/{c,python} checks/lib/not_shown.txt crates/vectors/data | tar -x -C "$clone"
   env -C "$clone/bindings/python" tee LICENSE portable/{{memory,module,multihash}.h,multihash.c} \
-    tests/{earlier.pyc,hashes.tsv,not_shown.txt,verdicts.tsv} src/verified_multihash.egg-info/PKG-INFO < /dev/null
+    tests/{earlier.pyc,{hashes,values,verdicts}.tsv,not_shown.txt} src/verified_multihash.egg-info/PKG-INFO < /dev/null
   echo pack.sh > "$clone/bindings/python/src/verified_multihash.egg-info/SOURCES.txt"
   [ $UID != 0 ] || chown -R 1:2 "$clone"
   chmod -R g+w "$clone"

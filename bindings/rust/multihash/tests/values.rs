@@ -67,9 +67,6 @@ fn parts() {
 
 #[test]
 fn limits() {
-    assert_eq!(text(Multihash::<300>::wrap(1, &[7; 256])), "Invalid multihash size 256.");
-    assert_eq!(text(Multihash::<3>::wrap(u64::MAX, b"abcd")), "Invalid multihash size 4.");
-    assert_eq!(text(Multihash::<4>::wrap(1 << 63, b"abcd")), "Invalid multihash code 9223372036854775808.");
     let error = varint::write(CODE_MAX + 1, &mut SliceWriter::new(&mut [])).expect_err("too large");
     assert_eq!((error.invalid_code(), varint::len(CODE_MAX + 1).is_ok()), (Some(1 << 63), false));
 }

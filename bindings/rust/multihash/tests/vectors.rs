@@ -197,51 +197,81 @@ fn check_order([code, digest, other_code, other, order]: [&str; 5]) {
     assert_eq!(hashes.map(|hash| hash == hash_of(a)), [order.is_eq(); 4]);
 }
 
+/// A code and a digest: both encodings, or the error.
+fn check_value<const S: usize>(code: u64, digest: &[u8], [encoding, scale]: [&str; 2]) {
+    let found = Multihash::<S>::wrap(code, digest);
+    let proved = proved::Multihash::<S>::wrap(code, digest);
+    if let (Ok(multihash), Ok(proved)) = (&found, &proved) {
+        check_writers(multihash, bytes_of(encoding, &mut [0; 1024]));
+        let mut out = [0xa5; 264];
+        let length = proved.scale_encode(&mut SliceWriter::new(&mut out)).expect("enough capacity");
+        assert_eq!(&out[..length], bytes_of(scale, &mut [0; 1024]));
+    } else {
+        check_result(found.as_ref().map(|it| (it.code(), it.digest())), encoding);
+        check_result(proved.as_ref().map(|it| (it.code(), it.digest())), scale);
+    }
+}
+
+/// Calls a function for the capacity that a column names.
+macro_rules! with_capacity {
+    ($name:expr, $call:ident $arguments:tt) => {
+        with_capacity!($name, $call $arguments, 0 1 2 4 16 32 64 128 200 255 256 300)
+    };
+    ($name:expr, $call:ident $arguments:tt, $($size:literal)*) => {
+        match $name {
+            $(stringify!($size) => $call::<$size> $arguments,)*
+            name => panic!("a capacity that this test does not have: {name}"),
+        }
+    };
+}
+
 /// Panics if a line is not what the package finds.
 pub fn check_line(line: &str) {
     let mut columns = line.split('\t');
     let mut next = || columns.next().expect("a column");
-    let size = next();
-    if size == "order" {
-        return check_order([(); 5].map(|()| next()));
-    }
+    let first = next();
     let mut buffer = [0; 1024];
-    let input = bytes_of(next(), &mut buffer);
-    let results = [(); 5].map(|()| next());
-    macro_rules! check {
-        ($($size:literal)*) => {
-            match size {
-                $(stringify!($size) => check::<$size>(input, results),)*
-                _ => panic!("a capacity that this test does not have: {size}"),
-            }
-        };
+    match first {
+        "order" => check_order([(); 5].map(|()| next())),
+        "value" => {
+            let (limit, code) = (next(), next().parse().expect("a code"));
+            let digest = bytes_of(next(), &mut buffer);
+            with_capacity!(limit, check_value(code, digest, [next(), next()]))
+        }
+        size => {
+            let input = bytes_of(next(), &mut buffer);
+            let results = [(); 5].map(|()| next());
+            with_capacity!(size, check(input, results))
+        }
     }
-    check!(0 1 2 4 16 32 64 128 200 255 256 300)
 }
 
-#[test]
-fn vectors() {
-    let beside = concat!(env!("CARGO_MANIFEST_DIR"), "/../../../crates/vectors/data/verdicts.tsv");
-    let path = std::env::var("MULTIHASH_VERDICTS").unwrap_or_else(|_| beside.into());
-    if path == beside && !std::path::Path::new(beside).exists() {
+/// Checks the lines of the list that MULTIHASH_VERDICTS names, or of a list beside it.
+#[cfg(test)]
+fn replay(beside: Option<&str>, columns: &str) {
+    let stored = concat!(env!("CARGO_MANIFEST_DIR"), "/../../../crates/vectors/data/verdicts.tsv");
+    let verdicts = std::env::var("MULTIHASH_VERDICTS").unwrap_or_else(|_| stored.into());
+    if verdicts == stored && !std::path::Path::new(stored).exists() {
         return eprintln!("left out: MULTIHASH_VERDICTS is not set, and the repository is not there");
     }
+    let path = std::path::PathBuf::from(verdicts);
+    let path = beside.map_or(path.clone(), |name| path.with_file_name(name));
     let list = std::fs::read_to_string(path).expect("the list");
     let mut lines = list.lines();
-    assert_eq!(lines.next(), Some("S\tinput\tread\tread_taken\tfrom_bytes\tscale_decode\tscale_taken"));
+    assert_eq!(lines.next(), Some(columns));
     for line in lines {
         println!("{line}"); // shown where the test fails
         check_line(line);
     }
 }
 
-/// Each of these multihashes is less than the next.
 #[test]
-fn order() {
-    let sorted = [(0, "-"), (0, "7a7a"), (1, "62"), (1, "6162"), (1, "6262"), (255, "-"), (256, "-")];
-    for (at, (code, digest)) in sorted.iter().enumerate() {
-        for (to, (other_code, other)) in sorted.iter().enumerate() {
-            check_line(&format!("order\t{code}\t{digest}\t{other_code}\t{other}\t{}", at.cmp(&to) as i8));
-        }
-    }
+fn vectors() {
+    replay(None, "S\tinput\tread\tread_taken\tfrom_bytes\tscale_decode\tscale_taken");
+}
+
+/// Encodings, errors of values, and how values compare.
+#[test]
+fn values() {
+    replay(Some("values.tsv"), "kind\tlimit\tcode\tdigest\tencoding\tscale");
 }
