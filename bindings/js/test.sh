@@ -17,7 +17,7 @@ npm_test() { (cd "$1"; ulimit -t 600; npm test -- "${@:2}"); }
 drawn() {
   local -x MULTIHASH_VERDICTS=$work/drawn/verdicts.tsv
   mkdir "$work/drawn"
-  cp "$vectors/hashes.tsv" "$work/drawn"
+  cp "$vectors"/{hashes,values}.tsv "$work/drawn"
   crates/vectors/verdicts.py --draw 1 3000 > "$work/drawn/verdicts.tsv"
   crates/vectors/verdicts.py --more 1 3000 | sed -n '/^order/p' >> "$work/drawn/verdicts.tsv"
   npm_test "$here" --test-name-pattern=vectors tests/index.test.js

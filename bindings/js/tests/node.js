@@ -165,7 +165,8 @@ async function load(which, compiled) {
 export async function run(which) {
   const compiled = which === 'module' && new Module(bytesOf('multihash.wasm'));
   const module = await load(which, compiled);
-  const texts = [vectors, join(dirname(vectors), 'hashes.tsv')].map((path) => readFileSync(path, 'utf8'));
+  const beside = ['hashes.tsv', 'values.tsv'].map((name) => join(dirname(vectors), name));
+  const texts = [vectors, ...beside].map((path) => readFileSync(path, 'utf8'));
   test('declared', () => declared(module, which));
   if (compiled) for (const check of [compiledBefore, unfit, webCrypto]) test(check.name, () => check(texts[1]));
   if (which === 'index') for (const check of [largeContent, names]) test(check.name, () => check(module));
