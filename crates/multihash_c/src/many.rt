@@ -55,13 +55,16 @@ pub extern "C" fn multihash_read_many(bytes: &[u8], out: &mut [Item]) -> Batch
                 taken,
             };
         }
+        // Offsets and ends of digests are at most the number of bytes.
         out[count] = Item {
             code: found.code,
             digest_offset: taken + found.digest_offset,
             digest_length: found.digest_length,
         };
-        count += 1;
+        // It is at most the number of bytes.
         taken += found.taken;
+        // It is at most the number of items.
+        count += 1;
     }
     Batch {
         status: status::OK,
