@@ -662,7 +662,7 @@ multihash_decoded multihash_from_prefix(const uint8_t *prefix, size_t prefix_len
 
 /* Decodes the multihash whose encoding is at the front of `bytes`, as `read` does for the capacity
  * `limit`. */
-MH_INLINE multihash_decoded mh_read_within(const uint8_t *bytes, size_t bytes_length, size_t limit)
+MH_INLINE multihash_decoded mh_decode_read_within(const uint8_t *bytes, size_t bytes_length, size_t limit)
 {
     const mh_maybe_head maybe_head = mh_head_find_front(bytes, bytes_length);
     if (!maybe_head.is_some) {
@@ -683,14 +683,14 @@ MH_INLINE multihash_decoded mh_read_within(const uint8_t *bytes, size_t bytes_le
 /* Decodes the multihash whose encoding is at the front of `bytes`. */
 multihash_decoded multihash_read(const uint8_t *bytes, size_t bytes_length)
 {
-    return mh_read_within(bytes, bytes_length, MH_DIGEST_MAX);
+    return mh_decode_read_within(bytes, bytes_length, MH_DIGEST_MAX);
 }
 
 /* Decodes the multihash whose encoding is at the front of `bytes`, with a digest of at most `limit`
  * bytes. */
 multihash_decoded multihash_read_limit(const uint8_t *bytes, size_t bytes_length, size_t limit)
 {
-    return mh_read_within(bytes, bytes_length, limit);
+    return mh_decode_read_within(bytes, bytes_length, limit);
 }
 
 /* What `multihash_head` returns. */
@@ -990,6 +990,34 @@ multihash_encoded multihash_put_status_text(uint32_t status, uint8_t *out, size_
     default:
         return mh_put_text((const uint8_t *)"unknown status", 14, out, out_length);
     }
+}
+
+/* ---- multihash_c/src/many.rt
+ * Decoding of many multihashes in one call, for C. */
+
+/* Decodes the multihashes at the front of `bytes`, one after another, until `out` is full, the input ends, or what
+ * follows is no multihash. */
+multihash_batch multihash_read_many(const uint8_t *bytes, size_t bytes_length, multihash_item *out,
+    size_t out_length)
+{
+    size_t count = 0;
+    size_t taken = 0;
+    while (count < out_length && taken < bytes_length) {
+        const multihash_decoded found = mh_decode_read_within(bytes + taken, bytes_length - taken,
+            MH_DIGEST_MAX);
+        if (found.status != MULTIHASH_OK) {
+            return (multihash_batch){.status = found.status, .size = found.size, .count = count,
+                .taken = taken};
+        }
+        /* Offsets and ends of digests are at most the number of bytes. */
+        out[count] = (multihash_item){.code = found.code, .digest_offset = taken + found.digest_offset,
+            .digest_length = found.digest_length};
+        /* It is at most the number of bytes. */
+        taken += found.taken;
+        /* It is at most the number of items. */
+        count += 1;
+    }
+    return (multihash_batch){.status = MULTIHASH_OK, .size = 0, .count = count, .taken = taken};
 }
 
 /* ---- multihash_c/src/status.rt
