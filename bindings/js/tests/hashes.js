@@ -6,6 +6,7 @@ import { KINDS } from './vectors.js';
 const MORE = `
 0x1b	keccak-256	4e03657aea45a94fc7d47ba826c8d667c0d1e6e33a64a036ec44f58fa12d6c45
 0x56	dbl-sha2-256	4f8b42c22dd3729b519ba6f68d2da7cc5b2d606d05daed5ad5128cc03e6c6358
+0xd4	md4	a448017aaf21d8525fc10ae87aa6729d
 0x1053	ripemd-160	8eb208f7e05d987a9b044a8e98c6b087f15a0bfc
 0x534d	sm3-256	66c7f0f462eeedd9d1f2d46bdc10e4e24167c4875cf2f7a2297da02b8f4ba8e0`;
 const ABC = new TextEncoder().encode('abc');
