@@ -103,6 +103,7 @@ core_of() { compgen -G "$core/src/lib.rs" || echo "$rust/$1/lib/libcore-*.rlib";
 
 # the test vectors and drawn inputs, with the results that verdicts.py computes
 crates/vectors/verdicts.py --more 1 10000 > "$work/list"
+cp crates/vectors/data/values.tsv "$work"
 needs=$cargo try "the tests" rust_tests
 needs=$bare try "the tests without std" without_std
 needs="/usr/bin/cargo /usr/bin/rustc $crates" try "the tests with Debian's Rust" debians_rust

@@ -16,7 +16,7 @@ from rt_source import Item, items
 
 TOP = Path(__file__).resolve().parents[1]
 PAGE = TOP / "docs" / "CONTRACTS.md"
-CRATES = ("headline", "multihash", "frame", "form", "multihash_c", "mh_show")
+CRATES = ("theorems", "multihash", "frame", "form", "multihash_c", "mh_show")
 # attributes that no caller can see
 OF_BODIES = re.compile(r"#\[(cold|inline|tactic)\b")
 INTRODUCTION = """\

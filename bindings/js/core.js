@@ -102,6 +102,12 @@ function put(data, name) {
   return length;
 }
 
+/** The value of a hexadecimal digit: 0x30 is the code of 0, 0x41 of A, 0x61 of a. */
+function digitAt(text, index) {
+  const code = text.charCodeAt(index);
+  return (code & 15) + 9 * (code >> 6);
+}
+
 /** The bytes of a text of hexadecimal digits. */
 function unhex(text) {
   if (typeof text !== 'string') throw wrongType('text', 'a string', text);
@@ -110,7 +116,10 @@ function unhex(text) {
     const what = at < 0 ? `an odd number of digits, ${text.length}` : `no hexadecimal digit at index ${at}`;
     throw new MultihashError(`the text has ${what}`, { status: 'not_hexadecimal' });
   }
-  return Uint8Array.from({ length: text.length / 2 }, (_, index) => parseInt(text.slice(2 * index, 2 * index + 2), 16));
+  const bytes = new Uint8Array(text.length / 2);
+  for (let index = 0; index < bytes.length; index++)
+    bytes[index] = 16 * digitAt(text, 2 * index) + digitAt(text, 2 * index + 1);
+  return bytes;
 }
 
 // ---- results
@@ -132,17 +141,24 @@ function copied(at, length) {
   return new Uint8Array((row[length] ??= memory.subarray(at, at + length)));
 }
 
-const DIGITS = Array.from({ length: 256 }, (_, byte) => byte.toString(16).padStart(2, '0'));
+const DIGITS = Uint8Array.from('0123456789abcdef', (digit) => digit.charCodeAt(0));
+const digits = new Uint8Array(2 * LENGTH_MAX);
+const decoder = new TextDecoder();
 
+/** At most LENGTH_MAX bytes in hexadecimal. A text made by additions takes several times as long. */
 function hex(bytes) {
-  let text = '';
-  for (let index = 0; index < bytes.length; index++) text += DIGITS[bytes[index]];
-  return text;
+  for (let index = 0; index < bytes.length; index++) {
+    digits[2 * index] = DIGITS[bytes[index] >> 4];
+    digits[2 * index + 1] = DIGITS[bytes[index] & 15];
+  }
+  return decoder.decode(digits.subarray(0, 2 * bytes.length));
 }
 
 const MAKING = Symbol('making');
 
-/** A code, which names a hash function, and a digest. */
+/**
+ * A code, which names a hash function, and a digest. The fields are not frozen: that would double the time of `decode`.
+ */
 export class Multihash {
   #bytes; // once they were asked for
 

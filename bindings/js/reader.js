@@ -7,9 +7,9 @@ import { sourceOf } from './sources.js';
 export class MultihashReader {
   #source;
   #limit;
-  #bytes; // what was received, and from which index on it belongs to no multihash that was returned
-  #at = 0;
-  #calls = 0; // those that have not ended
+  #bytes; // what was received
+  #at = 0; // the index in it after the last multihash that was returned
+  #calls = 0; // pending calls
   #last = Promise.resolve();
   #isReleased = false; // by its user
   #stop; // ends the call that waits
@@ -23,14 +23,14 @@ export class MultihashReader {
     this.#source = sourceOf(source, 'source');
   }
 
-  /** A copy of the bytes that were received and belong to no multihash that was returned. */
+  /** A copy of the bytes received that belong to no multihash returned so far. */
   get rest() {
     return this.#bytes.slice(this.#at);
   }
 
   /**
-   * Returns the next multihash, or null after the last one. After an error each call gives that error, and the source
-   * is released, as it is after null. Calls that overlap run one after the other.
+   * Returns the next multihash, or null after the last one. After an error each call rejects with that error. After an
+   * error or null the source is released. Calls that overlap run one after the other.
    */
   read() {
     const next = this.#calls++ === 0 ? this.#next() : this.#last.then(() => this.#next());
@@ -78,7 +78,7 @@ export class MultihashReader {
     return multihash;
   }
 
-  /** Waits for a chunk of the source, which `rest` has then. Whether there is none: the source has ended. */
+  /** Waits for a chunk of the source, and appends it to `rest`. Returns whether the source has ended instead. */
   async #receive() {
     const { done, value } = await this.#source.next();
     if (!done) {
@@ -88,7 +88,7 @@ export class MultihashReader {
     return done;
   }
 
-  /** What `read` would give, if that is a multihash and nothing has to be awaited. */
+  /** What `read` would return, if that is a multihash and nothing needs to be awaited. */
   #ready() {
     try {
       return this.#calls === 0 && !this.#end ? this.#received() : undefined;
@@ -98,8 +98,8 @@ export class MultihashReader {
   }
 
   /**
-   * Unlocks a `ReadableStream`, for another reader: `rest` has what was received. `read` gives an error from then on,
-   * and nothing cancels the source.
+   * Unlocks a `ReadableStream` for another reader: `rest` has the bytes received. From then on `read` rejects. The source
+   * is not cancelled.
    */
   release() {
     this.#end ??= () => {
@@ -109,7 +109,7 @@ export class MultihashReader {
     this.#source.release();
   }
 
-  /** Cancels the source, if it was not released. `read` gives null from then on, also where it waits. */
+  /** Cancels the source, if it was not released. From then on `read` returns null, even if it is pending. */
   async cancel(reason) {
     this.#end ??= () => null;
     if (this.#isReleased) return;

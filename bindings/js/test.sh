@@ -17,7 +17,7 @@ npm_test() { (cd "$1"; ulimit -t 600; npm test -- "${@:2}"); }
 drawn() {
   local -x MULTIHASH_VERDICTS=$work/drawn/verdicts.tsv
   mkdir "$work/drawn"
-  cp "$vectors/hashes.tsv" "$work/drawn"
+  cp "$vectors"/{hashes,values}.tsv "$work/drawn"
   crates/vectors/verdicts.py --draw 1 3000 > "$work/drawn/verdicts.tsv"
   crates/vectors/verdicts.py --more 1 3000 | sed -n '/^order/p' >> "$work/drawn/verdicts.tsv"
   npm_test "$here" --test-name-pattern=vectors tests/index.test.js
@@ -57,8 +57,9 @@ packed_script() {
       WebAssembly.Module(require('fs').readFileSync(require.resolve('verified-multihash/multihash.wasm')));
     import('verified-multihash/module').then((found) => console.log(found.connect(compiled), \
       found.decode(Uint8Array.of(2, 0)).code));
-    import('verified-multihash').then((found) => console.log(found.decode(Uint8Array.of(1, 0)).code));" |
-    sort | paste -sd ' ' | grep -x '1 undefined 2'
+    for (const name of ['', '/hashes'])
+      import('verified-multihash' + name).then((found) => console.log(found.decode(Uint8Array.of(1, 0)).code));" |
+    sort | paste -sd ' ' | grep -x '1 1 undefined 2'
 }
 
 # The types of what is packed, which need none of pages.

@@ -18,6 +18,7 @@ COPIES = {
     "tests/codes.tsv": "crates/vectors/data/codes.tsv",
     "tests/hashes.tsv": "crates/vectors/data/hashes.tsv",
     "tests/rows.tsv": "crates/mh_show/rows.tsv",
+    "tests/values.tsv": "crates/vectors/data/values.tsv",
     "tests/verdicts.tsv": "crates/vectors/data/verdicts.tsv",
 }
 if not os.path.exists("PKG-INFO"):

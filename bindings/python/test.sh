@@ -17,7 +17,7 @@ builds() {
   mkdir -p "$clone"/bindings/python/{multihash_c,src/verified_multihash.egg-info}
   tar -c LICENSE bindings/{c,python} crates/mh_show/rows.tsv crates/vectors/data | tar -x -C "$clone"
   env -C "$clone/bindings/python" tee LICENSE multihash_c/multihash.{c,h} \
-    tests/{earlier.pyc,{hashes,rows,verdicts}.tsv} src/verified_multihash.egg-info/PKG-INFO < /dev/null
+    tests/{earlier.pyc,{hashes,rows,values,verdicts}.tsv} src/verified_multihash.egg-info/PKG-INFO < /dev/null
   echo pack.sh > "$clone/bindings/python/src/verified_multihash.egg-info/SOURCES.txt"
   touch "$clone/bindings/python/src/verified_multihash/_core.abi3.so" # of pip install -e
   [ $UID != 0 ] || chown -R 1:2 "$clone"
@@ -73,7 +73,6 @@ all_tests() {
 drawn() {
   local -x MULTIHASH_VERDICTS=$work/drawn/verdicts.tsv
   mkdir "$work/drawn"
-  cp crates/vectors/data/hashes.tsv "$work/drawn"
   crates/vectors/verdicts.py --draw 1 3000 > "$work/drawn/verdicts.tsv"
   "$python" -m unittest discover -s "$here/tests" -k Vectors
 }

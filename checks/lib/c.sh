@@ -12,6 +12,7 @@ c=$top/bindings/c
 source=$c/src/multihash.c
 tests=("$c"/tests/{test,verdicts,models,draws,buffer}.c)
 list=$top/crates/vectors/data/verdicts.tsv
+values=$top/crates/vectors/data/values.tsv
 # what Clang needs for sanitizers and the fuzzer
 clang_runtime=$(clang --rtlib=compiler-rt -print-libgcc-file-name 2> /dev/null || true)
 
@@ -24,6 +25,8 @@ build_and_run() {
   "${@:3}" -I "$c/include" -o "$work/$1"
   # shellcheck disable=SC2086
   prints "$(($(wc -l < "$list") - 1)) lines, drawn: 20000" $2 "$work/$1" "$list" 1 20000
+  # shellcheck disable=SC2086
+  prints "$(($(wc -l < "$values") - 1)) lines" $2 "$work/$1" "$values" 0 0 vectors
 }
 
 # An object, or those of an archive, need no other functions than these, and have no section that is written.

@@ -59,9 +59,9 @@ has_segments() {
     diff <(printf '%s\n' BIND_NOW GNU_RELRO "GNU_STACK RW" "${@:2}") -
 }
 
-# The shared library has its name and its exports.
+# The shared library has its name and its exports. Other words are libraries that it needs.
 has_shared_library() {
-  has_segments "$1" libc.so.6 "libmultihash_c.so.$major"
+  has_segments "$1" "${@:2}" libc.so.6 "libmultihash_c.so.$major"
   exports_exactly "$1" bindings/c/src/multihash_c.map
 }
 

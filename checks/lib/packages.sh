@@ -10,7 +10,7 @@ upstream=$(sed -n 's/^version = "\(.*\)"/\1/p' bindings/rust/multihash/Cargo.tom
 
 # The packages of a folder for an architecture, unpacked together, have what is installed, the licence, and no more.
 has_packages() {
-  local architecture=$2 lib=lib/$3 root=$work/root-$2 package file
+  local architecture=$2 lib=lib/$3 root=$work/root-$2 package file needed=()
   printf '%s\n' "$lib"/libmultihash_c.so.{"$major","$version"} > "$work/files.libmultihash-c1"
   printf '%s\n' bin/mh_show share/man/man1/mh_show.1.gz > "$work/files.mh-show"
   files_in "$lib" | sed -E -e '/\.so\.|mh_show(\.1)?$|\/(changelog|copyright)$/d' -e 's,^\./,,; s/-release\./-none./' \
@@ -29,7 +29,9 @@ has_packages() {
   done
   dpkg-deb -f "$file" Depends | diff - <(echo "libmultihash-c$major (= $version-1)")
   has_modes "$root"
-  has_shared_library "$root/usr/$lib/libmultihash_c.so"
+  # the stack protector of aarch64 is in the dynamic linker
+  [ "$architecture" != arm64 ] || needed=(ld-linux-aarch64.so.1)
+  has_shared_library "$root/usr/$lib/libmultihash_c.so" "${needed[@]}"
   dpkg-deb -I "${file/-dev/$major}" symbols | sed '/^ MULTIHASH_C/d' |
     diff - <(echo "libmultihash_c.so.$major libmultihash-c$major #MINVER#"
       echo "* Build-Depends-Package: libmultihash-c-dev"
@@ -70,7 +72,7 @@ has_library() {
 has_source() {
   local at=$work/multihash_c-$version-source
   tar -xf "$work/release/multihash_c-$version-source.tar.gz" -C "$work"
-  build_and_run source "" cc "${c_flags[@]}" -I "$at" "${tests[@]}" "$at/multihash.c"
+  build_and_run program "" cc "${c_flags[@]}" -I "$at" "${tests[@]}" "$at/multihash.c"
 }
 
 # The package for JavaScript is installed, and decodes.

@@ -15,8 +15,9 @@ import contracts
 
 FORMAT, DIFFERENCES, CONTRACTS = "docs/FORMAT.md", "docs/DIFFERENCES.md", "docs/CONTRACTS.md"
 C, CALLING, HEADER = "bindings/c/README.md", "crates/multihash/CALLING.md", "bindings/c/include/multihash.h"
-PACKED = (C, "bindings/python/README.md")  # their links lead to no other file
 MAN, RUST = "crates/mh_show/mh_show.1", "bindings/rust"
+SHIM, VERIFIED = f"{RUST}/multihash/README.md", f"{RUST}/verified-multihash/README.md"
+PACKED = (C, "bindings/python/README.md", SHIM, VERIFIED)  # their links lead to no other file
 # what a source declares is named on a page
 DECLARED = (
     (HEADER, r"^(?:static inline )?(?:const char \*|\w+ )(multihash_\w+)\(", C),
@@ -24,8 +25,8 @@ DECLARED = (
     ("bindings/js/index.d.ts", r"^export (?:function|class) (\w+)", "bindings/js/README.md"),
     ("bindings/js/hashes.d.ts", r"^export (?:function|const) (\w+)", "bindings/js/README.md"),
     ("bindings/python/src/verified_multihash/__init__.py", r"^    ([A-Z_]+) = [1-6]\b", "bindings/python/README.md"),
-    (f"{RUST}/verified-multihash/Cargo.toml", r"^(std|alloc) =", f"{RUST}/verified-multihash/README.md"),
-    (f"{RUST}/multihash/Cargo.toml", r"^([\w-]+) = \[\"?(?:\]|dep:|ver|serde)", f"{RUST}/multihash/README.md"),
+    (f"{RUST}/verified-multihash/Cargo.toml", r"^(std|alloc) =", VERIFIED),
+    (f"{RUST}/multihash/Cargo.toml", r"^([\w-]+) = \[\"?(?:\]|dep:|ver|serde)", SHIM),
     ("crates/multihash/src/error.rt", r"pub fn (\w+)\(&self\)", FORMAT),
     ("crates.txt", r"^(\w+)[: ]", "docs/ARCHITECTURE.md"),
 )

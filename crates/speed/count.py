@@ -11,7 +11,7 @@
         prints the nanoseconds of each call from C, of these archives or C files, or of the page's
     crates/speed/count.py --package UPSTREAM
         prints the shares of the package for Rust in the instructions of upstream's, which is in this
-        folder: those above 1, and a table. Without docs/SPEED.md, rt and a network
+        folder. Without docs/SPEED.md and rt; without a network it is run by bindings/rust/offline.sh
     crates/speed/count.py --package-time UPSTREAM
         prints the nanoseconds of comparisons of unlike values: of upstream's and of the package for
         Rust, and the share
@@ -146,19 +146,18 @@ def count_package(package: Path, profile: str) -> dict[tuple[str, str], int]:
 
 
 def print_shares(upstream: Path) -> None:
-    """Prints the shares of the package in upstream's instructions: each that is above 1, and a table of all calls."""
-    shares: dict[tuple[str, str], list[float]] = {}
+    """Prints a table of each profile: the largest share of the package in upstream's instructions, by the digest."""
     for profile in PROFILES:
         theirs = count_package(upstream, profile)
-        for call, count in count_package(ROOT / "bindings/rust/multihash", profile).items():
-            shares.setdefault(call, []).append(count / max(theirs[call], 1))
-    for call, row in sorted(shares.items(), key=lambda item: -max(item[1])):
-        if max(row) > 1:
-            print(*call, *(f"{share:.2f}" for share in row))
-    print("| Call | default profile | fat LTO |\n|---|---:|---:|")
-    for name in dict.fromkeys(name for name, _ in shares):
-        columns = zip(*(row for call, row in shares.items() if call[0] == name))
-        print(f"| `{name}` |", " | ".join(f"{min(column):.2f} to {max(column):.2f}" for column in columns), "|")
+        shares: dict[str, dict[int, float]] = {}
+        for (call, of), count in count_package(ROOT / "bindings/rust/multihash", profile).items():
+            row, size = shares.setdefault(call, {}), int(of.split()[1])
+            row[size] = max(row.get(size, 0), count / max(theirs[call, of], 1))
+        sizes = sorted({size for row in shares.values() for size in row})
+        print(f"| Profile {profile} |", *(f"{size} bytes |" for size in sizes))
+        print("|---|" + "---:|" * len(sizes))
+        for call, row in shares.items():
+            print(f"| `{call}` |", *(f"{row[size]:.2f} |" if size in row else "|" for size in sizes))
 
 
 def print_package_times(upstream: Path) -> None:

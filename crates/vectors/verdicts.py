@@ -4,13 +4,13 @@
 It computes them from the rules of docs/FORMAT.md by itself and calls nothing of the library.
 
     crates/vectors/verdicts.py            checks each line
-    crates/vectors/verdicts.py --write    writes the results of the stored inputs, of a new one only the
-                                          capacity and the input are needed
+    crates/vectors/verdicts.py --write    writes the results of the stored inputs and values, of a new one only
+                                          what they are computed from is needed
     crates/vectors/verdicts.py --draw SEED COUNT
                                           prints that many lines of stored inputs that are changed at random
     crates/vectors/verdicts.py --more SEED COUNT
-                                          prints the stored lines, these, one of each first two bytes, and as many
-                                          pairs of multihashes, how they compare, and encodings
+                                          prints the stored lines, of values too, these, one of each first two
+                                          bytes, and as many pairs of multihashes, how they compare, and encodings
 
 Of the first inputs 3000 came from outside. None is there twice with one capacity."""
 import difflib
@@ -29,6 +29,7 @@ import tap
 DEFINITIONS = (TOP / "crates/multihash/specs/Varint.antt").read_text("utf-8")
 STORED = TOP / "crates/vectors/data/verdicts.tsv"
 COLUMNS = ("S", "input", "read", "read_taken", "from_bytes", "scale_decode", "scale_taken")
+VALUES = STORED.with_name("values.tsv")
 
 # The number of the first inputs, and the SHA-256 of these with their capacities, which no bound changes.
 FIRST, SHA256 = 6000, "fe8ecaa6eb54534e0a29677cf6481a9664bb035168e2ac3fde86d63c6488109c"
@@ -106,6 +107,10 @@ def result(call: Callable[[int, bytes], tuple[int, bytes, int]], size: int, data
 RULES = Rules(BITS)
 
 
+def bytes_of(digits: str) -> bytes:
+    return bytes.fromhex(digits.removeprefix("-"))
+
+
 def inputs_of(stored: str) -> list[tuple[str, ...]]:
     return [tuple(line.split("\t")[:2]) for line in stored.splitlines()[1:]]
 
@@ -127,7 +132,7 @@ def drawn(stored: str, seed: int, count: int) -> Iterator[str]:
     yield "\t".join(COLUMNS)
     for _ in range(count):
         (size, data), (_, other) = draw.choices(inputs, k=2)
-        made, other_made = (bytes.fromhex(each.removeprefix("-")) for each in (data, other))
+        made, other_made = bytes_of(data), bytes_of(other)
         for _ in range(draw.randint(1, 4)):
             made = changed(made, other_made, draw)
         yield RULES.line(int(size), made)
@@ -144,6 +149,44 @@ def varint(number: int) -> bytes:
     return bytes([number]) if number < 128 else bytes([number % 128 + 128]) + varint(number // 128)
 
 
+def encodings(code: int, digest: bytes) -> tuple[bytes, bytes]:
+    """Returns the encoding and the SCALE encoding."""
+    length = len(digest)
+    return varint(code) + varint(length) + digest, code.to_bytes(SCALE_CODE, "little") + bytes([length]) + digest
+
+
+def value(limit: int, code: int, digest: bytes) -> str:
+    """Makes a line of both encodings of a multihash, or of the error if there is none, twice."""
+    columns = [f"invalid_size {len(digest)}"] * 2
+    if len(digest) <= min(limit, LONGEST_DIGEST):
+        columns = [f"invalid_code {code}"] * 2
+        if code < RULES.limit:
+            columns = [form.hex() for form in encodings(code, digest)]
+    return "\t".join(["value", str(limit), str(code), digest.hex() or "-", *columns])
+
+
+def order(code: int, digest: bytes, other_code: int, other: bytes) -> str:
+    """Makes a line of two multihashes and how they compare: by code, by length, by the first byte that differs."""
+    left, right = (code, len(digest), digest), (other_code, len(other), other)
+    columns = [f"{code}\t{digest.hex() or '-'}" for code, _, digest in (left, right)]
+    return "\t".join(["order", *columns, str((left > right) - (left < right))])
+
+
+def values_of(stored: str) -> str:
+    """Makes the list of the stored values."""
+    columns, *lines = stored.splitlines()
+    made = [columns]
+    for line in lines:
+        match line.split("\t"):
+            case ["value", limit, code, digest, *_]:
+                made.append(value(int(limit), int(code), bytes_of(digest)))
+            case ["order", code, digest, other_code, other, *_]:
+                made.append(order(int(code), bytes_of(digest), int(other_code), bytes_of(other)))
+            case _:
+                raise ValueError(f"no value and no order: {line}")
+    return "\n".join([*made, ""])
+
+
 def pairs(stored: str, seed: int, count: int) -> Iterator[str]:
     """Makes pairs of multihashes that are equal, or differ in a bit or in the length, and both encodings of one."""
     sizes, draw = [int(size) for size, _ in inputs_of(stored)], random.Random(seed)
@@ -151,18 +194,17 @@ def pairs(stored: str, seed: int, count: int) -> Iterator[str]:
         code, length = draw.getrandbits(draw.randint(1, BITS)), draw.randint(1, draw.choice((64, LONGEST_DIGEST)))
         number = draw.getrandbits(8 * length)
         digest, other = (each.to_bytes(length, "big") for each in (number, number ^ 1 << draw.randrange(8 * length)))
-        for data in varint(code) + varint(length), code.to_bytes(SCALE_CODE, "little") + bytes([length]):
-            yield RULES.line(draw.choice(sizes), data + digest + draw.choice((b"", other)))
+        for data in encodings(code, digest):
+            yield RULES.line(draw.choice(sizes), data + draw.choice((b"", other)))
         others = (code, digest), (code ^ 1 << draw.randrange(BITS), digest), (code, other), (code, digest[1:])
-        both = draw.sample([(code, digest), draw.choice(others)], 2)
-        left, right = ((code, len(digest), digest) for code, digest in both)
-        columns = [f"{code}\t{digest.hex() or '-'}" for code, digest in both]
-        yield "\t".join(["order", *columns, str((left > right) - (left < right))])
+        left, right = draw.sample([(code, digest), draw.choice(others)], 2)
+        yield order(*left, *right)
 
 
 def more(stored: str, seed: int, count: int) -> Iterator[str]:
     """Makes a list of the stored lines and of each other kind."""
     yield from stored.splitlines()
+    yield from VALUES.read_text("utf-8").splitlines()[1:]
     yield from itertools.islice(drawn(stored, seed, count), 1, None)
     yield from of_two_bytes()
     yield from pairs(stored, seed, count)
@@ -176,27 +218,31 @@ def made_of(stored: str) -> str:
         raise ValueError(f"the first {FIRST} inputs are others")
     if len({*inputs}) < len(inputs):
         raise ValueError("an input is there twice with one capacity")
-    lines = (RULES.line(int(size), bytes.fromhex(data.removeprefix("-"))) for size, data in inputs)
+    lines = (RULES.line(int(size), bytes_of(data)) for size, data in inputs)
     return "\n".join(["\t".join(COLUMNS), *lines, ""])
 
 
-def error_of(stored: str) -> str:
+def error_of(path: Path, make: Callable[[str], str]) -> str:
     """Returns how the stored lines differ from those that are made."""
+    stored = path.read_text("utf-8")
     try:
-        lines, made = stored.split("\n"), made_of(stored).split("\n")
+        lines, made = stored.split("\n"), make(stored).split("\n")
         differences = [*difflib.unified_diff(lines, made, lineterm="", n=0)][2:]
         if differences:
-            differences.append(f"crates/vectors/verdicts.py --write writes the results of {STORED.name}")
+            differences.append(f"crates/vectors/verdicts.py --write writes the results of {path.name}")
         return "\n".join(differences)
     except ValueError as error:
         return str(error)
 
 
 def main() -> int:
+    lists = {STORED: made_of, VALUES: values_of}
     stored = STORED.read_text("utf-8")
     match sys.argv[1:]:
         case ["--write"]:
-            return STORED.write_text(made_of(stored), "utf-8") == 0
+            for path, made in lists.items():
+                path.write_text(made(path.read_text("utf-8")), "utf-8")
+            return 0
         case ["--draw" | "--more" as word, seed, lines]:
             make = drawn if word == "--draw" else more
             sys.stdout.writelines(f"{line}\n" for line in make(stored, int(seed), int(lines)))
@@ -204,7 +250,7 @@ def main() -> int:
         case [_, *_]:
             print(__doc__, file=sys.stderr)
             return 2
-    results = [("the results of the stored inputs", error_of(stored))]
+    results = [(f"the results in {path.name}", error_of(path, made)) for path, made in lists.items()]
     return tap.report(results)
 
 

@@ -662,7 +662,7 @@ multihash_decoded multihash_from_prefix(const uint8_t *prefix, size_t prefix_len
 
 /* Decodes the multihash whose encoding is at the front of `bytes`, as `read` does for the capacity
  * `limit`. */
-MH_INLINE multihash_decoded mh_read_within(const uint8_t *bytes, size_t bytes_length, size_t limit)
+MH_INLINE multihash_decoded mh_decode_read_within(const uint8_t *bytes, size_t bytes_length, size_t limit)
 {
     const mh_maybe_head maybe_head = mh_head_find_front(bytes, bytes_length);
     if (!maybe_head.is_some) {
@@ -683,13 +683,15 @@ MH_INLINE multihash_decoded mh_read_within(const uint8_t *bytes, size_t bytes_le
 /* Does what `multihash_read` does, for an input that is not short. */
 MH_COLD multihash_decoded mh_read_longer(const uint8_t *bytes, size_t bytes_length)
 {
-    return mh_read_within(bytes, bytes_length, MH_DIGEST_MAX);
+    return mh_decode_read_within(bytes, bytes_length, MH_DIGEST_MAX);
 }
 
 /* Decodes the multihash whose encoding is at the front of `bytes`. */
 multihash_decoded multihash_read(const uint8_t *bytes, size_t bytes_length)
 {
-    if (mh_is_short(bytes, bytes_length)) return mh_read_within(bytes, bytes_length, MH_DIGEST_MAX);
+    if (mh_is_short(bytes, bytes_length)) {
+        return mh_decode_read_within(bytes, bytes_length, MH_DIGEST_MAX);
+    }
     return mh_read_longer(bytes, bytes_length);
 }
 
@@ -697,7 +699,7 @@ multihash_decoded multihash_read(const uint8_t *bytes, size_t bytes_length)
  * bytes. */
 multihash_decoded multihash_read_limit(const uint8_t *bytes, size_t bytes_length, size_t limit)
 {
-    return mh_read_within(bytes, bytes_length, limit);
+    return mh_decode_read_within(bytes, bytes_length, limit);
 }
 
 /* What `multihash_head` returns. */
@@ -999,16 +1001,44 @@ multihash_encoded multihash_put_status_text(uint32_t status, uint8_t *out, size_
     }
 }
 
+/* ---- multihash_c/src/many.rt
+ * Decoding of many multihashes in one call, for C. */
+
+/* Decodes the multihashes at the front of `bytes`, one after another, until `out` is full, the input ends, or what
+ * follows is no multihash. */
+multihash_batch multihash_read_many(const uint8_t *bytes, size_t bytes_length, multihash_item *out,
+    size_t out_length)
+{
+    size_t count = 0;
+    size_t taken = 0;
+    while (count < out_length && taken < bytes_length) {
+        const multihash_decoded found = mh_decode_read_within(bytes + taken, bytes_length - taken,
+            MH_DIGEST_MAX);
+        if (found.status != MULTIHASH_OK) {
+            return (multihash_batch){.status = found.status, .size = found.size, .count = count,
+                .taken = taken};
+        }
+        /* Offsets and ends of digests are at most the number of bytes. */
+        out[count] = (multihash_item){.code = found.code, .digest_offset = taken + found.digest_offset,
+            .digest_length = found.digest_length};
+        /* It is at most the number of bytes. */
+        taken += found.taken;
+        /* It is at most the number of items. */
+        count += 1;
+    }
+    return (multihash_batch){.status = MULTIHASH_OK, .size = 0, .count = count, .taken = taken};
+}
+
 /* ---- multihash_c/src/status.rt
  * The statuses that a C caller gets. */
-_Static_assert(MULTIHASH_INSUFFICIENT == 1, "The input ends within or before a varint.");
-_Static_assert(MULTIHASH_OVERFLOW == 2, "A varint has more than nine bytes, as every number of 2^63 or more needs.");
-_Static_assert(MULTIHASH_NOT_MINIMAL == 3, "A varint of more than one byte ends in a zero byte.");
-_Static_assert(MULTIHASH_INVALID_SIZE == 4, "A digest is too long, or bytes follow the multihash.");
-_Static_assert(MULTIHASH_OK == 0, "Success.");
-_Static_assert(MULTIHASH_UNEXPECTED_EOF == 6, "The input ends within the digest, or within a fixed-size part of the SCALE form.");
-_Static_assert(MULTIHASH_INVALID_CODE == 5, "A code is 2^63 or more.");
-_Static_assert(MULTIHASH_NO_ROOM == 7, "The buffer is too small.");
+_Static_assert(MULTIHASH_INSUFFICIENT == 1, "MULTIHASH_INSUFFICIENT");
+_Static_assert(MULTIHASH_OVERFLOW == 2, "MULTIHASH_OVERFLOW");
+_Static_assert(MULTIHASH_NOT_MINIMAL == 3, "MULTIHASH_NOT_MINIMAL");
+_Static_assert(MULTIHASH_INVALID_SIZE == 4, "MULTIHASH_INVALID_SIZE");
+_Static_assert(MULTIHASH_OK == 0, "MULTIHASH_OK");
+_Static_assert(MULTIHASH_UNEXPECTED_EOF == 6, "MULTIHASH_UNEXPECTED_EOF");
+_Static_assert(MULTIHASH_INVALID_CODE == 5, "MULTIHASH_INVALID_CODE");
+_Static_assert(MULTIHASH_NO_ROOM == 7, "MULTIHASH_NO_ROOM");
 
 /* ---- multihash_c/src/version.rt
  * The version of the library for C. */

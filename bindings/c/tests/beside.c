@@ -71,3 +71,19 @@ WRITES(multihash_encode, (uint64_t code, const uint8_t *digest, size_t length, u
 WRITES(multihash_scale_encode, (uint64_t code, const uint8_t *digest, size_t length, uint8_t *out, size_t room), code,
        digest, length, out, room)
 WRITES(multihash_put_status_text, (multihash_status status, uint8_t *out, size_t room), status, out, room)
+
+/* The items that both write are the same. */
+NAMES(multihash_batch, multihash_read_many, (const uint8_t *bytes, size_t length, multihash_item *out, size_t room))
+{
+    multihash_batch a = __real_multihash_read_many(bytes, length, out, room), b;
+    multihash_item *other = malloc(room * sizeof *other + 1);
+    CHECK(other != NULL);
+    b = proved_multihash_read_many(bytes, length, other, room);
+    CHECK(a.status == b.status && a.size == b.size && a.count == b.count && a.taken == b.taken);
+    for (size_t i = 0; i < a.count; i++) {
+        CHECK(out[i].code == other[i].code && out[i].digest_offset == other[i].digest_offset);
+        CHECK(out[i].digest_length == other[i].digest_length);
+    }
+    free(other);
+    return a;
+}

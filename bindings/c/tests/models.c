@@ -171,6 +171,25 @@ static void check_back(encoder encode, const uint8_t *bytes, multihash_decoded f
     release(digest);
 }
 
+/* The items are those of a loop over the model of one call, and the other items are unchanged. */
+void check_many(const uint8_t *bytes, size_t length, size_t room)
+{
+    multihash_item *out = (multihash_item *)(void *)marked(room * sizeof *out);
+    multihash_batch batch = multihash_read_many(bytes, length, out, room);
+    multihash_decoded next = decoded(MULTIHASH_OK, 0, 0, 0, 0, 0);
+    size_t count = 0, taken = 0;
+    for (; count < room && taken < length; count++) {
+        next = model_read(bytes + taken, length - taken, length - taken, MULTIHASH_DIGEST_MAX);
+        if (next.status != MULTIHASH_OK) break;
+        CHECK(out[count].code == next.code && out[count].digest_length == next.digest_length);
+        CHECK(out[count].digest_offset == taken + next.digest_offset);
+        taken += next.taken;
+    }
+    CHECK(batch.status == next.status && batch.size == next.size && batch.count == count && batch.taken == taken);
+    check_marks((uint8_t *)out, count * sizeof *out, room * sizeof *out);
+    release((uint8_t *)out);
+}
+
 /* Each decoding of the bytes, and of prefixes that end near the head or the end, also as the front of longer input. */
 void check_decodings(const uint8_t *bytes, size_t length, size_t limit)
 {
@@ -188,6 +207,7 @@ void check_decodings(const uint8_t *bytes, size_t length, size_t limit)
         CHECK(same(multihash_from_prefix(bytes, part, length), model_whole(bytes, part, length)));
         CHECK(same(multihash_from_prefix(bytes, length, part), model_whole(bytes, length, part)));
     }
+    for (size_t room = 0; room <= 3; room++) check_many(bytes, length, room);
     check_back(multihash_encode, bytes, multihash_read(bytes, length));
     check_back(multihash_scale_encode, bytes, multihash_scale_decode(bytes, length));
 }

@@ -42,6 +42,26 @@ static void check_capacities(void)
     }
 }
 
+/* Encodings one after another, of codes and digests of several lengths: all prefixes, with room for each number. */
+static void check_streams(void)
+{
+    static const uint64_t codes[] = {0, 127, 128, 16384, INT64_MAX};
+    static const size_t lengths[] = {0, 1, 32, 127, 128, 255};
+    static const uint8_t digest[MULTIHASH_DIGEST_MAX] = {0};
+    static uint8_t bytes[30 * MULTIHASH_LENGTH_MAX];
+    size_t length = 0;
+    for (size_t i = 0; i < 5; i++) {
+        for (size_t k = 0; k < 6; k++) {
+            length += multihash_encode(codes[i], digest, lengths[k], bytes + length, sizeof bytes - length).length;
+        }
+    }
+    for (size_t part = 0; part <= length; part++) {
+        uint8_t *input = copy_of(bytes, part);
+        for (size_t room = 0; room <= 31; room++) check_many(input, part, room);
+        release(input);
+    }
+}
+
 /* Digests of each length up to 80 bytes that differ in one byte, at each place. */
 static void check_orders(void)
 {
@@ -120,6 +140,7 @@ static const struct {
 } cases[] = {
     {"cuts", check_cuts},
     {"capacities", check_capacities},
+    {"streams", check_streams},
     {"orders", check_orders},
     {"lengths", check_lengths},
     {"large", check_large},

@@ -24,6 +24,7 @@ static_assert(is<decoded(bytes, size_t)>(multihash_from_bytes));
 static_assert(is<decoded(bytes, size_t, size_t)>(multihash_from_prefix));
 static_assert(is<decoded(bytes, size_t)>(multihash_read));
 static_assert(is<decoded(bytes, size_t, size_t)>(multihash_read_limit));
+static_assert(is<multihash_batch(bytes, size_t, multihash_item *, size_t)>(multihash_read_many));
 static_assert(is<multihash_front(bytes, size_t)>(multihash_head));
 static_assert(is<decoded(bytes, size_t)>(multihash_scale_decode));
 static_assert(is<encoded(uint64_t, size_t)>(multihash_encoded_len));
@@ -41,6 +42,10 @@ static_assert(has<decoded, multihash_status, uint64_t, uint64_t, size_t, size_t,
 static_assert(has<encoded, multihash_status, uint64_t, size_t>(&encoded::status, &encoded::size, &encoded::length));
 static_assert(has<multihash_front, multihash_status, uint64_t, uint64_t, size_t>(
     &multihash_front::status, &multihash_front::code, &multihash_front::digest_length, &multihash_front::taken));
+static_assert(has<multihash_item, uint64_t, size_t, size_t>(
+    &multihash_item::code, &multihash_item::digest_offset, &multihash_item::digest_length));
+static_assert(has<multihash_batch, multihash_status, uint64_t, size_t, size_t>(
+    &multihash_batch::status, &multihash_batch::size, &multihash_batch::count, &multihash_batch::taken));
 
 static_assert(!rejects<multihash_from_bytes, out, size_t>);
 static_assert(rejects<multihash_from_bytes, text, size_t>);

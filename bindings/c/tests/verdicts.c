@@ -1,4 +1,4 @@
-/* The test vectors: each line's results are compared with those of the library, and those with the models. */
+/* The test vectors: each line's results are compared with those of the library, those of inputs with the models too. */
 #include "check.h"
 
 #include <inttypes.h>
@@ -44,16 +44,45 @@ static void check_order(const char *const *column)
     CHECK(multihash_compare(code, left, length, other_code, right, other_length) == order);
 }
 
+/* An encoding, or the error, is that of the column. */
+static void check_encoded(encoder encode, uint64_t code, const uint8_t *digest, size_t length, const char *column)
+{
+    uint8_t out[MULTIHASH_LENGTH_MAX], wanted[MULTIHASH_LENGTH_MAX];
+    uint64_t size = 0;
+    multihash_encoded found = encode(code, digest, length, out, sizeof out);
+    if (sscanf(column, "invalid_size %" SCNu64, &size) == 1) {
+        CHECK(found.status == MULTIHASH_INVALID_SIZE && found.size == size);
+    } else if (strncmp(column, "invalid_code ", 13) == 0) {
+        CHECK(found.status == MULTIHASH_INVALID_CODE);
+    } else {
+        CHECK(found.status == MULTIHASH_OK && found.length == parse_hex(column, wanted, sizeof wanted));
+        CHECK(memcmp(out, wanted, found.length) == 0);
+    }
+}
+
+/* A limit, a code, a digest, and both encodings. The encoders have the limit 255: lines that only a smaller one rejects
+ * are left out. */
+static void check_value(const char *const *column)
+{
+    uint8_t digest[300];
+    size_t limit = strtoul(column[0], NULL, 10), length = parse_hex(column[2], digest, sizeof digest);
+    uint64_t code = strtoull(column[1], NULL, 10);
+    if (limit < length && length <= MULTIHASH_DIGEST_MAX) return;
+    check_encoded(multihash_encode, code, digest, length, column[3]);
+    check_encoded(multihash_scale_encode, code, digest, length, column[4]);
+}
+
 /* The other calls than multihash_read_limit have the results for the capacity 255. */
 static void check_line(char *text)
 {
     static uint8_t bytes[LINE_MAX_BYTES / 2];
     const char *column[7];
-    int is_order = strncmp(text, "order\t", 6) == 0, count = is_order ? 6 : 7;
+    int is_order = strncmp(text, "order\t", 6) == 0, is_value = strncmp(text, "value\t", 6) == 0;
+    int count = is_order || is_value ? 6 : 7;
     for (int i = 0; i < count; i++) column[i] = strtok(i == 0 ? text : NULL, "\t\n");
     CHECK(column[count - 1] != NULL && strtok(NULL, "\t\n") == NULL);
-    if (is_order) {
-        check_order(column + 1);
+    if (count == 6) {
+        (is_order ? check_order : check_value)(column + 1);
         return;
     }
     size_t limit = strtoul(column[0], NULL, 10), length = parse_hex(column[1], bytes, sizeof bytes);
@@ -69,11 +98,13 @@ static void check_line(char *text)
 
 void replay(const char *name)
 {
+    static const char inputs[] = "S\tinput\tread\tread_taken\tfrom_bytes\tscale_decode\tscale_taken\n";
+    static const char values[] = "kind\tlimit\tcode\tdigest\tencoding\tscale\n";
     static char text[LINE_MAX_BYTES];
     size_t lines = 0;
     FILE *list = fopen(name, "r");
     CHECK(list != NULL && fgets(text, sizeof text, list) != NULL);
-    CHECK(strcmp(text, "S\tinput\tread\tread_taken\tfrom_bytes\tscale_decode\tscale_taken\n") == 0);
+    CHECK(strcmp(text, inputs) == 0 || strcmp(text, values) == 0);
     for (; fgets(text, sizeof text, list) != NULL; lines++) check_line(text);
     CHECK(fclose(list) == 0);
     printf("%zu lines, ", lines);

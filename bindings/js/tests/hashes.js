@@ -6,6 +6,7 @@ import { KINDS } from './vectors.js';
 const MORE = `
 0x1b	keccak-256	4e03657aea45a94fc7d47ba826c8d667c0d1e6e33a64a036ec44f58fa12d6c45
 0x56	dbl-sha2-256	4f8b42c22dd3729b519ba6f68d2da7cc5b2d606d05daed5ad5128cc03e6c6358
+0xd4	md4	a448017aaf21d8525fc10ae87aa6729d
 0x1053	ripemd-160	8eb208f7e05d987a9b044a8e98c6b087f15a0bfc
 0x534d	sm3-256	66c7f0f462eeedd9d1f2d46bdc10e4e24167c4875cf2f7a2297da02b8f4ba8e0`;
 const ABC = new TextEncoder().encode('abc');
@@ -35,8 +36,7 @@ async function rowOf(module, hasher, wanted) {
   const multihash = await digest(ABC);
   same(`0x${code.toString(16)}\t${NAMES[code]}\t${hex(multihash.digest)}`, wanted, name);
   same(multihash instanceof module.Multihash, true, name);
-  const { size, bytes } = multihash;
-  for (const claim of [multihash, bytes, { code, size, digest: multihash.digest, bytes }])
+  for (const claim of [multihash, multihash.bytes, structuredClone(multihash)])
     same(`${await verify(claim, ABC)} ${await verify(claim, ABC.subarray(1))}`, 'true false', `verify ${name}`);
   for (const kind of KINDS) same((await digest(kind(ABC))).equals(multihash), true, `${name} of other memory`);
   const input = ABC.slice();
@@ -61,13 +61,16 @@ export async function hashes(module, _, text) {
   for (const each of [identity, sha256, sha384, sha512]) same(hashers[each.name], each, 'a function with a name');
   same(`${CODES.constructor} ${NAMES.toString} ${hashers.valueOf}`, 'undefined undefined undefined', 'not names');
   same([CODES, NAMES, hashers, sha256].every(Object.isFrozen), true, 'constants');
-  Object.prototype[0x1e] = 'SHA-256';
+  Object.prototype.blake3 = 'SHA-256';
   const claim = Multihash.of(0x1e, ABC);
   const missing = await told(verify(claim, ABC));
-  delete Object.prototype[0x1e];
+  delete Object.prototype.blake3;
   same(missing, 'RangeError: this platform has no function for the code 0x1e (blake3)', 'a code without a function');
   same(await told(verify(Multihash.of(0x5555, ABC), ABC)),
     'RangeError: this platform has no function for the code 0x5555', 'a code without a name');
+  const moved = Multihash.of(0, ABC);
+  structuredClone(moved.digest.buffer, { transfer: [moved.digest.buffer] });
+  same((await told(verify(moved, new Uint8Array()))).startsWith('TypeError: '), true, 'a digest that is gone');
   const { digest } = await sha256.digest(ABC);
   const others = [digest.subarray(1), digest.subarray(0, 31), digest.subarray(0, 0), Uint8Array.of(...digest, 0),
     Uint8Array.of(...digest.subarray(0, 31), digest[31] ^ 1)];

@@ -169,3 +169,33 @@ export function vectors(module, text) {
     before = found;
   }
 }
+
+/** An encoding in hexadecimal, or the error. */
+function encoded(module, call, code, digest) {
+  try {
+    return hex(call(code, digest));
+  } catch (error) {
+    if (!(error instanceof module.MultihashError)) throw error;
+    return `${error.status} ${error.size ?? error.code}`;
+  }
+}
+
+/** Encodings and how multihashes compare. The limit here is 255: with a smaller one more digests are too long. */
+export function values(module, verdicts, hashes, text) {
+  const [columns, ...lines] = text.trim().split('\n');
+  same(columns, 'kind\tlimit\tcode\tdigest\tencoding\tscale', 'columns');
+  for (const line of lines) {
+    const [kind, ...words] = line.split('\t');
+    if (kind === 'order') {
+      const pairs = [words, words.slice(2)];
+      const [left, right] = pairs.map(([code, digest]) => module.Multihash.of(BigInt(code), unhex(digest)));
+      same(`${module.compare(left, right)} ${left.equals(right)}`, `${words[4]} ${words[4] === '0'}`, line);
+      continue;
+    }
+    const [limit, code, digits, encoding, scale] = words;
+    const digest = unhex(digits);
+    if (digest.length > Number(limit) && digest.length <= 255) continue;
+    same(encoded(module, module.encode, BigInt(code), digest), encoding, line);
+    same(encoded(module, module.scaleEncode, BigInt(code), digest), scale, line);
+  }
+}

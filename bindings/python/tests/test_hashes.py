@@ -1,6 +1,5 @@
 """Names of codes, and multihashes of data: those of hashes.tsv, which other programs computed."""
 
-import contextlib
 import hashlib
 import io
 import mmap
@@ -13,9 +12,13 @@ from unittest.mock import Mock, patch
 
 from verified_multihash import Multihash, MultihashError, hashes
 
-BESIDE = Path(__file__).parent / "verdicts.tsv"
-LIST = Path(os.environ.get("MULTIHASH_VERDICTS", BESIDE)).with_name("hashes.tsv")
-ROWS = [line.split("\t") for line in LIST.read_text("ascii").splitlines()[1:]]
+HERE = Path(__file__).resolve().parent
+# in the repository, or beside this file in an sdist
+DATA = next(path for path in (HERE / "../../../crates/vectors/data", HERE) if path.exists())
+ROWS, NAMED = (
+    [line.split("\t") for line in (DATA / name).read_text("ascii").splitlines()[1:]]
+    for name in ("hashes.tsv", "codes.tsv")
+)
 # of the tests of the Rust crate multihash 0.11.4, which hashed
 THEIRS = {
     "11147c8357577f51d4f0a8d393aa1aaafb28863d9421": b"beep boop",
@@ -41,10 +44,9 @@ class Hashes(unittest.TestCase):
 
     def test_names(self):
         """All names are in a list, or of a family that is. Some builds of hashlib have the functions of `digests`."""
-        rows = [line.split("\t") for line in LIST.with_name("codes.tsv").read_text("ascii").splitlines()[1:]]
-        self.assertEqual({name: int(code, 16) for code, name in rows}, {name: hashes.CODES[name] for _, name in rows})
+        self.assertEqual({name: int(code, 16) for code, name in NAMED}, {name: hashes.CODES[name] for _, name in NAMED})
         families = "blake2b", "blake2s", "skein256", "skein512", "skein1024"
-        listed = {row[1] for row in (*rows, *ROWS)}
+        listed = {row[1] for row in (*NAMED, *ROWS)}
         others = {name for name in hashes.CODES if name.rpartition("-")[0] not in families}
         self.assertLessEqual(others, listed)
         digests = {

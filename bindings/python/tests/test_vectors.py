@@ -9,7 +9,7 @@ from pathlib import Path
 import verified_multihash as vm
 from verified_multihash import MultihashError
 
-BESIDE = Path(__file__).parent / "verdicts.tsv"
+LIST = Path(os.environ.get("MULTIHASH_VERDICTS", Path(__file__).parent / "verdicts.tsv"))
 COLUMNS = "S\tinput\tread\tread_taken\tfrom_bytes\tscale_decode\tscale_taken"
 MORE = bytes(400)
 KINDS = (bytes, bytearray, memoryview)
@@ -35,6 +35,10 @@ def shown(call, *arguments):
         return error.status.name.lower() + number, error.taken, error
     multihash, taken = found if isinstance(found, tuple) else (found, len(arguments[0]))
     return "pair %d %s" % (multihash.code, multihash.digest.hex() or "-"), taken, multihash
+
+
+def bytes_of(digits):
+    return bytes.fromhex(digits.replace("-", ""))
 
 
 def is_for_all(result, size):
@@ -90,7 +94,7 @@ class Vectors(unittest.TestCase):
 
     def check_line(self, line, kind):
         size, data, read, read_taken, whole, scale, scale_taken = line.split("\t")
-        size, data = int(size), bytes.fromhex(data.replace("-", ""))
+        size, data = int(size), bytes_of(data)
         result, taken, found = shown(vm.read, kind(data), size)
         self.assertEqual(result, read)
         self.check_taken(read_taken, taken, found)
@@ -109,9 +113,37 @@ class Vectors(unittest.TestCase):
 
     def test_list(self):
         """Each input is in one kind of buffer."""
-        with open(os.environ.get("MULTIHASH_VERDICTS", BESIDE), encoding="ascii") as file:
-            columns, *lines = file.read().splitlines()
+        columns, *lines = LIST.read_text("ascii").splitlines()
         self.assertEqual(columns, COLUMNS)
         for line, kind in zip(lines, itertools.cycle(KINDS)):
             with self.subTest(line=line):
                 self.check_line(line, kind)
+
+
+class Values(unittest.TestCase):
+    def check_encoding(self, call, code, digest, wanted):
+        try:
+            found = call(code, digest).hex()
+        except MultihashError as error:
+            found = "%s %d" % (error.status.name.lower(), error.size or error.code)
+        self.assertEqual(found, wanted)
+
+    def check_line(self, kind, *columns):
+        if kind == "order":
+            code, digest, other_code, other, order = columns
+            left, right = vm.Multihash(int(code), bytes_of(digest)), vm.Multihash(int(other_code), bytes_of(other))
+            self.assertEqual((vm.compare(left, right), left == right), (int(order), order == "0"))
+            return
+        limit, code, digest, encoding, scale = columns
+        size = len(bytes_of(digest))
+        if size <= int(limit) or size > 255:  # the limit here is 255
+            self.check_encoding(vm.encode, int(code), bytes_of(digest), encoding)
+            self.check_encoding(vm.scale_encode, int(code), bytes_of(digest), scale)
+
+    def test_list(self):
+        """Encodings, errors of values, and how values compare."""
+        columns, *lines = LIST.with_name("values.tsv").read_text("ascii").splitlines()
+        self.assertEqual(columns, "kind\tlimit\tcode\tdigest\tencoding\tscale")
+        for line in lines:
+            with self.subTest(line=line):
+                self.check_line(*line.split("\t"))

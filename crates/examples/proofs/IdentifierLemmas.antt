@@ -55,13 +55,13 @@ parts (version_0 digest) bytes h = record {
   encoded = h.encodes.spelled;
 }
 parts (version_1 codec p) bytes h = record {
-  first = h.version;
-  second = h.codec_bytes;
-  rest = h.encoding;
-  is_first = h.is_version;
-  is_second = h.is_codec;
-  ends = h.encodes;
-  encoded = h.encoded;
+  first = h.first;
+  second = h.is_second.first;
+  rest = h.is_second.second;
+  is_first = h.is_first;
+  is_second = h.is_second.is_first;
+  ends = h.is_second.is_second;
+  encoded = h.parts ∙ ap (λ (z : List ℕ). h.first ++ z) h.is_second.parts;
 }
 
 pub parts_cut : (c : Content) (bytes more : List ℕ) (h : Parts c bytes)
@@ -71,7 +71,7 @@ parts_cut c bytes more h =
     ∙ (append_assoc h.first (h.second ++ h.rest) more
     ∙ ap (λ (z : List ℕ). h.first ++ z) (append_assoc h.second h.rest more))
 
--- the parts make an identifier
+-- the parts make an identifier of version 0
 pub make_version_0 : (version size : ℕ) (digest a b : List ℕ) → version ≡ 0x12 → size ≡ 32
     → length digest ≡ 32 → IsVarint version a → IsVarint size b
     → IsContentId (version_0 digest) (a ++ (b ++ digest))
@@ -84,19 +84,6 @@ make_version_0 version size digest a b is_version is_size whole first second = r
     is_size = subst (λ n. IsVarint n b) (is_size ∙ sym whole) second;
     spelled = refl;
   };
-}
-
-pub make_version_1 : (version codec : ℕ) (p : Pair) (a b encoding : List ℕ) → version ≡ 1
-    → IsVarint version a → IsVarint codec b → IsEncoding p encoding
-    → IsContentId (version_1 codec p) (a ++ (b ++ encoding))
-make_version_1 version codec p a b encoding is_version first second encodes = record {
-  version = a;
-  codec_bytes = b;
-  encoding = encoding;
-  is_version = subst (λ n. IsVarint n a) is_version first;
-  is_codec = second;
-  encodes = encodes;
-  encoded = refl;
 }
 
 -- for the tactics: the multihash of version 0
@@ -156,12 +143,6 @@ module _ (S : ℕ) (c : Content) (bytes more : List ℕ) (id : IsContentId c byt
         | inr (_, later) ↦ hash_found c e h.rest new h.ends fits
             (after_number before after same e _ h.second (h.rest ++ more) (Some left) new Hash h.is_second refl later)
       ]
-
-  pub rejected_found : {T : Type 0} (old new : Option (List ℕ)) (P : ContentIdError → Type 0) (Q : T → Type 0)
-      (r : Result T ContentIdError) → old ≡ Some (bytes ++ more) → IsErrAnd r P
-      → IfErr r (λ e. ContentIdFails S before after e old new) → MatchResult r Q (λ _. ⊥)
-  rejected_found old new P Q (Ok x) rest given fails = absurd given
-  rejected_found old new P Q (Err e) rest given fails = id_fails e old new rest fails
 
 -- two identifiers at the front of one list are equal
 pub one_place : (c d : Content) (a b r s : List ℕ) → IsContentId c a → IsContentId d b → a ++ r ≡ b ++ s

@@ -33,13 +33,17 @@ raw = 0x01 ∷ 0x55 ∷ 0x12 ∷ 0x02 ∷ 7 ∷ 8 ∷ []
 
 names_raw : IsContentId (version_1 0x55 two_bytes) raw
 names_raw = record {
-  version = 0x01 ∷ [];
-  codec_bytes = 0x55 ∷ [];
-  encoding = 0x12 ∷ 0x02 ∷ 7 ∷ 8 ∷ [];
-  is_version = one_byte 1 (omega arith);
-  is_codec = one_byte 0x55 (omega arith);
-  encodes = encodes_two;
-  encoded = refl;
+  first = 0x01 ∷ [];
+  second = 0x55 ∷ 0x12 ∷ 0x02 ∷ 7 ∷ 8 ∷ [];
+  is_first = one_byte 1 (omega arith);
+  is_second = record {
+    first = 0x55 ∷ [];
+    second = 0x12 ∷ 0x02 ∷ 7 ∷ 8 ∷ [];
+    is_first = one_byte 0x55 (omega arith);
+    is_second = encodes_two;
+    parts = refl;
+  };
+  parts = refl;
 }
 
 -- ---- content identifiers

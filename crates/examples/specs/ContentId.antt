@@ -7,6 +7,7 @@ use Rattle.multihash.specs.Encoding.{IsEncoding}
 use Rattle.multihash.specs.Refusal.{Refusal, refusal_text}
 use Rattle.multihash.specs.Consuming.{ConsumesVarint, FailsInTurn, ReadFails, VarintFails, ExactFails}
 use Rattle.multihash.specs.Multihash.{pair_of}
+use Rattle.form.specs.Form.{Then}
 use Rattle.examples.specs.declared.content_id.ContentId.{ContentId}
 use Rattle.examples.specs.declared.content_id.ContentId.TheVariants.{V0, V1}
 use Rattle.examples.specs.declared.content_id.ContentIdError.{ContentIdError}
@@ -28,14 +29,8 @@ pub record IsVersion0 (digest bytes : List ℕ) : Type 0 where
   pub encodes : IsEncoding (record { code = 0x12; digest = digest }) bytes
 
 -- the bytes are the varint of the version, which is 1, the varint of the codec, and the multihash
-pub record IsVersion1 (codec : ℕ) (p : Pair) (bytes : List ℕ) : Type 0 where
-  pub version : List ℕ
-  pub codec_bytes : List ℕ
-  pub encoding : List ℕ
-  pub is_version : IsVarint 1 version
-  pub is_codec : IsVarint codec codec_bytes
-  pub encodes : IsEncoding p encoding
-  pub encoded : bytes ≡ version ++ (codec_bytes ++ encoding)
+abbrev pub IsVersion1 : ℕ → Pair → List ℕ → Type 0
+IsVersion1 codec p = Then (IsVarint 1) (Then (IsVarint codec) (IsEncoding p))
 
 -- the bytes are an identifier of this content
 abbrev pub IsContentId : Content → List ℕ → Type 0

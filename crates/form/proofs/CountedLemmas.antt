@@ -1,4 +1,4 @@
--- What is known of a reading of items that failed.
+-- Reading items failed: for `read_items`.
 use Rattle.std.proofs.Common.{◌≡◌, ℕ, ◌<◌, inl, List, [], ◌∷◌, ◌++◌, length, Option, refl, sym, ap, subst, ◌∙◌, arith}
 use Rattle.std.specs.Io.KnownBytes.{prepend_known}
 use Rattle.multihash.specs.Reading.{Consumes}

@@ -1,4 +1,4 @@
--- What is known of reading each part if it failed.
+-- What `err` and `faults` of `read` state, from the contracts of the library's calls: for `read` of each part.
 use Rattle.std.proofs.Common.{◌≡◌, ℕ, ◌<◌, ◌≤◌, ◌⊎◌, inl, inr, List, [], ◌++◌, length, take, drop, Option, Some, refl, sym, ap, subst, ◌∙◌, append_assoc, append-nil, arith}
 use Rattle.std.specs.Prelude.{IfSome}
 use Rattle.std.proofs.lemmas.Bool.Decides.{leb_tells}
@@ -23,11 +23,11 @@ use Rattle.form.specs.FormError.{IsFailed, IsTruncated, IsErrorOfFrame}
 use Rattle.form.specs.declared.error.FormError.{FormError}
 use Rattle.form.specs.declared.error.FormError.TheVariants.{Failed, TooLong}
 
--- one of two lists is the longer one
+-- one of two numbers is smaller, or not
 shorter : (m n : ℕ) → (m < n) ⊎ (n ≤ m)
 shorter m n = elim (leb_tells n m) [ inl t ↦ inr t.1 | inr f ↦ inl f.1 ]
 
--- the shorter of two lists at the front of one input is at the front of the other
+-- the shorter of two lists at the start of one input is a prefix of the other
 front : (a b x y : List ℕ) → a ++ x ≡ b ++ y → length a ≤ length b → b ≡ a ++ drop (length a) b
 front a b x y cut long =
     let head : List ℕ = take (length a) b in
@@ -39,7 +39,7 @@ front a b x y cut long =
     let is : a ≡ head = (same_cut a head x (back ++ y) as_long joined).0 in
     sym split ∙ ap (λ (l : List ℕ). l ++ back) (sym is)
 
--- from a lemma `.._found` and a lemma `.._truncated`
+-- reading failed: from a lemma such as `number_found`, and one such as `number_truncated`
 pub fails_of : (IsForm : List ℕ → Type 0) (U M S : Type 0) (old : Option (List ℕ))
     → ((bytes more : List ℕ) → U → IsForm bytes → old ≡ Some (bytes ++ more) → M)
     → ((bytes part more : List ℕ) → U → IsForm bytes → bytes ≡ part ++ more → old ≡ Some part → M ⊎ S)
@@ -58,7 +58,7 @@ fails_of IsForm U M S old found truncated = record {
     short M S L few (inl memory) = inl memory
     short M S L few (inr says) = inr (says, few)
 
--- another part comes next, which was read
+-- another part was read than the one that is expected
 pub other_fails : (P R : List ℕ → Type 0) (U M S : Type 0) (old mid : Option (List ℕ))
     → ((a b r s : List ℕ) → P a → R b → a ++ r ≡ b ++ s → ⊥) → ConsumesSome R old mid → FailsAt P U M S old
 other_fails P R U M S old mid other (c, is_c, consumes) = record {
@@ -68,7 +68,7 @@ other_fails P R U M S old mid other (c, is_c, consumes) = record {
       (cut ∙ ap (λ (l : List ℕ). l ++ more) split ∙ append_assoc c left more));
 }
 
--- in other words
+-- reading failed: the same of weaker facts
 pub fails_as : (IsForm : List ℕ → Type 0) (U V M N S T : Type 0) (old : Option (List ℕ)) → (V → U) → (M → N) → (S → T)
     → FailsAt IsForm U M S old → FailsAt IsForm V N T old
 fails_as IsForm U V M N S T old u m t fails = record {
@@ -80,7 +80,7 @@ fails_as IsForm U V M N S T old u m t fails = record {
     mapped M N S T L m t (inl memory) = inl (m memory)
     mapped M N S T L m t (inr (short, few)) = inr (t short, few)
 
--- the reader's failures, behind a `?`
+-- the clause `faults`, of an error that `?` converts
 pub faults_as : (before after : ℕ) (Listed : Refusal → Type 0) (e : Refusal)
     → ((before < after) × IsReaderError e) ⊎ ((after ≡ before) × Listed e)
     → ((before < after) × IsFailed IsReaderError (Failed e)) ⊎ ((after ≡ before) × IsFailed Listed (Failed e))
@@ -117,7 +117,7 @@ exact_fails_at n before after block e old new fails long =
     (λ bytes more same is at. exact_found before after same e n bytes more old new (omega (arith, ap length is, long)) at fails)
     (λ bytes part more same is cut at. inr (inr (exact_truncated before after same e n old new fails)))
 
--- a frame's error that is passed on
+-- the error of a frame, converted by `?`
 frame_failure : (P : Refusal → Type 0) (f : FrameError) (e : FormError) → IsErrorOfFrame f e → IsFrameFailed P f
     → IsFailed P e
 frame_failure P f e passed (cause, is, holds) =

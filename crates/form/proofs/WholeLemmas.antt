@@ -1,4 +1,4 @@
--- What is known of reading a form that comes next, or ends too soon.
+-- Reading a value that comes next, or an input that ends within it: for the calls of `whole`, `laws` and `stream`.
 use Rattle.std.proofs.Common.{◌≡◌, ℕ, ◌<◌, ◌⊎◌, inl, inr, List, [], ◌∷◌, ◌++◌, length, Option, Some, Bool, true, refl, sym, ap, subst, ◌∙◌, append_assoc, append-nil, length-append, arith}
 use Rattle.std.specs.Prelude.{◌==◌, false, Result, Ok, Err, MatchResult, IfOk, IfErr, IsErrAnd}
 use Rattle.std.proofs.lemmas.Bool.{eqb-true, eq-eqb}
@@ -46,7 +46,7 @@ module _ {A E : Type 0} (IsForm : A → List ℕ → Type 0) (Same : A → A →
           | inr short ↦ inl short.0
         ]
 
--- the clause `back` of `through`, where the value was written: W says how the writer may fail
+-- the clause `back` of `through`, if the value was written: W is how the writer may fail
 pub read_back : {A E : Type 0} (IsMemory Own Listed W : E → Type 0) (Found : A → Type 0) (before after : ℕ) (r : Result A E)
     → CountsReaderFailures Own Listed before after r → (after ≡ before → MatchResult r Found IsMemory)
     → MatchResult r Found (λ e. IsMemory e ⊎ W e ⊎ ((before < after) × Own e))
@@ -54,17 +54,17 @@ read_back IsMemory Own Listed W Found before after (Ok y) faults found = found f
 read_back IsMemory Own Listed W Found before after (Err e) (inl failed) found = inr (inr failed)
 read_back IsMemory Own Listed W Found before after (Err e) (inr (same, _)) found = inl (found same)
 
--- what holds of an error holds of the result of a `?` that returns it
+-- what holds of an error holds of the error that a `?` returns, which equals it
 pub if_passed : {T E : Type 0} (P : E → Type 0) (r : Result T E) (e : E) → IsErrAnd r (λ x. x ≡ e) → P e
     → IsErrAnd r P
 if_passed P (Ok x) e is holds = is
 if_passed P (Err x) e is holds = subst P (sym is) holds
 
--- the list in an input that is known
+-- two known inputs that are equal
 pub known_is : (a b : List ℕ) → Some a ≡ Some b → a ≡ b
 known_is a b is = cc
 
--- what the test for the empty list means
+-- a list that `is_empty` is true of
 pub empty_is : (l : List ℕ) (b : Bool) → b ≡ (length l == 0) → b ≡ true → l ≡ []
 empty_is l b is holds = none l (eqb-true (length l) 0 (sym is ∙ holds))
   where
@@ -72,7 +72,7 @@ empty_is l b is holds = none l (eqb-true (length l) 0 (sym is ∙ holds))
     none [] h = refl
     none (x ∷ m) h = absurd (omega (arith, h))
 
--- what its failure means
+-- a list that `is_empty` is false of
 pub not_empty : (l : List ℕ) (b : Bool) → b ≡ (length l == 0) → b ≡ false → l ≡ [] → ⊥
 not_empty l b is fails none =
     let same : b ≡ true = is ∙ eq-eqb (length l) 0 (ap length none) in

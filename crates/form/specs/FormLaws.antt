@@ -1,13 +1,13 @@
--- Two parts, one after the other.
+-- The laws of two parts follow from those of each: for `Both`, `Counted` and `OneOf`.
 use Rattle.std.proofs.Common.{◌≡◌, ◌<◌, ℕ, List, ◌++◌, length, length-append, arith, refl, sym, ap, ◌∙◌, append_assoc}
 use Rattle.form.specs.Form.{Then}
 
--- both have encodings
+-- an encoding exists if one of each part exists
 pub then_exists : {P Q : List ℕ → Type 0} → (a : List ℕ) × P a → (b : List ℕ) × Q b → (bytes : List ℕ) × Then P Q bytes
 then_exists (a, is_a) (b, is_b) =
     (a ++ b, record { first = a; second = b; is_first = is_a; is_second = is_b; parts = refl })
 
--- two forms at the front of one input, if the parts tell S and T
+-- two encodings at the start of one input determine S and T if their parts do, and what follows them is equal
 pub then_unique : {P Q P' Q' : List ℕ → Type 0} (S T : Type 0)
     → ((a b r s : List ℕ) → P a → P' b → a ++ r ≡ b ++ s → S × (r ≡ s))
     → (S → (a b r s : List ℕ) → Q a → Q' b → a ++ r ≡ b ++ s → T × (r ≡ s))
@@ -20,7 +20,7 @@ then_unique S T one two a b r s x y cut =
     let rest = two told.0 x.second y.second r s x.is_second y.is_second told.1 in
     ((told.0, rest.0), rest.1)
 
--- one encoding each, if the parts have
+-- there is only one encoding if each part has only one
 pub then_one : {P Q P' Q' : List ℕ → Type 0} (a b : List ℕ) → ((c d : List ℕ) → P c → P' d → c ≡ d)
     → ((c d : List ℕ) → Q c → Q' d → c ≡ d) → Then P Q a → Then P' Q' b → a ≡ b
 then_one a b one two x y =

@@ -59,8 +59,10 @@ pub fn write_two<A: Form, B: Form, W: Write>(
     second: &B,
     w: &mut W,
 ) -> Result<(), FormError>
-    ensures ok { OnOk result (AppendsSome W.appended (Then (A.is_form first.now) (B.is_form second.now)) w.old w.new) }
-    ensures err { OnErr result (AppendsPrefixOfSome W.appended (Then (A.is_form first.now) (B.is_form second.now)) w.old w.new) }
+    ensures ok { OnOk result (AppendsSome W.appended
+        (Then (A.is_form first.now) (B.is_form second.now)) w.old w.new) }
+    ensures err { OnErr result (AppendsPrefixOfSome W.appended
+        (Then (A.is_form first.now) (B.is_form second.now)) w.old w.new) }
     ensures faults { CountsWriterFailures (λ P. IsFailed (IsIo P)) W.allocates
         (W.failures w.old) (W.failures w.new) (W.full w.new) result }
 {

@@ -1,20 +1,7 @@
-//! Formats made of parts. A [`Form`] is a value with one encoding, written and read by the same type, and what is
-//! proved of the parts holds of the whole: a value that was written is read back, a truncated input is reported as
-//! truncated, and no encoding is a prefix of another.
-//!
-//! | A part | Its encoding |
-//! |---|---|
-//! | [`Multihash<S>`](multihash::Multihash) | as the library writes it |
-//! | `Number` | a varint |
-//! | `Tag<N>` | the varint of `N` |
-//! | `Bytes<N>` | `N` bytes |
-//! | `Block<MAX>` | the varint of the length, and at most `MAX` bytes |
-//! | `Counted<T, MAX>` | the varint of the number of items, and at most `MAX` items |
-//! | `Both<A, B>` | one part, and then the other |
-//! | `OneOf<A, B, M, N>` | the varint of `M` and then an `A`, or the varint of `N` and then a `B` |
-//!
-//! A node of three parts is a type, `Both<Number, Both<Counted<Multihash<64>, 1000>, Block<1_000_000>>>`. The last part
-//! of a format that is the whole of an input may have no length: [`Rest`].
+//! Formats made of parts. A [`Form`] is a value with one encoding, and a format is a type, such as
+//! `Both<Number, Block<1000>>`. What is proved of the parts holds of the whole: a value that was written is read
+//! back, a truncated input is reported as truncated, and no encoding is a prefix of another. `CALLING.md` lists the
+//! parts and the calls.
 #![tactic(auto)]
 
 mod array;

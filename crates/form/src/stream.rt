@@ -37,7 +37,8 @@ impl<R: Read> Stream<R> {
     ///
     /// The reader's own error.
     pub fn is_at_end(&mut self) -> Result<bool, Error>
-        ensures kept { rest_from self.new.ahead (R.rest self.new.inner) ≡ rest_from self.old.ahead (R.rest self.old.inner) }
+        ensures kept { rest_from self.new.ahead (R.rest self.new.inner)
+            ≡ rest_from self.old.ahead (R.rest self.old.inner) }
         ensures end { IfOk result (λ is. IsTrue is → IsAtEnd (rest_from self.old.ahead (R.rest self.old.inner))) }
         ensures always { IfOk result (λ is.
             rest_from self.old.ahead (R.rest self.old.inner) ≡ Some [] → IsTrue is) }

@@ -9,8 +9,8 @@ use std::alloc::Global;
 
 /// The number `N`, which is below 2^63, such as a version or the code of a format. Its encoding is its varint.
 ///
-/// `read` returns the errors of [`varint::read`], and [`FormError::OtherTag`] with the number that comes next if that is
-/// not `N`.
+/// `read` returns the errors of [`varint::read`], and [`FormError::OtherTag`] with the number that comes next if that
+/// is not `N`.
 #[derive(Clone, Copy, Debug)]
 pub struct Tag<const N: u64> {
     pub ghost in_range: { N < varint_limit },

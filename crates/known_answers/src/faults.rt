@@ -1,7 +1,7 @@
 //! Readers and writers that fail, are short or fill up, at each call.
 
 use crate::inputs::{Call, print_input};
-use crate::page::{Answers, Bytes, Page, Pairs, found, written};
+use crate::page::{Answers, Bytes, Page, Pairs, found, rows, written};
 use crate::streams::STREAM;
 use anyhow::Result;
 use fakes::expect::ErrorKind;
@@ -12,6 +12,8 @@ use multihash::{Error, Multihash};
 use std::alloc::Global;
 
 type Mh = Multihash<4>;
+
+const SCALE: [u8; 12] = [44, 1, 0, 0, 0, 0, 0, 0, 2, 65, 66, 9];
 
 // The call that writes what the other reads.
 fn write<W: Write>(alloc: Global, call: Call, w: &mut W) -> Result<String, Error> {
@@ -40,17 +42,13 @@ fn print_reads(page: &mut Page, call: Call, input: &[u8]) -> Result<()> {
     }
     let mut reader = FailAt::new(Cuts::new(input, 1), 0, ErrorKind::LINK_DOWN);
     let _failed = call.make::<4, _>(alloc, &mut reader);
-    let outcome = call.make::<4, _>(alloc, &mut reader);
-    page.row(
-        &"at call 1, read again",
-        &found(alloc, &outcome, reader.cuts.left)?,
-    )?;
-    let mut reader = Silent(input);
-    let outcome = call.make::<4, _>(alloc, &mut reader);
-    page.row(
-        &"a reader of unknown input",
-        &found(alloc, &outcome, reader.0)?,
-    )?;
+    let again = call.make::<4, _>(alloc, &mut reader);
+    let mut silent = Silent(input);
+    let unknown = call.make::<4, _>(alloc, &mut silent);
+    rows!(page;
+        "at call 1, read again" => found(alloc, &again, reader.cuts.left)?,
+        "a reader of unknown input" => found(alloc, &unknown, silent.0)?,
+    );
     print_input::<4>(page, call, input)
 }
 
@@ -80,10 +78,7 @@ fn print_writes(page: &mut Page, call: Call, len: usize) -> Result<()> {
         let mut places = vec![in alloc; 0; room]?;
         let outcome = write(alloc, call, &mut places.as_mut_slice());
         answers.add("; ", written(alloc, &outcome, &places)?)?;
-        page.row(
-            &format_args!("room for {room}, a slice of {room}"),
-            &answers.text,
-        )?;
+        rows!(page; format_args!("room for {room}, a slice of {room}") => answers.text);
     }
     Ok(())
 }
@@ -91,12 +86,7 @@ fn print_writes(page: &mut Page, call: Call, len: usize) -> Result<()> {
 pub fn print_faults(page: &mut Page) -> Result<()> {
     let calls: [(Call, &str, &str, &[u8]); 3] = [
         (Call::Read, "read", "write", &[172, 2, 2, 65, 66, 9]),
-        (
-            Call::ScaleDecode,
-            "scale_decode",
-            "scale_encode",
-            &[44, 1, 0, 0, 0, 0, 0, 0, 2, 65, 66, 9],
-        ),
+        (Call::ScaleDecode, "scale_decode", "scale_encode", &SCALE),
         (Call::ReadList(2), "read_list", "write_list", &STREAM),
     ];
     for (call, reads, writes, input) in calls {

@@ -6,18 +6,18 @@ use anyhow::Result;
 use multihash::Multihash;
 use serde_json::Value;
 
-const DIGEST: &str =
+// Each text is separated by a blank.
+const TEXTS: &str =
     "[18,32,159,228,204,198,222,22,114,79,58,48,199,232,242,84,243,198,71,25,134,172,177,248,\
-    216,207,142,150,206,42,215,219,231,251]";
+    216,207,142,150,206,42,215,219,231,251] [0,256] [0,1.0] \"AA\" [0,-1] [] [0,0,7]";
 
-// Separated by blanks.
-const TEXTS: &str = "[0,256] [0,1.0] \"AA\" [0,-1] [] [0,0,7]";
-
-const SHORT: &str = "null true {} [[0]] [0,\"0\"] [0,null] [0,3,256] [0,3] [0,2,9] [128,0]";
+const SHORT: &str =
+    "null true {} [[0]] [0,\"0\"] [0,null] [0,3,256] [0,3] [0,2,9] [128,0] [256] [0,0,0,0.0] \
+    [0,0,18446744073709551616]";
 
 const KINDS: &str =
-    "null true false 0 7 255 256 18446744073709551615 -1 -9223372036854775808 0.5 1.0 1e300 \
-    \"\" \"0\" [] [0] {} {\"0\":0}";
+    "null true false 0 7 255 256 18446744073709551615 -1 -9223372036854775808 -0 0.5 1.0 1e300 \
+    \"\" \"0\" [] [0] [[]] {} {\"0\":0}";
 
 fn print_text<const S: usize>(page: &mut Page, text: &str) -> Result<()>
     requires { S < 2 ^ 16 }
@@ -29,7 +29,6 @@ fn print_text<const S: usize>(page: &mut Page, text: &str) -> Result<()>
 
 pub fn print_json(page: &mut Page) -> Result<()> {
     page.heading(&"JSON values")?;
-    print_text::<32>(page, DIGEST)?;
     for text in TEXTS.split(' ') {
         print_text::<32>(page, text)?;
     }

@@ -113,11 +113,8 @@ impl Answers {
 
     pub fn add(&mut self, way: &str, answer: String) -> anyhow::Result<()> {
         if answer != self.last {
-            write!(
-                self.text,
-                "{}{answer}",
-                if self.text.is_empty() { "" } else { way }
-            )?;
+            let way = if self.text.is_empty() { "" } else { way };
+            write!(self.text, "{way}{answer}")?;
             self.last = answer;
         }
         Ok(())

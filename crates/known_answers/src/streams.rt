@@ -20,6 +20,7 @@ pub fn print_lists(page: &mut Page) -> Result<()> {
     print_input::<4>(page, Call::ReadList(3), &STREAM)?;
     print_input::<4>(page, Call::ReadList(0), &[5])?;
     print_input::<1>(page, Call::ReadList(2), &[0, 1, 65, 0, 2, 66, 67])?;
+    print_input::<4>(page, Call::ReadList(usize::MAX / 2), &STREAM)?;
     print_input::<4>(page, Call::ReadList(usize::MAX), &STREAM)?;
     let list = Pairs(vec![in alloc; Multihash::<4>::wrap(0, b"A")?, Multihash::wrap(18, b"B")?]?);
     let mut held = Vec::new(alloc);
@@ -85,6 +86,7 @@ pub fn print_writers(page: &mut Page) -> Result<()> {
         "<Vec<u8> as Write>::ALLOCATES" => <Vec<u8> as Write>::ALLOCATES,
         "<&mut Vec<u8> as Write>::ALLOCATES" => <&mut Vec<u8> as Write>::ALLOCATES,
         "<&mut [u8] as Write>::ALLOCATES" => <&mut [u8] as Write>::ALLOCATES,
+        "<&mut &mut [u8] as Write>::ALLOCATES" => <&mut &mut [u8] as Write>::ALLOCATES,
     );
     print_places::<4>(page, b"ABC", 4)?;
     print_places::<4>(page, b"ABC", 5)?;

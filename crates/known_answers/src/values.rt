@@ -51,12 +51,10 @@ fn print_value<const S: usize>(page: &mut Page, code: u64, digest: &[u8]) -> Res
     let mut scale = Vec::new(alloc);
     let count = m.scale_encode(&mut scale);
     let value = m.to_value(alloc)?;
+    let members = value.as_array().map_or(0, |members| members.len());
     let mut json = value.to_string(alloc)?;
     if json.len() > 150 {
-        json = format!(in alloc;
-            "{} members",
-            value.as_array().map_or(0, |members| members.len())
-        )?;
+        json = format!(in alloc; "{members} members")?;
     }
     let mut answers = Answers::new(alloc);
     for form in FORMS {
@@ -75,51 +73,27 @@ fn print_value<const S: usize>(page: &mut Page, code: u64, digest: &[u8]) -> Res
     Ok(())
 }
 
-const DIGEST: [u8; 32] = [
-    159, 228, 204, 198, 222, 22, 114, 79, 58, 48, 199, 232, 242, 84, 243, 198, 71, 25, 134, 172,
-    177, 248, 216, 207, 142, 150, 206, 42, 215, 219, 231, 251,
-];
+macro_rules! values {
+    ($page:expr; $($capacity:literal: $code:expr, $digest:expr;)+) => {
+        { $(print_value::<$capacity>($page, $code, $digest)?;)+ }
+    };
+}
 
 pub fn print_values(page: &mut Page) -> Result<()> {
     page.heading(&"Values: each form, and what is read back")?;
-    for code in [
-        0, 1, 127, 128, 255, 256, 300, 16383, 16384, 2097151, 2097152,
-    ] {
-        print_value::<4>(page, code, &[])?;
-    }
-    for code in [1 << 56, (1 << 63) - 1, 1 << 63, u64::MAX] {
-        print_value::<4>(page, code, &[])?;
-    }
-    for (code, digest) in [
-        (0, [1, 2, 3, 4].as_slice()),
-        (0, b"A"),
-        (18, b"B"),
-        (300, b"AB"),
-        (0, b"ab"),
-    ] {
-        print_value::<4>(page, code, digest)?;
-    }
-    print_value::<300>(page, 0, b"ab")?;
-    print_value::<4>(page, 72623859790382856, &[0xaa])?;
-    print_value::<32>(page, 0, b"hello world")?;
-    print_value::<64>(page, 0, b"hello world")?;
-    print_value::<32>(page, 18, &DIGEST)?;
-    print_value::<64>(page, 18, b"my digest")?;
-    for len in [127, 128, 255] {
-        print_value::<300>(page, 0, [0; 300].get(..len).unwrap_or(&[]))?;
-    }
-    print_value::<128>(page, 1 << 56, &[0x41; 128])?;
-    print_value::<255>(page, (1 << 63) - 1, &[0x41; 255])?;
-    print_rejected(page)
-}
-
-fn print_rejected(page: &mut Page) -> Result<()> {
-    print_value::<2>(page, 0, b"foobar")?;
-    print_value::<2>(page, u64::MAX, b"foobar")?;
-    print_value::<128>(page, 0, &[0; 129])?;
-    print_value::<128>(page, 1 << 63, &[0x41; 128])?;
-    print_value::<300>(page, 0, &[0; 256])?;
-    print_value::<300>(page, 0, &[0; 300])?;
+    values!(page;
+        4: 0, &[]; 4: 1, &[]; 4: 127, &[]; 4: 128, &[]; 4: 255, &[]; 4: 256, &[]; 4: 300, &[]; 4: 16383, &[];
+        4: 16384, &[]; 4: 2097151, &[]; 4: 2097152, &[]; 4: 1 << 56, &[]; 4: (1 << 63) - 1, &[];
+        4: 1 << 63, &[]; 4: u64::MAX, &[];
+        4: 0, &[1, 2, 3, 4]; 4: 0, b"A"; 4: 18, b"B"; 4: 300, b"AB"; 4: 0, b"ab"; 300: 0, b"ab";
+        4: 72623859790382856, &[0xaa]; 32: 0, b"hello world"; 64: 0, b"hello world";
+        32: 18, &[159, 228, 204, 198, 222, 22, 114, 79, 58, 48, 199, 232, 242, 84, 243, 198, 71, 25, 134, 172, 177, 248,
+            216, 207, 142, 150, 206, 42, 215, 219, 231, 251];
+        64: 18, b"my digest"; 300: 0, &[0; 127]; 300: 0, &[0; 128]; 300: 0, &[0; 255];
+        128: 1 << 56, &[0x41; 128]; 255: (1 << 63) - 1, &[0x41; 255];
+        2: 0, b"foobar"; 2: u64::MAX, b"foobar"; 128: 0, &[0; 129]; 128: 1 << 63, &[0x41; 128];
+        300: 0, &[0; 256]; 300: 0, &[0; 300];
+    );
     let empty = Multihash::<32>::default();
     rows!(page;
         "default::<32>().to_bytes()" => Bytes(&empty.to_bytes(page.alloc)?),
@@ -156,7 +130,8 @@ pub fn print_truncated(page: &mut Page) -> Result<()> {
     page.heading(&"m = wrap::<64>(0, \"foobar\")")?;
     let m = Multihash::<64>::wrap(0, b"foobar")?;
     let foo = Multihash::<64>::wrap(0, b"foo")?;
-    let is_alike = hash_of(&foo) == hash_of(&(0u64, b"foo".as_slice()));
+    let other = Multihash::<64>::wrap(18, b"foobar")?;
+    let (pair, other_pair) = ((0u64, b"foo".as_slice()), (18u64, b"foobar".as_slice()));
     rows!(page;
         "m.size()" => m.size(),
         "m.digest()" => Bytes(m.digest()),
@@ -169,7 +144,8 @@ pub fn print_truncated(page: &mut Page) -> Result<()> {
         "m.resize::<2>()" => found(page.alloc, &m.resize::<2>().map(Pair), &[])?,
         "m.truncate(3) against wrap::<64>(0, \"foo\")" => compared(&m.truncate(3), &foo),
         "m.truncate(9) against m" => compared(&m.truncate(9), &m),
-        "hash of wrap::<64>(0, \"foo\") is that of (0u64, \"foo\")" => is_alike,
+        "hash of wrap::<64>(0, \"foo\") is that of (0u64, \"foo\")" => hash_of(&foo) == hash_of(&pair),
+        "hash of wrap::<64>(18, \"foobar\") is that of the pair" => hash_of(&other) == hash_of(&other_pair),
     );
     Ok(())
 }

@@ -1,5 +1,6 @@
 pub mod Compared
 pub mod Decoded
 pub mod Encoded
+pub mod Many
 pub mod Status
 pub mod Version

@@ -213,7 +213,7 @@ fn decode_whole(front: &[u8], whole_length: usize) -> Decoded
 // Decodes the multihash whose encoding is at the front of `bytes`, as `read` does for the capacity
 // `limit`.
 #[inline(always)]
-fn read_within(bytes: &[u8], limit: usize) -> Decoded
+pub(crate) fn read_within(bytes: &[u8], limit: usize) -> Decoded
     ensures { ReadsWithin limit bytes.now result }
 {
     let Some(head) = Head::find_front(bytes) else {

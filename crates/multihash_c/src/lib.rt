@@ -6,6 +6,7 @@
 mod compare;
 mod decode;
 mod encode;
+mod many;
 mod status;
 mod version;
 

@@ -159,6 +159,18 @@ multihash_decoded multihash_read(const uint8_t *bytes, size_t length)
     return multihash_read_limit(bytes, length, MULTIHASH_DIGEST_MAX);
 }
 
+multihash_batch multihash_read_many(const uint8_t *bytes, size_t length, multihash_item *out, size_t room)
+{
+    size_t count = 0, taken = 0;
+    while (count < room && taken < length) {
+        multihash_decoded found = multihash_read(bytes + taken, length - taken);
+        if (found.status != MULTIHASH_OK) return (multihash_batch){found.status, found.size, count, taken};
+        out[count++] = (multihash_item){found.code, taken + found.digest_offset, found.digest_length};
+        taken += found.taken;
+    }
+    return (multihash_batch){MULTIHASH_OK, 0, count, taken};
+}
+
 multihash_decoded multihash_scale_decode(const uint8_t *bytes, size_t length)
 {
     if (length < 8) return reject(MULTIHASH_UNEXPECTED_EOF, 0, 0);

@@ -1,8 +1,7 @@
 -- An entry that comes next, and how reading one fails.
-use Rattle.std.proofs.Common.{◌≡◌, ◌≤◌, ℕ, List, ◌++◌, Option, Some, Result, Ok, Err, MatchResult, IfSome, IfErr, length, inl, inr, ap, ◌∙◌, append_assoc, sym, arith}
+use Rattle.std.proofs.Common.{◌≡◌, ◌≤◌, ℕ, List, ◌++◌, Option, Some, Err, IfSome, length, inl, inr, ap, ◌∙◌, append_assoc, sym, arith}
 use Rattle.std.proofs.lemmas.List.{append_cancel_right}
 use Rattle.std.proofs.lemmas.Bool.{cases_lt}
-use Rattle.std.specs.Result.{IsErrAnd}
 use Rattle.multihash.specs.Pair.{Pair, FitsBuffer}
 use Rattle.multihash.specs.Encoding.{IsEncoding}
 use Rattle.multihash.specs.Verdict.{Verdict, HasVerdict}
@@ -47,11 +46,6 @@ module _ (p : Pair) (block bytes more : List ℕ) (h : IsEntry p block bytes) wh
     entry_fails e (inl (r, _, fails)) = absurd (hash_read S before after old new r fits rest same fails.verdict)
     entry_fails e (inr (q, left, (_, first), fails)) =
         frame_found limit before after same e block h.second h.is_second within more left new (hash_consumed q old left rest first).1 fails
-
-    pub rejected_found : {T : Type 0} (P : FrameError → Type 0) (Q : T → Type 0) (r : Result T FrameError) → IsErrAnd r P
-        → IfErr r (λ e. EntryFails S limit before after e old new) → MatchResult r Q (IsFailed IsOutOfMemory)
-    rejected_found P Q (Ok t) given fails = absurd given
-    rejected_found P Q (Err e) given fails = entry_fails e fails
 
 -- the pair of a content has a digest of 32 bytes
 pub content_fits : (content : List ℕ) → FitsBuffer 32 (content_pair content)

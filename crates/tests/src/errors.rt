@@ -1,7 +1,7 @@
 //! Errors: that printing one succeeds, at any width and precision. Contracts state the texts.
 use examples::content_id::ContentIdError;
 use examples::peer_id::PeerError;
-use fakes::{check, check_eq, expect_ok};
+use fakes::{check, expect_ok};
 use multihash::no_std_io::{self, Read, Write};
 use multihash::{Error, Multihash, varint};
 use serde_json::Value;
@@ -32,9 +32,7 @@ fn errors_are_printed(rt: HostRuntime) {
     let alloc = rt.alloc();
     expect_failure_printed(rt, alloc, &[7u8].as_slice().read_exact(&mut [0; 2]));
     expect_failure_printed(rt, alloc, &[0u8].as_mut_slice().write_all(&[7, 8]));
-    let memory = no_std_io::Error::out_of_memory();
-    expect_printed(rt, alloc, &memory);
-    check_eq!(rt; expect_ok!(rt; format!(in alloc; "{memory}")).as_str(), "out of memory");
+    expect_printed(rt, alloc, &no_std_io::Error::out_of_memory());
     for input in [[].as_slice(), &[255; 9], &[128, 0], &[0, 1]] {
         expect_failure_printed(rt, alloc, &Multihash::<1>::from_bytes(input));
     }

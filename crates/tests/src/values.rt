@@ -1,14 +1,12 @@
-//! Values: what `Debug` prints, the bytes that `Hash` feeds, and JSON texts.
+//! Values: what `Debug` prints.
 ghost use Rattle.std.specs.Prelude.{◌<◌, ◌^◌};
 
-use fakes::expect::ErrorKind;
 use fakes::forms::{CASES, case, different};
-use fakes::{check, check_eq, expect_ok, expect_rejected};
+use fakes::{check, check_eq, expect_ok};
 use multihash::{Head, Multihash, MultihashGeneric, no_std_io};
 use serde_json::Value;
 use std::alloc::Global;
 use std::fmt::Debug;
-use std::hash::{DefaultHasher, Hash, Hasher};
 use std::process::Abort;
 
 fn expect_shown<D: Debug>(rt: &impl Abort, alloc: Global, shown: &D, wanted: &str) {
@@ -95,59 +93,5 @@ fn known_errors_are_shown(rt: HostRuntime) {
         let wanted = expect_ok!(rt; format!(in alloc; "Err(Error {{ kind: {kind} }})"));
         let outcome = Multihash::<4>::from_bytes(input);
         expect_shown(rt, alloc, &outcome, wanted.as_str());
-    }
-}
-
-fn hash_of<T: Hash>(x: &T) -> u64 {
-    let mut state = DefaultHasher::new();
-    x.hash(&mut state);
-    state.finish()
-}
-
-#[test]
-fn a_multihash_hashes_as_its_pair(rt: HostRuntime) {
-    let rt = &rt;
-    for (code, digest) in [(0u64, b"foo".as_slice()), (18, b"foobar")] {
-        let m = expect_ok!(rt; Multihash::<6>::wrap(code, digest));
-        check_eq!(rt; hash_of(&m), hash_of(&(code, digest)));
-    }
-}
-
-const DIGEST: [u8; 32] = [
-    159, 228, 204, 198, 222, 22, 114, 79, 58, 48, 199, 232, 242, 84, 243, 198, 71, 25, 134, 172,
-    177, 248, 216, 207, 142, 150, 206, 42, 215, 219, 231, 251,
-];
-
-const DIGEST_TEXT: &str = "[18,32,159,228,204,198,222,22,114,79,58,48,199,232,242,84,243,198,71,\
-    25,134,172,177,248,216,207,142,150,206,42,215,219,231,251]";
-
-#[test]
-fn json_text(rt: HostRuntime) {
-    let alloc = rt.alloc();
-    let rt = &rt;
-    let m = expect_ok!(rt; Multihash::<32>::wrap(18, &DIGEST));
-    let value = expect_ok!(rt; m.to_value(alloc));
-    check_eq!(rt; expect_ok!(rt; value.to_string(alloc)).as_str(), DIGEST_TEXT);
-    let parsed = expect_ok!(rt; Value::from_str(alloc, DIGEST_TEXT));
-    check!(rt; expect_ok!(rt; Multihash::<32>::from_value(&parsed)) == m);
-}
-
-// Every kind of value, alone and after a zero, but arrays of bytes.
-const NO_BYTES: &str = r#"[
-null, true, false, 0, 7, 255, 256, 18446744073709551615, -1, -9223372036854775808, -0, 0.5, 1.0, 1e300,
-"", "0", "AA", {}, {"0":0}, [[]], [[0]], [256], [0,null], [0,true], [0,false], [0,256],
-[0,18446744073709551615], [0,-1], [0,-9223372036854775808], [0,-0], [0,0.5], [0,1.0], [0,1e300], [0,""],
-[0,"0"], [0,[]], [0,[0]], [0,{}], [0,{"0":0}], [0,0,0,0.0], [0,3,256], [0,0,18446744073709551616]]"#;
-
-#[test]
-fn other_values_are_no_bytes(rt: HostRuntime) {
-    let rt = &rt;
-    let all = expect_ok!(rt; Value::from_str(rt.alloc(), NO_BYTES));
-    let Value::Array(values) = &all else {
-        return check!(rt; false);
-    };
-    check!(rt; !values.is_empty());
-    for (n, value) in values.iter().enumerate() {
-        expect_rejected!(rt; &Multihash::<255>::from_value(value), ErrorKind::NotBytes, n);
     }
 }

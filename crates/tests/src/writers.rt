@@ -238,20 +238,6 @@ fn each_byte_of_a_long_buffer_fails_or_is_full(rt: HostRuntime) {
     }
 }
 
-#[test]
-fn parts_are_written_until_it_is_full(rt: HostRuntime) {
-    let mut drip = expect_ok!(&rt; Drip::new(rt.alloc(), 5, 2));
-    check_eq!(&rt; drip.write(&[1, 2, 3]).ok(), Some(2));
-    check!(&rt; is_failed(&drip.write_all(&[3, 4, 5, 6]), ErrorKind::WriteZero));
-    expect_bytes!(&rt; &drip.held, &[1, 2, 3, 4, 5]);
-}
-
-#[test]
-fn who_allocates(rt: HostRuntime) {
-    check!(&rt; <Vec<u8> as Write>::ALLOCATES && <&mut Vec<u8> as Write>::ALLOCATES);
-    check!(&rt; !<&mut [u8] as Write>::ALLOCATES && !<&mut &mut [u8] as Write>::ALLOCATES);
-}
-
 // How often the capacities change while the bytes are appended 300 times. A vector that doubles has less than
 // twice what is needed, and 8 at first.
 fn count_own_growths(rt: &impl Abort, alloc: Global, bytes: &[u8]) -> usize {

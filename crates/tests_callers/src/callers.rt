@@ -1,4 +1,4 @@
-//! Callers, in `examples`, `frame`, `headline` and `storage`: the calls of a reader or a writer, that an
+//! Callers, in `examples`, `frame`, `storage` and `theorems`: the calls of a reader or a writer, that an
 //! error is passed on, what is reserved, and that memory suffices.
 use examples::any_reader::read_up_to;
 use examples::content_id::{Codec, ContentId, ContentIdError};
@@ -9,7 +9,7 @@ use fakes::expect::ErrorKind;
 use fakes::streams::{Counts, CountsWrites, Cuts, Drip, FailAt, FailWrite};
 use fakes::{check, check_eq, expect_bytes, expect_ok, expect_rejected};
 use form::{Block, Both, Bytes, Counted, Form, FormError, Number, OneOf, OtherCase, Tag};
-use headline::{list_through, read_verdict};
+use theorems::{list_through, read_verdict};
 use multihash::no_std_io::{Read, Write};
 use multihash::{Error, Multihash};
 use std::alloc::Global;

@@ -10,7 +10,7 @@ use fakes::expect::{ErrorKind, is_rejected};
 use fakes::forms::{CASES, USUAL, case, different};
 use fakes::{check, check_eq, expect_ok};
 use form::Counted;
-use headline::list_through;
+use theorems::list_through;
 use multihash::list::{read_list, write_list};
 use multihash::no_std_io::Write;
 use multihash::{Error, Multihash};

@@ -90,10 +90,11 @@ fn write() {
 #[test]
 fn no_allocation() {
     let mut out = [0; 16];
-    with(0, || {
-        assert_eq!(value().write(&mut SliceWriter::new(&mut out)).ok(), Some(5));
-        assert_eq!(Multihash::<3>::read(&mut &out[..]).ok(), Some(value().resize().expect("it fits")));
-        assert!(Multihash::<2>::from_bytes(ENCODING).is_err());
-        assert!(value().write(&mut &mut out[..4]).is_err());
+    let (written, read, decoded, full) = with(0, || {
+        let written = value().write(&mut SliceWriter::new(&mut out)).ok();
+        let read = Multihash::<3>::read(&mut &out[..]).ok();
+        (written, read, Multihash::<2>::from_bytes(ENCODING), value().write(&mut &mut out[..4]))
     });
+    assert_eq!((written, read), (Some(5), value().resize().ok()));
+    assert!(decoded.is_err() && full.is_err());
 }

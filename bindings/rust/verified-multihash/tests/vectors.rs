@@ -73,9 +73,13 @@ fn check_varint(number: u64, input: &[u8]) {
 
 /// Each writer writes the encoding.
 fn check_writers<const S: usize>(multihash: &Multihash<S>, encoding: &[u8]) {
-    let (length, mut out) = (encoding.len(), [0xa5; 267]);
-    assert_eq!(multihash.write(&mut SliceWriter::new(&mut out)).ok(), Some(length));
-    assert_eq!((&out[..length], &out[length..]), (encoding, &[0xa5; 267][length..]));
+    const UNCHANGED: [u8; 267] = [0xa5; 267];
+    let (length, mut out, mut filled) = (encoding.len(), UNCHANGED, UNCHANGED);
+    assert_eq!(multihash.write(&mut &mut out[..]).ok(), Some(length));
+    assert_eq!(multihash.write(&mut SliceWriter::new(&mut filled)).ok(), Some(length));
+    for bytes in [out, filled] {
+        assert_eq!((&bytes[..length], &bytes[length..]), (encoding, &UNCHANGED[length..]));
+    }
     assert_eq!(multihash.encoded_len(), length);
     assert!(multihash.write(&mut &mut out[..length - 1]).is_err());
     #[cfg(feature = "alloc")]
@@ -87,6 +91,7 @@ fn check_writers<const S: usize>(multihash: &Multihash<S>, encoding: &[u8]) {
     let (code, digest, size) = multihash.into_inner();
     assert_eq!(Multihash::<S>::wrap(code, &digest[..size.into()]).expect("it fits"), *multihash);
     assert_eq!(digest[size.into()..], [0; S][size.into()..]);
+    let mut out = UNCHANGED;
     let length = multihash.scale_encode(&mut &mut out[..]).expect("enough capacity");
     assert_eq!((&out[..8], out[8], &out[9..length]), (&code.to_le_bytes()[..], size, multihash.digest()));
 }

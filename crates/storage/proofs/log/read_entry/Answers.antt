@@ -3,9 +3,9 @@ use Rattle.multihash.specs.Encoding.{IsEncoding}
 use Rattle.multihash.specs.Multihash.{pair_of}
 use Rattle.form.proofs.BothLemmas.{then_read}
 use Rattle.frame.specs.Frame.{IsFramed}
-use Rattle.multihash.proofs.OutcomeLemmas.{passed_on}
+use Rattle.multihash.proofs.OutcomeLemmas.{passed_on, only_error}
 use Rattle.frame.specs.declared.error.FrameError.TheVariants.{Failed}
-use Rattle.storage.proofs.LogLemmas.{rejected_found, entry_found}
+use Rattle.storage.proofs.LogLemmas.{entry_fails, entry_found}
 use Rattle.storage.proofs.log.read_entry.Goals as goal
 
 -- ---- why it failed, and what was consumed
@@ -30,12 +30,13 @@ returns-clause-ok g c =
 
 pub returns-in_err-hash-clause-found : goal.returns-in_err-hash-clause-found
 returns-in_err-hash-clause-found g c p block bytes more h fits within rest same =
-    rejected_found p block bytes more h g.row.S _ _ _ _ _ fits within rest same _ _ _ c.from_residual.ensures.1 (returns-in_err-hash-clause-err g c)
+    only_error c.from_residual.result _ _ _ _ c.from_residual.ensures.1 (returns-in_err-hash-clause-err g c)
+    (entry_fails p block bytes more h g.row.S _ _ _ _ _ fits within rest same)
 
 pub returns-in_err-block-clause-found : goal.returns-in_err-block-clause-found
 returns-in_err-block-clause-found g c p block bytes more h fits within rest same =
-    rejected_found p block bytes more h g.row.S _ _ _ _ _ fits within rest same _ _ _ c.from_residual-in_err-block.ensures.1
-    (returns-in_err-block-clause-err g c)
+    only_error c.from_residual-in_err-block.result _ _ _ _ c.from_residual-in_err-block.ensures.1 (returns-in_err-block-clause-err g c)
+    (entry_fails p block bytes more h g.row.S _ _ _ _ _ fits within rest same)
 
 pub returns-clause-found : goal.returns-clause-found
 returns-clause-found g c p block bytes more h fits within rest same = entry_found _ p _ block bytes more _ _ (returns-clause-ok g c) h rest

@@ -1,10 +1,14 @@
-use Rattle.std.proofs.Common.{◌≡◌, length, inl, inr, refl, ◌∙◌, arith, rules}
+use Rattle.std.proofs.Common.{◌≡◌, ℕ, length, subst, inl, inr, refl, ◌∙◌, arith, rules}
 use Rattle.multihash.specs.Refusal.{of_io}
 use Rattle.multihash.specs.Multihash.{pair_of}
+use Rattle.multihash.specs.Varint.{IsVarint}
+use Rattle.multihash.specs.Encoding.{IsEncoding}
+use Rattle.form.specs.Form.{Then}
+use Rattle.form.proofs.BothLemmas.{then_read}
 use Rattle.multihash.proofs.CallingLemmas.{varint_fails, exact_fails}
-use Rattle.multihash.proofs.OutcomeLemmas.{passed_on}
+use Rattle.multihash.proofs.OutcomeLemmas.{passed_on, only_error}
 use Rattle.examples.specs.declared.content_id.ContentIdError.TheVariants.{Rejected}
-use Rattle.examples.proofs.IdentifierLemmas.{make_version_0, make_version_1, takes_three, id_fails, rejected_found, id_found}
+use Rattle.examples.proofs.IdentifierLemmas.{make_version_0, takes_three, id_fails, id_found}
 use Rattle.examples.proofs.content_id.ContentId.read.Goals as goal
 use Rattle.examples.proofs.content_id.ContentId.read.Goals.{else-version-ne-VERSION-via-then-version-ne-VERSION+else-version-ne-SHA2_256, else-version-ne-VERSION-via-else-version-ne-VERSION}
 
@@ -13,12 +17,10 @@ use Rattle.examples.proofs.content_id.ContentId.read.Goals.{else-version-ne-VERS
 pub returns-then-version-eq-VERSION-clause-ok : goal.returns-then-version-eq-VERSION-clause-ok
 returns-then-version-eq-VERSION-clause-ok g c =
     let v = c.in_ok-version.ensures.ok in
-    let n = c.in_ok-number.ensures.ok in
-    let h = c.in_ok-hash.ensures.ok in (
-      _,
-      make_version_1 c.in_ok-version.version c.in_ok-number.number (pair_of c.in_ok-hash.hash) v.0 n.0 h.0 (omega arith) v.1 n.1 h.1,
-      takes_three _ _ _ _ v.0 n.0 h.0 v.2 n.2 h.2,
-    )
+    let one : c.in_ok-version.version ≡ 1 = omega arith in
+    let hash = pair_of c.in_ok-hash.hash in
+    then_read (IsVarint 1) (Then (IsVarint c.in_ok-number.number) (IsEncoding hash)) _ _ _ (v.0, subst (λ (n : ℕ). IsVarint n v.0) one v.1, v.2)
+    (then_read (IsVarint c.in_ok-number.number) (IsEncoding hash) _ _ _ c.in_ok-number.ensures.ok c.in_ok-hash.ensures.ok)
 
 pub returns-clause-ok : goal.returns-clause-ok
 returns-clause-ok g c =
@@ -92,7 +94,8 @@ returns-in_err-read_exact-clause-err g c =
 
 pub returns-in_err-version-clause-found : goal.returns-in_err-version-clause-found
 returns-in_err-version-clause-found g c content bytes more id fits rest same =
-    rejected_found g.row.S content bytes more id fits _ _ same _ _ _ _ _ rest c.from_residual.ensures.1 (returns-in_err-version-clause-err g c)
+    only_error c.from_residual.result _ _ _ _ c.from_residual.ensures.1 (returns-in_err-version-clause-err g c)
+    (λ e. id_fails g.row.S content bytes more id fits _ _ same e _ _ rest)
 
 pub returns-then-version-ne-SHA2_256-clause-found : goal.returns-then-version-ne-SHA2_256-clause-found
 returns-then-version-ne-SHA2_256-clause-found g c content bytes more id fits rest same =
@@ -100,12 +103,13 @@ returns-then-version-ne-SHA2_256-clause-found g c content bytes more id fits res
 
 pub returns-in_err-number-clause-found : goal.returns-in_err-number-clause-found
 returns-in_err-number-clause-found g c content bytes more id fits rest same =
-    rejected_found g.row.S content bytes more id fits _ _ same _ _ _ _ _ rest c.from_residual-in_err-number.ensures.1
-    (returns-in_err-number-clause-err g c)
+    only_error c.from_residual-in_err-number.result _ _ _ _ c.from_residual-in_err-number.ensures.1 (returns-in_err-number-clause-err g c)
+    (λ e. id_fails g.row.S content bytes more id fits _ _ same e _ _ rest)
 
 pub returns-in_err-hash-clause-found : goal.returns-in_err-hash-clause-found
 returns-in_err-hash-clause-found g c content bytes more id fits rest same =
-    rejected_found g.row.S content bytes more id fits _ _ same _ _ _ _ _ rest c.from_residual-in_err-hash.ensures.1 (returns-in_err-hash-clause-err g c)
+    only_error c.from_residual-in_err-hash.result _ _ _ _ c.from_residual-in_err-hash.ensures.1 (returns-in_err-hash-clause-err g c)
+    (λ e. id_fails g.row.S content bytes more id fits _ _ same e _ _ rest)
 
 pub returns-then-version-eq-VERSION-clause-found : goal.returns-then-version-eq-VERSION-clause-found
 returns-then-version-eq-VERSION-clause-found g c content bytes more id fits rest same =
@@ -117,8 +121,8 @@ returns-then-number-ne-SHA2_256_SIZE-clause-found g c content bytes more id fits
 
 pub returns-in_err-read_exact-clause-found : goal.returns-in_err-read_exact-clause-found
 returns-in_err-read_exact-clause-found g c content bytes more id fits rest same =
-    rejected_found g.row.S content bytes more id fits _ _ same _ _ _ _ _ rest c.from_residual-in_err-read_exact.ensures.1
-    (returns-in_err-read_exact-clause-err g c)
+    only_error c.from_residual-in_err-read_exact.result _ _ _ _ c.from_residual-in_err-read_exact.ensures.1 (returns-in_err-read_exact-clause-err g c)
+    (λ e. id_fails g.row.S content bytes more id fits _ _ same e _ _ rest)
 
 pub returns-clause-found : goal.returns-clause-found
 returns-clause-found g c content bytes more id fits rest same = id_found _ content bytes more _ _ (returns-clause-ok g c) id rest

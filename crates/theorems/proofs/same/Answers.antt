@@ -1,10 +1,8 @@
-use Rattle.std.proofs.Common.{◌≡◌, ◌↔◌, ◌⊎◌, ◌++◌, ◌≤◌, ◌<◌, ℕ, Bool, List, IsTrue, inl, inr, sym, ◌∙◌, subst, arith, [], append-nil}
-use Rattle.multihash.specs.Bytes.{IsPrefix}
-use Rattle.multihash.specs.Pair.{Pair}
+use Rattle.std.proofs.Common.{inl, inr, sym, ◌∙◌, subst, arith, [], append-nil}
 use Rattle.multihash.specs.Encoding.{IsEncoding}
 use Rattle.multihash.specs.Multihash.{pair_of}
 use Rattle.multihash.proofs.EncodingLemmas.{digest_fits}
-use Rattle.headline.proofs.same.Goals as goal
+use Rattle.theorems.proofs.same.Goals as goal
 
 pub returns-clause-first : goal.returns-clause-first
 returns-clause-first g c =

@@ -1,21 +1,38 @@
 //! The main theorems, as the contracts of four functions. Each returns what it made, so a body that does
 //! not do the work fails its contract. No contract can state that an allocation succeeds: `list_through`
 //! may run out of memory.
+//!
+//! The clauses need these definitions, and words of Rattle's `std`. Each definition is made of those before it.
+//! They are in the modules of `crates/multihash/specs` that are named first, those of `Results` in
+//! `crates/theorems/specs`.
+//!
+//! - `Bytes`: `ExactlyOne`, `IsBytes`, `IsPrefix`, `IsStrictPrefix`, `place_value`
+//! - `Varint`: `varint_limit`, `max_continuation`, `last_byte_limit`, `IsContinuation`, `continuation_bytes`,
+//!   `IsVarint`, `VarintError`, `IsInsufficient`, `IsOverflow`, `IsNotMinimal`, `BeginsMalformed`
+//! - `Pair`: `Pair`, `digest_limit`, `FitsBuffer`
+//! - `Encoding`: `IsEncoding`
+//! - `Verdict`: `Verdict`, `BeginsWith`, `BeginsWithSize`, `BeginsWithCode`, `HasVerdict`, `HasTrailing`,
+//!   `HasWholeVerdict`
+//! - `Settling`: `Settles`, `IsShortestSettling`
+//! - `Streams`: `AreParts`, `AreConcatenated`
+//! - `Multihash`: `Fields`, `pair_of`
+//! - `Fault`: `Fault`
+//! - `Refusal`: `Refusal`
+//! - `Results`: `verdict_of`, `IsOwnError`
 #![tactic(auto)]
 
-ghost use Rattle.std.specs.Prelude.{◌≡◌, ◌<◌, ◌⊎◌, ◌↔◌, ℕ, List, ◌++◌, map, All, Some, IfSome, IfOk, IfErr, IsOkAnd, IsErr, IsErrAnd, IsTrue, MatchResult};
-ghost use Rattle.multihash.specs.Bytes.{ExactlyOne, IsPrefix};
+ghost use Rattle.std.specs.Prelude.{◌≡◌, ◌≢◌, ◌<◌, ◌⊎◌, ◌↔◌, ℕ, List, ◌++◌, map, All, Some, IfSome, IsOkAnd, IsErr, IsErrAnd, IsTrue, MatchResult};
+ghost use Rattle.multihash.specs.Bytes.{ExactlyOne, IsPrefix, IsStrictPrefix};
+ghost use Rattle.multihash.specs.Varint.{insufficient};
 ghost use Rattle.multihash.specs.Pair.{Pair, FitsBuffer};
 ghost use Rattle.multihash.specs.Encoding.{IsEncoding};
-ghost use Rattle.multihash.specs.Verdict.{Verdict, BeginsWith, HasVerdict, HasWholeVerdict, IsIncomplete};
-ghost use Rattle.multihash.specs.Settling.{IsShortestSettling};
+ghost use Rattle.multihash.specs.Verdict.{Verdict, malformed, unexpected_eof, BeginsWith, HasVerdict, HasWholeVerdict};
+ghost use Rattle.multihash.specs.Settling.{Settles, IsShortestSettling};
 ghost use Rattle.multihash.specs.Streams.{AreConcatenated};
-ghost use Rattle.multihash.specs.Reading.{Consumes};
-ghost use Rattle.multihash.specs.Writing.{AppendsPrefix, IsWriterFaultOrFull};
-ghost use Rattle.multihash.specs.Consuming.{ConsumesNothingSettling};
-ghost use Rattle.multihash.specs.Refusal.{IsIo, IsOutOfMemory, IsReaderError};
-ghost use Rattle.multihash.specs.Outcome.{IsResultOf};
 ghost use Rattle.multihash.specs.Multihash.{pair_of};
+ghost use Rattle.multihash.specs.Fault.{WriteZero, OutOfMemory};
+ghost use Rattle.multihash.specs.Refusal.{of_io};
+ghost use Rattle.theorems.specs.Results.{verdict_of, IsOwnError};
 
 use multihash::no_std_io::{Read, Write};
 use multihash::{Error, Multihash, laws, list};
@@ -25,7 +42,8 @@ use std::alloc::Global;
 /// the multihash that it encodes, or one error.
 pub fn verdict<const S: usize>(bytes: &[u8]) -> Result<Multihash<S>, Error>
     // The grammar assigns exactly one verdict to the bytes, and it is the result.
-    ensures one { (one : ExactlyOne (HasWholeVerdict S bytes.now)) × IsResultOf result one.value }
+    ensures one { (one : ExactlyOne (HasWholeVerdict S bytes.now))
+        × (verdict_of result ≡ Some one.value) }
 
     // The result is a pair exactly if the bytes are its encoding and its digest fits the capacity.
     ensures canonical { (p : Pair) →
@@ -40,26 +58,27 @@ pub fn verdict<const S: usize>(bytes: &[u8]) -> Result<Multihash<S>, Error>
 pub fn read_verdict<const S: usize, R: Read>(r: &mut R) -> Result<Multihash<S>, Error>
     // Either the reader failed and its error is the result; or it did not fail, the grammar assigns
     // exactly one verdict to the rest, and that is the result.
-    ensures one { ((R.failures r.old < R.failures r.new) × IsErrAnd result IsReaderError)
+    ensures one { ((R.failures r.old < R.failures r.new) × IsErrAnd result IsOwnError)
         ⊎ ((R.failures r.new ≡ R.failures r.old) × IfSome (R.rest r.old)
-        (λ rest. (one : ExactlyOne (HasVerdict S rest)) × IsResultOf result one.value)) }
+        (λ rest. (one : ExactlyOne (HasVerdict S rest)) × (verdict_of result ≡ Some one.value))) }
 
     // The result is a pair exactly if an encoding of it that fits is at the front of the rest.
     ensures canonical { IfSome (R.rest r.old) (λ rest. R.failures r.new ≡ R.failures r.old →
         (p : Pair) → ((left : List ℕ) × BeginsWith p rest left × FitsBuffer S p)
         ↔ IsOkAnd result (λ m. pair_of m ≡ p)) }
 
-    // If more input could not change the verdict, the rest has exactly one shortest prefix that settles it,
-    // and exactly that was consumed.
+    // If the rest is not truncated, it has exactly one shortest prefix that settles the verdict, and exactly
+    // that was consumed.
     ensures settled { IfSome (R.rest r.old) (λ rest. R.failures r.new ≡ R.failures r.old →
-        (v : Verdict) → HasVerdict S rest v → ¬ (IsIncomplete v) →
-        (front : ExactlyOne (IsShortestSettling S rest))
-        × Consumes (Some rest) front.value (R.rest r.new)) }
+        (v : Verdict) → HasVerdict S rest v → v ≢ malformed insufficient → v ≢ unexpected_eof →
+        (front : ExactlyOne (IsShortestSettling S rest)) × ((left : List ℕ)
+        × (R.rest r.new ≡ Some left) × (rest ≡ front.value ++ left))) }
 
-    // If more input could change it, or the reader failed, no prefix of what was consumed settles a verdict.
-    ensures unsettled { IfSome (R.rest r.old) (λ rest.
-        (R.failures r.old < R.failures r.new) ⊎ ((v : Verdict) × HasVerdict S rest v × IsIncomplete v) →
-        ConsumesNothingSettling S rest (R.rest r.new)) }
+    // If it is truncated, or the reader failed, no prefix of what was consumed settles a verdict.
+    ensures unsettled { IfSome (R.rest r.old) (λ rest. (R.failures r.old < R.failures r.new)
+        ⊎ HasVerdict S rest (malformed insufficient) ⊎ HasVerdict S rest unexpected_eof →
+        (consumed left : List ℕ) × (R.rest r.new ≡ Some left) × (rest ≡ consumed ++ left)
+        × ((front : List ℕ) → IsPrefix front consumed → ¬ (Settles S front))) }
 {
     laws::one_verdict();
     laws::settles();
@@ -98,20 +117,22 @@ pub fn list_through<const S: usize, const T: usize, W: Write, R: Read>(
 ) -> Result<Vec<Multihash<T>>, Error>
     // The encodings of the items were appended, in order, or, at an error, a strict prefix of them.
     ensures written { (bytes : List ℕ) × AreConcatenated (map pair_of items.now) bytes
-        × (W.appended w.old bytes w.new ⊎ (IsErr result × AppendsPrefix W.appended w.old bytes w.new)) }
+        × (W.appended w.old bytes w.new ⊎ (IsErr result
+        × ((part : List ℕ) × IsStrictPrefix part bytes × W.appended w.old part w.new))) }
 
     // If the reader's input is the encodings and then `more`, and the digests fit the new capacity, the same
-    // pairs are read in order, and `more` is left. Otherwise memory ran out, the writer failed or was
-    // full, or the reader failed.
+    // pairs are read in order, and `more` is left. Otherwise memory ran out, the writer failed, the writer
+    // was full, or the reader failed.
     ensures back { (more : List ℕ) →
         ((bytes : List ℕ) → AreConcatenated (map pair_of items.now) bytes →
         R.rest r.old ≡ Some (bytes ++ more)) →
         All (FitsBuffer T) (map pair_of items.now) →
         MatchResult result (λ list. (map pair_of list.items ≡ map pair_of items.now)
         × (R.rest r.new ≡ Some more))
-        (λ e. (IsOutOfMemory e ⊎ IsIo (IsWriterFaultOrFull W.allocates
-        (W.failures w.old) (W.failures w.new) (W.full w.new)) e)
-        ⊎ ((R.failures r.old < R.failures r.new) × IsReaderError e)) }
+        (λ e. (e ≡ of_io OutOfMemory)
+        ⊎ ((W.failures w.old < W.failures w.new) × IsOwnError e)
+        ⊎ ((e ≡ of_io WriteZero) × (W.failures w.new ≡ W.failures w.old) × W.full w.new)
+        ⊎ ((R.failures r.old < R.failures r.new) × IsOwnError e)) }
 {
     list::write_list(items, w)?;
     list::read_list(alloc, r, items.len())

@@ -5,7 +5,8 @@ use Rattle.multihash.specs.Verdict.{Verdict, accepted, HasWholeVerdict}
 use Rattle.multihash.specs.Refusal.{Refusal}
 use Rattle.multihash.specs.Outcome.{IsErrorOf, IsResultOf}
 use Rattle.multihash.specs.Multihash.{Fields, pair_of}
-use Rattle.headline.proofs.verdict.Goals as goal
+use Rattle.theorems.proofs.ResultLemmas.{verdict_stated}
+use Rattle.theorems.proofs.verdict.Goals as goal
 
 -- a pair is the result exactly if the bytes are its encoding and it fits
 returns_pair : (S : ℕ) (bytes : List ℕ) (r : Result (Fields S) Refusal) (v : Verdict) → HasWholeVerdict S bytes v → IsResultOf r v
@@ -22,8 +23,10 @@ returns_pair S bytes (Err e) v has is_result only p = (
 
 pub returns-clause-one : goal.returns-clause-one
 returns-clause-one g c =
-    let v = c.from_bytes.ensures in
-    (record { value = v.0; holds = v.1; only = λ w has. c.one_verdict.ensures.whole_unique g.row.S c.args.bytes.now w v.0 has v.1 }, v.2)
+    let v = c.from_bytes.ensures in (
+      record { value = v.0; holds = v.1; only = λ w has. c.one_verdict.ensures.whole_unique g.row.S c.args.bytes.now w v.0 has v.1 },
+      verdict_stated c.from_bytes.result v.0 v.2,
+    )
 
 pub returns-clause-canonical : goal.returns-clause-canonical
 returns-clause-canonical g c =

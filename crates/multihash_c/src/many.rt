@@ -1,0 +1,75 @@
+//! Decoding of many multihashes in one call, for C.
+ghost use Rattle.std.specs.Prelude.{◌≡◌, ◌≤◌, ◌⊎◌, length, take, drop};
+ghost use Rattle.multihash_c.specs.Status.{status_ok};
+ghost use Rattle.multihash_c.specs.Many.{AreEncodedFrom, FailsAt};
+
+use crate::decode::read_within;
+use crate::{DIGEST_MAX, status};
+
+/// A multihash in a buffer.
+#[repr(C)]
+#[derive(Clone, Copy)]
+pub struct Item {
+    /// The code.
+    pub code: u64,
+    /// The index at which the digest starts in the buffer.
+    pub digest_offset: usize,
+    /// The digest's length in bytes.
+    pub digest_length: usize,
+}
+
+/// The result of decoding many multihashes. A field without a meaning for its status is 0.
+#[repr(C)]
+#[derive(Clone, Copy)]
+pub struct Batch {
+    /// 0 (`status::OK`) or the error of what follows the items.
+    pub status: u32,
+    /// The invalid size: the length of a digest that is too long.
+    pub size: u64,
+    /// The number of items.
+    pub count: usize,
+    /// The number of bytes of their encodings.
+    pub taken: usize,
+}
+
+/// Decodes the multihashes at the front of `bytes`, one after another, until `out` is full, the input ends, or what
+/// follows is no multihash.
+#[unsafe(no_mangle)]
+pub extern "C" fn multihash_read_many(bytes: &[u8], out: &mut [Item]) -> Batch
+    ensures items { AreEncodedFrom bytes.now 0 (take result.count out.new) result.taken }
+    ensures rest { drop result.count out.new ≡ drop result.count out.old }
+    ensures room { result.count ≤ length out.old }
+    ensures ok { result.status ≡ status_ok →
+        (result.size ≡ 0) × ((result.count ≡ length out.old) ⊎ (result.taken ≡ length bytes.now)) }
+    ensures err { ¬ (result.status ≡ status_ok) → FailsAt bytes.now result }
+{
+    let mut count: usize = 0;
+    let mut taken: usize = 0;
+    while count < out.len() && taken < bytes.len() {
+        let found = read_within(&bytes[taken..], DIGEST_MAX);
+        if found.status != status::OK {
+            return Batch {
+                status: found.status,
+                size: found.size,
+                count,
+                taken,
+            };
+        }
+        // Offsets and ends of digests are at most the number of bytes.
+        out[count] = Item {
+            code: found.code,
+            digest_offset: taken + found.digest_offset,
+            digest_length: found.digest_length,
+        };
+        // It is at most the number of bytes.
+        taken += found.taken;
+        // It is at most the number of items.
+        count += 1;
+    }
+    Batch {
+        status: status::OK,
+        size: 0,
+        count,
+        taken,
+    }
+}

@@ -1,0 +1,56 @@
+-- What the library's definitions say of results and errors, in the words of `Results`.
+use Rattle.std.proofs.Common.{◌≡◌, ◌≢◌, ◌⊎◌, ◌<◌, ℕ, Bool, Some, Result, Ok, Err, refl, inl, inr, sym, ap, ◌∙◌, subst, IsTrue}
+use Rattle.multihash.specs.Fault.{OutOfMemory, WriteZero, IsOutOfMemoryFault}
+use Rattle.multihash.specs.Multihash.{Fields}
+use Rattle.multihash.specs.Outcome.{IsResultOf}
+use Rattle.multihash.specs.Refusal.{Refusal, of_io, IsIo, IsOutOfMemory, IsReaderError}
+use Rattle.multihash.specs.Varint.{insufficient, overflow, not_minimal}
+use Rattle.multihash.specs.Verdict.{Verdict, accepted, invalid_size, invalid_code, malformed, unexpected_eof, IsIncomplete}
+use Rattle.multihash.specs.Writing.{IsWriterFaultOrFull}
+use Rattle.theorems.specs.Results.{verdict_of, IsOwnError}
+
+-- a result is the verdict's
+pub verdict_stated : {S : ℕ} (r : Result (Fields S) Refusal) (v : Verdict) → IsResultOf r v → verdict_of r ≡ Some v
+verdict_stated (Ok m) v is = ap Some (sym is)
+verdict_stated (Err e) (accepted p) is = absurd is
+verdict_stated {S = S} (Err e) (invalid_size size) is =
+    subst (λ x. verdict_of {S = S} (Err x) ≡ Some (invalid_size size)) (sym is) refl
+verdict_stated {S = S} (Err e) (invalid_code code) is =
+    subst (λ x. verdict_of {S = S} (Err x) ≡ Some (invalid_code code)) (sym is) refl
+verdict_stated {S = S} (Err e) (malformed error) is =
+    subst (λ x. verdict_of {S = S} (Err x) ≡ Some (malformed error)) (sym is) refl
+verdict_stated {S = S} (Err e) unexpected_eof (error, is, eof) =
+    subst (λ x. verdict_of {S = S} (Err x) ≡ Some unexpected_eof) (sym (is ∙ ap of_io eof)) refl
+
+-- an allocation failed
+pub memory_error : (e : Refusal) → IsOutOfMemory e → e ≡ of_io OutOfMemory
+memory_error e (error, is, memory) = is ∙ ap of_io memory
+
+-- an error of the reader itself
+pub own_error : (e : Refusal) → IsReaderError e → IsOwnError e
+own_error e (error, is, inl (text, other)) = inr (text, is ∙ ap of_io other)
+own_error e (error, is, inr memory) = inl (is ∙ ap of_io memory)
+
+-- an error of writing: out of memory, the writer's own, or it is full
+pub write_error : (allocates : Bool) (before after : ℕ) (full Other : Type 0) (e : Refusal)
+    → IsIo (IsWriterFaultOrFull allocates before after full) e
+    → (e ≡ of_io OutOfMemory) ⊎ ((before < after) × IsOwnError e)
+    ⊎ ((e ≡ of_io WriteZero) × (after ≡ before) × full) ⊎ Other
+write_error allocates before after full Other e (error, is, inr (zero, same, is_full)) =
+    inr (inr (inl (is ∙ ap of_io zero, same, is_full)))
+write_error allocates before after full Other e (error, is, inl fault) = caused fault.cause where
+  caused : (before < after) ⊎ (IsTrue allocates × IsOutOfMemoryFault error × (after ≡ before))
+      → (e ≡ of_io OutOfMemory) ⊎ ((before < after) × IsOwnError e)
+      ⊎ ((e ≡ of_io WriteZero) × (after ≡ before) × full) ⊎ Other
+  caused (inl rose) = inr (inl (rose, own_error e (error, is, fault.kind)))
+  caused (inr (allocating, memory, same)) = inl (is ∙ ap of_io memory)
+
+-- a verdict that is neither of the two of a truncated input is not incomplete
+pub is_complete : (v : Verdict) → v ≢ malformed insufficient → v ≢ unexpected_eof → ¬ (IsIncomplete v)
+is_complete (accepted p) short eof incomplete = incomplete
+is_complete (invalid_size size) short eof incomplete = incomplete
+is_complete (invalid_code code) short eof incomplete = incomplete
+is_complete (malformed insufficient) short eof incomplete = short refl
+is_complete (malformed overflow) short eof incomplete = incomplete
+is_complete (malformed not_minimal) short eof incomplete = incomplete
+is_complete unexpected_eof short eof incomplete = eof refl

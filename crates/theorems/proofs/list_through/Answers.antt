@@ -1,0 +1,31 @@
+use Rattle.std.proofs.Common.{map, inl, inr, ◌≡◌, ◌⊎◌, ◌<◌, ℕ, Result, Ok, Err, MatchResult}
+use Rattle.std.proofs.lemmas.List.{length-map}
+use Rattle.multihash.specs.Multihash.{pair_of}
+use Rattle.multihash.specs.Fault.{OutOfMemory}
+use Rattle.multihash.specs.Reading.{CountsReaderFailures}
+use Rattle.multihash.specs.Refusal.{Refusal, of_io, IsOutOfMemory, IsReaderError}
+use Rattle.multihash.proofs.CallingLemmas.{read_list_of_encodings}
+use Rattle.multihash.proofs.OutcomeLemmas.{passed_on}
+use Rattle.theorems.specs.Results.{IsOwnError}
+use Rattle.theorems.proofs.ResultLemmas.{memory_error, own_error, write_error}
+use Rattle.theorems.proofs.list_through.Goals as goal
+
+-- what holds if the reader does not fail holds, or memory ran out, or the reader failed
+unless_failed : {A : Type 0} (P : A → Type 0) (Failed Full IsListed : Refusal → Type 0) (before after : ℕ) (r : Result A Refusal)
+    → CountsReaderFailures IsReaderError IsListed before after r → (after ≡ before → MatchResult r P IsOutOfMemory)
+    → MatchResult r P (λ e. (e ≡ of_io OutOfMemory) ⊎ Failed e ⊎ Full e ⊎ ((before < after) × IsOwnError e))
+unless_failed P Failed Full IsListed before after (Ok x) same met = met same
+unless_failed P Failed Full IsListed before after (Err e) (inl own) met = inr (inr (inr (own.0, own_error e own.1)))
+unless_failed P Failed Full IsListed before after (Err e) (inr (same, listed)) met = inl (memory_error e (met same))
+
+pub returns-in_err-write_list-clause-back : goal.returns-in_err-write_list-clause-back
+returns-in_err-write_list-clause-back g c more pipe fit =
+    passed_on c.from_residual.result _ _ _ c.from_residual.ensures.1 (write_error _ _ _ _ _ _ c.in_err-write_list.ensures.faults)
+
+pub returns-clause-back : goal.returns-clause-back
+returns-clause-back g c more pipe fit =
+    let wrote = c.in_ok-write_list.ensures in
+    let items = c.args.items.now in
+    unless_failed _ _ _ _ _ _ c.read_list.result c.read_list.ensures.faults (λ unfailed.
+    read_list_of_encodings g.row.T _ _ _ _ _ (map pair_of items) wrote.ok.0 more c.read_list.result wrote.ok.1 fit (length-map items pair_of)
+    (pipe wrote.ok.0 wrote.ok.1) unfailed c.read_list.ensures.ok c.read_list.ensures.err)

@@ -1,0 +1,102 @@
+use Rattle.std.proofs.Common.{◌≡◌, ◌≢◌, ◌↔◌, ◌⊎◌, ◌<◌, ◌++◌, ℕ, List, Option, Some, Result, Ok, Err, IfSome, IsErrAnd, IsOkAnd, inl, inr, sym, ◌∙◌, subst}
+use Rattle.std.proofs.lemmas.Option.{IfSome_then}
+use Rattle.multihash.specs.Bytes.{ExactlyOne, IsPrefix}
+use Rattle.multihash.specs.Varint.{insufficient}
+use Rattle.multihash.specs.Pair.{Pair, FitsBuffer}
+use Rattle.multihash.specs.Verdict.{Verdict, accepted, malformed, unexpected_eof, BeginsWith, HasVerdict, IsIncomplete}
+use Rattle.multihash.specs.Settling.{Settles, IsShortestSettling}
+use Rattle.multihash.specs.Consuming.{ReadMayFailWith, ConsumesShortestSettling, ConsumesNothingSettling}
+use Rattle.multihash.specs.Reading.{Consumes, CountsReaderFailures}
+use Rattle.multihash.specs.Refusal.{Refusal, IsReaderError}
+use Rattle.multihash.specs.Outcome.{IsErrorOf, IsResultOf}
+use Rattle.multihash.specs.Multihash.{Fields, pair_of}
+use Rattle.multihash.proofs.ReadingLemmas.{Consumes-known}
+use Rattle.theorems.specs.Results.{verdict_of, IsOwnError}
+use Rattle.theorems.proofs.ResultLemmas.{verdict_stated, own_error, is_complete}
+use Rattle.theorems.proofs.read_verdict.Goals as goal
+
+-- the reader failed or the verdict that was returned is the only one
+one_returned : (S before after : ℕ) (old : Option (List ℕ)) (r : Result (Fields S) Refusal)
+    → ((S : ℕ) (input : List ℕ) (v w : Verdict) → HasVerdict S input v → HasVerdict S input w → v ≡ w)
+    → CountsReaderFailures IsReaderError (ReadMayFailWith S) before after r
+    → IfSome old (λ rest. after ≡ before → (v : Verdict) × HasVerdict S rest v × IsResultOf r v)
+    → ((before < after) × IsErrAnd r IsOwnError)
+    ⊎ ((after ≡ before) × IfSome old (λ rest. (one : ExactlyOne (HasVerdict S rest)) × (verdict_of r ≡ Some one.value)))
+one_returned S before after old r unique counts verdict = either r counts found where
+  found : after ≡ before → IfSome old (λ rest. (one : ExactlyOne (HasVerdict S rest)) × (verdict_of r ≡ Some one.value))
+  found same = IfSome_then old verdict
+      (λ rest found. let v = found same in
+      (record { value = v.0; holds = v.1; only = λ w has. unique S rest w v.0 has v.1 }, verdict_stated r v.0 v.2))
+
+  either : (o : Result (Fields S) Refusal) → CountsReaderFailures IsReaderError (ReadMayFailWith S) before after o
+      → (after ≡ before → IfSome old (λ rest. (one : ExactlyOne (HasVerdict S rest)) × (verdict_of r ≡ Some one.value)))
+      → ((before < after) × IsErrAnd o IsOwnError)
+      ⊎ ((after ≡ before) × IfSome old (λ rest. (one : ExactlyOne (HasVerdict S rest)) × (verdict_of r ≡ Some one.value)))
+  either (Ok m) same found = inr (same, found same)
+  either (Err e) (inl own) found = inl (own.0, own_error e own.1)
+  either (Err e) (inr (same, listed)) found = inr (same, found same)
+
+-- what was consumed is the one shortest prefix that settles
+one_taken : (S before after : ℕ) (old new : Option (List ℕ))
+    → ((S : ℕ) (input : List ℕ) (v : Verdict) → HasVerdict S input v → ¬ (IsIncomplete v) → ExactlyOne (IsShortestSettling S input))
+    → IfSome old (λ rest. after ≡ before → (v : Verdict) → HasVerdict S rest v → ¬ (IsIncomplete v) → ConsumesShortestSettling S rest new)
+    → IfSome old (λ rest. after ≡ before → (v : Verdict) → HasVerdict S rest v → v ≢ malformed insufficient → v ≢ unexpected_eof →
+    (front : ExactlyOne (IsShortestSettling S rest)) × ((left : List ℕ) × (new ≡ Some left) × (rest ≡ front.value ++ left)))
+one_taken S before after old new shortest settled = IfSome_then old settled
+    (λ rest settles same v has short eof.
+    let late = is_complete v short eof in
+    let took = settles same v has late in
+    let one = shortest S rest v has late in (
+      one,
+      Consumes-known rest one.value new
+          (subst (λ front. Consumes (Some rest) front new) (one.only took.front took.shortest) took.consumes),
+    ))
+
+-- nothing that was consumed settles
+none_settles : (S before after : ℕ) (old new : Option (List ℕ))
+    → IfSome old (λ rest. (before < after) ⊎ ((v : Verdict) × HasVerdict S rest v × IsIncomplete v) →
+    ConsumesNothingSettling S rest new)
+    → IfSome old (λ rest. (before < after) ⊎ HasVerdict S rest (malformed insufficient) ⊎ HasVerdict S rest unexpected_eof →
+    (consumed left : List ℕ) × (new ≡ Some left) × (rest ≡ consumed ++ left)
+    × ((front : List ℕ) → IsPrefix front consumed → ¬ (Settles S front)))
+none_settles S before after old new unsettled = IfSome_then old unsettled
+    (λ rest took truncated. let taken = took (early rest truncated) in
+    let (left, is, cut) = Consumes-known rest taken.consumed new taken.consumes in
+    (taken.consumed, left, is, cut, taken.unsettled)) where
+      early : (rest : List ℕ) → (before < after) ⊎ HasVerdict S rest (malformed insufficient) ⊎ HasVerdict S rest unexpected_eof
+          → (before < after) ⊎ ((v : Verdict) × HasVerdict S rest v × IsIncomplete v)
+      early rest (inl failed) = inl failed
+      early rest (inr (inl short)) = inr (malformed insufficient, short, tt)
+      early rest (inr (inr eof)) = inr (unexpected_eof, eof, tt)
+
+pub returns-clause-one : goal.returns-clause-one
+returns-clause-one g c = one_returned g.row.S _ _ _ c.read.result c.one_verdict.ensures.read_unique c.read.ensures.faults c.read.ensures.verdict
+
+pub returns-clause-unsettled : goal.returns-clause-unsettled
+returns-clause-unsettled g c = none_settles g.row.S _ _ _ _ c.read.ensures.unsettled
+
+pub returns-clause-settled : goal.returns-clause-settled
+returns-clause-settled g c = one_taken g.row.S _ _ _ _ c.settles.ensures.one_shortest c.read.ensures.settled
+
+-- a pair is the result exactly if its encoding is at the front and it fits
+returns_pair : (S : ℕ) (input : List ℕ) (r : Result (Fields S) Refusal) (v : Verdict) → HasVerdict S input v → IsResultOf r v
+    → ((w : Verdict) → HasVerdict S input w → w ≡ v) → (p : Pair)
+    → HasVerdict S input (accepted p) ↔ IsOkAnd r (λ m. pair_of m ≡ p)
+returns_pair S input (Ok m) v has is_result only p = (
+  (λ own. let told : accepted (pair_of m) ≡ accepted p = sym is_result ∙ sym (only (accepted p) own) in cc),
+  λ same. subst (λ q. HasVerdict S input (accepted q)) same (subst (HasVerdict S input) is_result has),
+)
+returns_pair S input (Err e) v has is_result only p = (
+  (λ own. subst (IsErrorOf e) (sym (only (accepted p) own)) is_result),
+  λ is_ok. absurd is_ok,
+)
+
+pair_returned : (S before after : ℕ) (old : Option (List ℕ)) (r : Result (Fields S) Refusal)
+    → ((S : ℕ) (input : List ℕ) (v w : Verdict) → HasVerdict S input v → HasVerdict S input w → v ≡ w)
+    → IfSome old (λ rest. after ≡ before → (v : Verdict) × HasVerdict S rest v × IsResultOf r v)
+    → IfSome old (λ rest. after ≡ before → (p : Pair) → ((left : List ℕ) × BeginsWith p rest left × FitsBuffer S p) ↔ IsOkAnd r (λ m. pair_of m ≡ p))
+pair_returned S before after old r unique verdict = IfSome_then old verdict
+    (λ rest found same p. let v = found same in returns_pair S rest r v.0 v.1 v.2 (λ w has. unique S rest w v.0 has v.1) p)
+
+pub returns-clause-canonical : goal.returns-clause-canonical
+returns-clause-canonical g c = pair_returned g.row.S _ _ _ c.read.result c.one_verdict.ensures.read_unique c.read.ensures.verdict

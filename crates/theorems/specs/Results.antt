@@ -1,0 +1,19 @@
+-- What the theorems say of results.
+use Rattle.std.specs.Prelude.{◌≡◌, ◌⊎◌, List, ℕ, Option, Some, None, Result, Ok, Err}
+use Rattle.multihash.specs.Fault.{UnexpectedEof, OutOfMemory, Other}
+use Rattle.multihash.specs.Multihash.{Fields, pair_of}
+use Rattle.multihash.specs.Refusal.{Refusal, of_io, of_size, of_code, of_varint}
+use Rattle.multihash.specs.Verdict.{Verdict, accepted, invalid_size, invalid_code, malformed, unexpected_eof}
+
+-- the verdict that a result states: its pair, or why the input has none; other errors state none
+abbrev pub verdict_of : {S : ℕ} → Result (Fields S) Refusal → Option Verdict
+verdict_of (Ok m) = Some (accepted (pair_of m))
+verdict_of (Err (of_size size)) = Some (invalid_size size)
+verdict_of (Err (of_code code)) = Some (invalid_code code)
+verdict_of (Err (of_varint error)) = Some (malformed error)
+verdict_of (Err (of_io UnexpectedEof)) = Some unexpected_eof
+verdict_of (Err e) = None
+
+-- an error of the reader or the writer itself
+abbrev pub IsOwnError : Refusal → Type 0
+IsOwnError e = (e ≡ of_io OutOfMemory) ⊎ ((text : List ℕ) × (e ≡ of_io (Other text)))
