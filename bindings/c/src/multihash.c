@@ -822,7 +822,7 @@ MH_INLINE size_t mh_put_digits(uint64_t n, uint8_t *buffer)
     size_t at = 0;
     uint64_t rest = n;
     while (rest >= 128) {
-        buffer[at] = (uint8_t)((uint8_t)(rest & 0x7f) | 0x80);
+        buffer[at] = (uint8_t)((rest & 0x7f) | 0x80);
         /* This is at most eight. */
         at += 1;
         rest >>= 7;
@@ -842,14 +842,14 @@ MH_INLINE size_t mh_put_varint(uint64_t n, uint8_t *buffer)
     }
     /* The longer codes in use have two bytes or three. */
     if (n < (UINT64_C(1) << 14)) {
-        buffer[0] = (uint8_t)((uint8_t)(n & 0x7f) | 0x80);
+        buffer[0] = (uint8_t)((n & 0x7f) | 0x80);
         buffer[1] = (uint8_t)(n >> 7);
         return 2;
     }
     if (n < (UINT64_C(1) << 21)) {
         const uint64_t rest = n >> 7;
-        buffer[0] = (uint8_t)((uint8_t)(n & 0x7f) | 0x80);
-        buffer[1] = (uint8_t)((uint8_t)(rest & 0x7f) | 0x80);
+        buffer[0] = (uint8_t)((n & 0x7f) | 0x80);
+        buffer[1] = (uint8_t)((rest & 0x7f) | 0x80);
         buffer[2] = (uint8_t)(rest >> 7);
         return 3;
     }
