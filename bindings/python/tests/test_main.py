@@ -49,8 +49,9 @@ class Main(unittest.TestCase):
             self.assertEqual(run(text, input=HEX), (1, "", error_of(reason)))
 
     def test_help(self):
-        status, page, reason = run("--help", input=HEX)
-        self.assertEqual((status, page[:33], reason), (0, "Shows a multihash, as the program", ""))
+        for word in ("-h", "--help"):
+            status, page, reason = run(word, input=HEX)
+            self.assertEqual((status, page[:33], reason), (0, "Shows a multihash, as the program", ""))
         command = [sys.executable, "-OO", "-m", "verified_multihash", "--help"]
         self.assertEqual(subprocess.run(command, check=False).returncode, 0)
 

@@ -4,7 +4,7 @@
 
 reads HEX, or else standard input to its end: an encoding in hexadecimal, with a digest of at most 64 bytes. It prints
 the code, the digest's length and the digest. If that fails it prints the reason to standard error, with status 1.
-With --help it prints this.
+With -h or --help it prints this.
 """
 
 import os
@@ -48,7 +48,7 @@ def main() -> int:
     """Reads and prints. Returns the status."""
     reason = "input not read"
     try:
-        if sys.argv[1:2] == ["--help"]:
+        if sys.argv[1:2] in (["-h"], ["--help"]):
             lines = (__doc__ or "").encode()  # None by -OO
         else:
             lines = _shown(os.fsencode(sys.argv[1]) if sys.argv[1:] else _input())

@@ -83,45 +83,27 @@ fn check_order([code, digest, other_code, other, order]: [&str; 5]) {
     assert_eq!([hash_of(b), hash_of(other_longer)].map(|hash| hash == hash_of(a)), [order.is_eq(); 2]);
 }
 
-/// A code and a digest: both encodings, or the error.
-fn check_value<const S: usize>(code: u64, digest: &[u8], [encoding, scale]: [&str; 2]) {
+/// A code and a digest: the encoding, or the error.
+fn check_value<const S: usize>(code: u64, digest: &[u8], [encoding, _]: [&str; 2]) {
     let found = Multihash::<S>::wrap(code, digest);
-    let proved = proved::Multihash::<S>::wrap(code, digest);
-    if let (Ok(multihash), Ok(proved)) = (&found, &proved) {
-        check_writers(multihash, bytes_of(encoding, &mut [0; 1024]));
-        let mut out = [0xa5; 264];
-        let length = proved.scale_encode(&mut SliceWriter::new(&mut out)).expect("enough capacity");
-        assert_eq!(&out[..length], bytes_of(scale, &mut [0; 1024]));
+    if let Ok(multihash) = found {
+        check_writers(&multihash, bytes_of(encoding, &mut [0; 1024]));
     } else {
         check_result(found.as_ref().map(|it| (it.code(), it.digest())), encoding);
-        check_result(proved.as_ref().map(|it| (it.code(), it.digest())), scale);
     }
-}
-
-/// Calls a function for the capacity that a column names.
-macro_rules! with_capacity {
-    ($name:expr, $call:ident $arguments:tt) => {
-        with_capacity!($name, $call $arguments, 0 1 2 4 16 32 64 128 200 255 256 300)
-    };
-    ($name:expr, $call:ident $arguments:tt, $($size:literal)*) => {
-        match $name {
-            $(stringify!($size) => $call::<$size> $arguments,)*
-            name => panic!("a capacity that this test does not have: {name}"),
-        }
-    };
 }
 
 /// Panics if a line is not what the package finds.
 pub fn check_line(line: &str) {
-    check_columns!(line, check, check_order)
+    check_columns!(line, check, check_value, check_order)
 }
 
 #[test]
 fn vectors() {
-    support::each_line(check_line);
+    support::each_vector(check_line);
 }
 
 #[test]
-fn order() {
-    support::each_order(check_line);
+fn values() {
+    support::each_value(check_line);
 }

@@ -126,17 +126,30 @@ fn check_order([code, digest, other_code, other, order]: [&str; 5]) {
     assert_eq!([hash_of(b), hash_of(other_longer)].map(|hash| hash == hash_of(a)), [order.is_eq(); 2]);
 }
 
+/// A code and a digest: both encodings, or the error.
+fn check_value<const S: usize>(code: u64, digest: &[u8], [encoding, scale]: [&str; 2]) {
+    let found = Multihash::<S>::wrap(code, digest);
+    if let Ok(multihash) = found {
+        check_writers(&multihash, bytes_of(encoding, &mut [0; 1024]));
+        let mut out = [0xa5; 264];
+        let length = multihash.scale_encode(&mut SliceWriter::new(&mut out)).expect("enough capacity");
+        assert_eq!(&out[..length], bytes_of(scale, &mut [0; 1024]));
+    } else {
+        check_result(found.as_ref().map(|it| (it.code(), it.digest())), encoding);
+    }
+}
+
 /// Panics if a line is not what the package finds.
 pub fn check_line(line: &str) {
-    check_columns!(line, check, check_order)
+    check_columns!(line, check, check_value, check_order)
 }
 
 #[test]
 fn vectors() {
-    support::each_line(check_line);
+    support::each_vector(check_line);
 }
 
 #[test]
-fn order() {
-    support::each_order(check_line);
+fn values() {
+    support::each_value(check_line);
 }

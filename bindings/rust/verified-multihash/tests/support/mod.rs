@@ -57,53 +57,68 @@ pub fn hash_of(value: impl Hash) -> u64 {
     hasher.finish()
 }
 
-/// Splits a line of the list, and calls `check::<S>(input, results)` or `check_order(columns)`.
+/// Splits a line of a list, and calls `check::<S>(input, results)`, `check_value::<S>(code, digest, encodings)` or
+/// `check_order(columns)`.
 macro_rules! check_columns {
-    ($line:expr, $check:ident, $check_order:ident) => {
-        check_columns!($line, $check, $check_order, 0 1 2 4 16 32 64 128 200 255 256 300)
-    };
-    ($line:expr, $check:ident, $check_order:ident, $($capacity:literal)*) => {{
+    ($line:expr, $check:ident, $check_value:ident, $check_order:ident) => {{
         let mut columns = $line.split('\t');
         let mut next = || columns.next().expect("a column");
-        let size = next();
-        if size == "order" {
-            return $check_order([(); 5].map(|()| next()));
-        }
         let mut buffer = [0; 1024];
-        let input = support::bytes_of(next(), &mut buffer);
-        let results = [(); 5].map(|()| next());
-        match size {
-            $(stringify!($capacity) => $check::<$capacity>(input, results),)*
-            _ => panic!("a capacity that this test does not have: {size}"),
+        match next() {
+            "order" => $check_order([(); 5].map(|()| next())),
+            "value" => {
+                let (capacity, code) = (next(), next().parse().expect("a code"));
+                let digest = support::bytes_of(next(), &mut buffer);
+                support::with_capacity!(capacity, $check_value(code, digest, [next(), next()]))
+            }
+            capacity => {
+                let input = support::bytes_of(next(), &mut buffer);
+                support::with_capacity!(capacity, $check(input, [(); 5].map(|()| next())))
+            }
         }
     }};
 }
 pub(crate) use check_columns;
 
-/// Calls `check` with each line of the list.
+/// Calls a function for the capacity that a column names.
+macro_rules! with_capacity {
+    ($name:expr, $call:ident $arguments:tt) => {
+        support::with_capacity!($name, $call $arguments, 0 1 2 4 16 32 64 128 200 255 256 300)
+    };
+    ($name:expr, $call:ident $arguments:tt, $($capacity:literal)*) => {
+        match $name {
+            $(stringify!($capacity) => $call::<$capacity> $arguments,)*
+            name => panic!("a capacity that this test does not have: {name}"),
+        }
+    };
+}
+pub(crate) use with_capacity;
+
+/// Calls `check` with each line of the list that MULTIHASH_VERDICTS names, or of the list with this name beside it.
 #[cfg(test)]
-pub fn each_line(check: fn(&str)) {
-    let beside = concat!(env!("CARGO_MANIFEST_DIR"), "/../../../crates/vectors/data/verdicts.tsv");
-    let path = std::env::var("MULTIHASH_VERDICTS").unwrap_or_else(|_| beside.into());
-    if path == beside && !std::path::Path::new(beside).exists() {
+pub fn each_line(beside: Option<&str>, columns: &str, check: fn(&str)) {
+    let stored = concat!(env!("CARGO_MANIFEST_DIR"), "/../../../crates/vectors/data/verdicts.tsv");
+    let path = std::path::PathBuf::from(std::env::var("MULTIHASH_VERDICTS").unwrap_or_else(|_| stored.into()));
+    let path = beside.map_or(path.clone(), |name| path.with_file_name(name));
+    if std::env::var("MULTIHASH_VERDICTS").is_err() && !path.exists() {
         return eprintln!("left out: MULTIHASH_VERDICTS is not set, and the repository is not there");
     }
     let list = std::fs::read_to_string(path).expect("the list");
     let mut lines = list.lines();
-    assert_eq!(lines.next(), Some("S\tinput\tread\tread_taken\tfrom_bytes\tscale_decode\tscale_taken"));
+    assert_eq!(lines.next(), Some(columns));
     for line in lines {
         println!("{line}"); // shown where the test fails
         check(line);
     }
 }
 
-/// Calls `check` with how each two of these multihashes compare: each is less than the next.
 #[cfg(test)]
-pub fn each_order(check: fn(&str)) {
-    let sorted = [(0, "-"), (0, "7a7a"), (1, "62"), (1, "6162"), (1, "6262"), (255, "-"), (256, "-")];
-    for (at, (code, digest)) in sorted.iter().enumerate() {
-        for (to, (other_code, other)) in sorted.iter().enumerate() {
-            check(&format!("order\t{code}\t{digest}\t{other_code}\t{other}\t{}", at.cmp(&to) as i8));
-        }
-    }
+pub fn each_vector(check: fn(&str)) {
+    each_line(None, "S\tinput\tread\tread_taken\tfrom_bytes\tscale_decode\tscale_taken", check);
+}
+
+/// Encodings, errors of values, and how values compare.
+#[cfg(test)]
+pub fn each_value(check: fn(&str)) {
+    each_line(Some("values.tsv"), "kind\tlimit\tcode\tdigest\tencoding\tscale", check);
 }
