@@ -139,12 +139,17 @@ class Function(Expressions):
         """Translates a block. Its value is returned, if it is not of the type unit."""
         known, lines = dict(self.known), []
         for it in node.kids:
-            self.is_bounded = any("at most" in line.lower() for line in it.comments)
-            lines += [*comment(it.comments), *self.statement(it, wanted)]
+            lines += self.noted(it, it, wanted)
         self.known = known
         return lines
 
-    def statement(self, node: Node, wanted: Type) -> list[str]:
+    def noted(self, node: Node, done: Node, wanted: Type) -> list[str]:
+        """Translates what the comments of a node are about."""
+        self.is_bounded = any("at most" in line.lower() for line in node.comments)
+        return [*comment(node.comments), *self.done(done, wanted)]
+
+    def done(self, node: Node, wanted: Type) -> list[str]:
+        """Translates a statement, or a value that is returned, or that does something if it is of the type unit."""
         match node.kind:
             case "let":
                 return self.let(node)
@@ -152,13 +157,8 @@ class Function(Expressions):
                 return self.done(node.kids[0], self.made.result) if node.kids else ["return;"]
             case "while":
                 return branch(f"while ({self.expression(node.kids[0], BOOL).code})", self.block(node.kids[1], UNIT))
-            case "tail":
-                return self.done(node.kids[0], wanted)
-        return self.done(node.kids[0], UNIT)
-
-    def done(self, node: Node, wanted: Type) -> list[str]:
-        """Translates what is returned, or what is done if it is of the type unit."""
-        match node.kind:
+            case "tail" | "statement":
+                return self.done(node.kids[0], wanted if node.kind == "tail" else UNIT)
             case "block":
                 return self.block(node, wanted)
             case "if":
@@ -186,7 +186,10 @@ class Function(Expressions):
             made = []
             for arm, part in zip(arms, value.parts):
                 known = dict(self.known)
-                made.append(self.bound(arm.kids[0], part) + self.arm(arm, wanted))
+                is_reached = arm.kids[1].name != "unreachable"
+                made.append(
+                    self.bound(arm.kids[0], part) + (self.noted(arm, arm.kids[1], wanted) if is_reached else [])
+                )
                 self.known = known
             for arm, other, is_met in (arms[0], made[1], negated(value.code)), (arms[1], made[0], value.code):
                 if arm.kids[1].name == "unreachable":
@@ -198,19 +201,15 @@ class Function(Expressions):
         lines.append(f"switch ({value.code}) {{")
         for arm in arms:
             case = "default" if arm is arms[-1] else f"case {self.expression(arm.kids[0], value.type).code}"
-            lines += [f"{case}:", *indented(self.arm(arm, wanted))]
+            lines += [f"{case}:", *indented(self.noted(arm, arm.kids[1], wanted))]
         return [*lines, "}"]
-
-    def arm(self, arm: Node, wanted: Type) -> list[str]:
-        if arm.kids[1].kind == "macro" and arm.kids[1].name == "unreachable":
-            return []
-        self.is_bounded = any("at most" in line.lower() for line in arm.comments)
-        return comment(arm.comments) + self.done(arm.kids[1], wanted)
 
     def let(self, node: Node) -> list[str]:
         pattern, kind_node, source, other = node.kids
-        if source.kind == "repeat":
-            return self.zeros(pattern, source)
+        if source.kind == "repeat" and self.expression(source.kids[0], U8).code == "0":
+            it = self.name(pattern.name, Type("array", (U8,), self.program.number(self.it, source.kids[1])))
+            self.mutable.add(it.code)
+            return [f"{self.program.c_type(it.type)} {it.code} = {{{{0}}}};"]
         if other.kind == "none" and source.kind != "try":
             kind = self.program.type(self.it, kind_node) if kind_node.kind != "none" else None
             return self.bound(pattern, self.expression(source, kind))
@@ -226,14 +225,6 @@ class Function(Expressions):
         else:
             lines += branch(f"if ({negated(value.code)})", self.block(other, result))
         return lines + self.bound(pattern, value.parts[0])
-
-    def zeros(self, pattern: Node, node: Node) -> list[str]:
-        """Declares an array of zeros."""
-        if self.expression(node.kids[0], U8).code != "0":
-            self.it.refuse(node, "no known array")
-        it = self.name(pattern.name, Type("array", (U8,), self.program.number(self.it, node.kids[1])))
-        self.mutable.add(it.code)
-        return [f"{self.program.c_type(it.type)} {it.code} = {{{{0}}}};"]
 
     def opened(self, node: Node, name: str) -> tuple[list[str], Value]:
         """Returns a value. An Option or a Result is opened, and what comes before it is returned too."""
