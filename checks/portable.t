@@ -12,14 +12,15 @@ freestanding() {
   local target
   for target in arm64-apple-macos11 wasm32-unknown-unknown thumbv7em-none-eabi riscv32-unknown-elf \
     x86_64-pc-windows-msvc; do
-    clang --target=$target -ffreestanding -nostdlibinc "${c_flags[@]}" -O2 -I "$c/include" -c "$source" -o "$work/free.o"
+    clang --target=$target -ffreestanding -nostdlibinc "${c_flags[@]}" -O2 -I "$c/include" -c "$source" \
+      -o "$work/free.o"
     llvm-nm --undefined-only -j "$work/free.o" | sed -E 's/^_*//; /^stack_(chk_fail|chk_guard|pointer)$/d' | sort |
       comm -23 - <(printf "%s\n" aeabi_memclr8 memcpy memset) | diff /dev/null -
   done
 }
 
-# For a compiler that is neither GCC nor Clang the source has no name that only these know: with an empty header in place
-# of the C library's, no name that begins with two underscores.
+# For a compiler that is neither GCC nor Clang the source has no name that only these know: with an empty header in
+# place of the C library's, no name that begins with two underscores.
 has_no_extensions() {
   mkdir "$work/empty"
   touch "$work/empty/string.h"

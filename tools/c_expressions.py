@@ -171,6 +171,8 @@ class Expressions:
             self.need_bound(node)
         code = f"{self.inner(left, mark)} {mark} {self.inner(right, '*' if mark == '-' else mark)}"
         if left.type == U8 and mark not in COMPARE:
+            if mark in ("|", "&"):  # the conversion of the result also does that of an operand
+                code = code.removeprefix("(uint8_t)")
             return Value(U8, f"(uint8_t)({code})", "cast")
         return Value(BOOL if mark in COMPARE else left.type, code, mark)
 

@@ -1,5 +1,4 @@
-"""What tools/c_source.py translates: the items of the library for C in Rattle, with their names, types and comments in C.
-"""
+"""What tools/c_source.py translates: the items of the library for C, with their names, types and comments in C."""
 
 import re
 from pathlib import Path

@@ -82,9 +82,8 @@ class Translation(Program):
             self.constants.add((it.owner, it.item.name))
             text = f"{number:#x}" if number > 1 << 16 else str(number)
             lines = [*about, f"#define {name} {ONES[kind.name].format(text)}"]
-            is_status = name.startswith("MULTIHASH_")
-            check = f'_Static_assert({name} == {number}, "{about[-1][3:-3]}");'
-            self.texts[it.module] += [check] if is_status else lines
+            check = [f'_Static_assert({name} == {number}, "{name}");']
+            self.texts[it.module] += check if name.startswith("MULTIHASH_") else lines
         return Value(kind, name)
 
     def function(self, it: Item) -> Signature:

@@ -605,18 +605,18 @@ static inline multihash_decoded mh_decode_rejected_size(uint64_t size, size_t ta
     return mh_rejected(MULTIHASH_INVALID_SIZE, size, 0, taken);
 }
 
-/* The result for a truncated digest. */
-static inline multihash_decoded mh_rejected_end(size_t taken)
-{
-    return mh_rejected(MULTIHASH_UNEXPECTED_EOF, 0, 0, taken);
-}
-
 /* The result for a pair whose digest is the last part consumed.
  * Proved: digest_length <= taken. */
 static inline multihash_decoded mh_accept(uint64_t code, size_t digest_length, size_t taken)
 {
     return (multihash_decoded){.status = MULTIHASH_OK, .size = 0, .code = code,
         .digest_offset = taken - digest_length, .digest_length = digest_length, .taken = taken};
+}
+
+/* The result for a truncated digest. */
+static inline multihash_decoded mh_rejected_end(size_t taken)
+{
+    return mh_rejected(MULTIHASH_UNEXPECTED_EOF, 0, 0, taken);
 }
 
 /* Decodes each input of that many bytes that begins with the front. No digest is read, so only the two
@@ -635,9 +635,9 @@ MH_INLINE multihash_decoded mh_decode_whole(const uint8_t *front, size_t front_l
     /* This is at most 255. */
     const size_t size = (size_t)head.digest_len;
     const size_t left = whole_length - head.digest_offset;
+    if (left == size) return mh_accept(head.code, size, whole_length);
     if (left < size) return mh_rejected_end(whole_length);
-    if (left > size) return mh_decode_rejected_size((uint64_t)(left - size), whole_length);
-    return mh_accept(head.code, size, whole_length);
+    return mh_decode_rejected_size((uint64_t)(left - size), whole_length);
 }
 
 /* Does what `multihash_from_bytes` does, for an input that is not short. */
@@ -680,10 +680,19 @@ MH_INLINE multihash_decoded mh_decode_read_within(const uint8_t *bytes, size_t b
     return mh_accept(head.code, size, head.digest_offset + size);
 }
 
+/* Does what `multihash_read` does, for an input that is not short. */
+MH_COLD multihash_decoded mh_read_longer(const uint8_t *bytes, size_t bytes_length)
+{
+    return mh_decode_read_within(bytes, bytes_length, MH_DIGEST_MAX);
+}
+
 /* Decodes the multihash whose encoding is at the front of `bytes`. */
 multihash_decoded multihash_read(const uint8_t *bytes, size_t bytes_length)
 {
-    return mh_decode_read_within(bytes, bytes_length, MH_DIGEST_MAX);
+    if (mh_is_short(bytes, bytes_length)) {
+        return mh_decode_read_within(bytes, bytes_length, MH_DIGEST_MAX);
+    }
+    return mh_read_longer(bytes, bytes_length);
 }
 
 /* Decodes the multihash whose encoding is at the front of `bytes`, with a digest of at most `limit`
@@ -813,7 +822,7 @@ MH_INLINE size_t mh_put_digits(uint64_t n, uint8_t *buffer)
     size_t at = 0;
     uint64_t rest = n;
     while (rest >= 128) {
-        buffer[at] = (uint8_t)((uint8_t)(rest & 0x7f) | 0x80);
+        buffer[at] = (uint8_t)((rest & 0x7f) | 0x80);
         /* This is at most eight. */
         at += 1;
         rest >>= 7;
@@ -833,14 +842,14 @@ MH_INLINE size_t mh_put_varint(uint64_t n, uint8_t *buffer)
     }
     /* The longer codes in use have two bytes or three. */
     if (n < (UINT64_C(1) << 14)) {
-        buffer[0] = (uint8_t)((uint8_t)(n & 0x7f) | 0x80);
+        buffer[0] = (uint8_t)((n & 0x7f) | 0x80);
         buffer[1] = (uint8_t)(n >> 7);
         return 2;
     }
     if (n < (UINT64_C(1) << 21)) {
         const uint64_t rest = n >> 7;
-        buffer[0] = (uint8_t)((uint8_t)(n & 0x7f) | 0x80);
-        buffer[1] = (uint8_t)((uint8_t)(rest & 0x7f) | 0x80);
+        buffer[0] = (uint8_t)((n & 0x7f) | 0x80);
+        buffer[1] = (uint8_t)((rest & 0x7f) | 0x80);
         buffer[2] = (uint8_t)(rest >> 7);
         return 3;
     }
@@ -1022,14 +1031,14 @@ multihash_batch multihash_read_many(const uint8_t *bytes, size_t bytes_length, m
 
 /* ---- multihash_c/src/status.rt
  * The statuses that a C caller gets. */
-_Static_assert(MULTIHASH_INSUFFICIENT == 1, "The input ends within or before a varint.");
-_Static_assert(MULTIHASH_OVERFLOW == 2, "A varint has more than nine bytes, as every number of 2^63 or more needs.");
-_Static_assert(MULTIHASH_NOT_MINIMAL == 3, "A varint of more than one byte ends in a zero byte.");
-_Static_assert(MULTIHASH_INVALID_SIZE == 4, "A digest is too long, or bytes follow the multihash.");
-_Static_assert(MULTIHASH_UNEXPECTED_EOF == 6, "The input ends within the digest, or within a fixed-size part of the SCALE form.");
-_Static_assert(MULTIHASH_OK == 0, "Success.");
-_Static_assert(MULTIHASH_INVALID_CODE == 5, "A code is 2^63 or more.");
-_Static_assert(MULTIHASH_NO_ROOM == 7, "The buffer is too small.");
+_Static_assert(MULTIHASH_INSUFFICIENT == 1, "MULTIHASH_INSUFFICIENT");
+_Static_assert(MULTIHASH_OVERFLOW == 2, "MULTIHASH_OVERFLOW");
+_Static_assert(MULTIHASH_NOT_MINIMAL == 3, "MULTIHASH_NOT_MINIMAL");
+_Static_assert(MULTIHASH_INVALID_SIZE == 4, "MULTIHASH_INVALID_SIZE");
+_Static_assert(MULTIHASH_OK == 0, "MULTIHASH_OK");
+_Static_assert(MULTIHASH_UNEXPECTED_EOF == 6, "MULTIHASH_UNEXPECTED_EOF");
+_Static_assert(MULTIHASH_INVALID_CODE == 5, "MULTIHASH_INVALID_CODE");
+_Static_assert(MULTIHASH_NO_ROOM == 7, "MULTIHASH_NO_ROOM");
 
 /* ---- multihash_c/src/version.rt
  * The version of the library for C. */

@@ -55,8 +55,8 @@ static int32_t same_number(int32_t a, int32_t b)
     }
 
 READS(multihash_decoded, multihash_from_bytes, same_decoded, (const uint8_t *bytes, size_t length), bytes, length)
-READS(multihash_decoded, multihash_from_prefix, same_decoded, (const uint8_t *bytes, size_t length, size_t whole), bytes,
-      length, whole)
+READS(multihash_decoded, multihash_from_prefix, same_decoded, (const uint8_t *bytes, size_t length, size_t whole),
+      bytes, length, whole)
 READS(multihash_decoded, multihash_read, same_decoded, (const uint8_t *bytes, size_t length), bytes, length)
 READS(multihash_decoded, multihash_read_limit, same_decoded, (const uint8_t *bytes, size_t length, size_t limit), bytes,
       length, limit)
@@ -64,8 +64,8 @@ READS(multihash_front, multihash_head, same_front, (const uint8_t *bytes, size_t
 READS(multihash_decoded, multihash_scale_decode, same_decoded, (const uint8_t *bytes, size_t length), bytes, length)
 READS(multihash_encoded, multihash_encoded_len, same_encoded, (uint64_t code, size_t length), code, length)
 READS(int32_t, multihash_compare, same_number,
-      (uint64_t code, const uint8_t *left, size_t length, uint64_t other, const uint8_t *right, size_t other_length), code,
-      left, length, other, right, other_length)
+      (uint64_t code, const uint8_t *left, size_t length, uint64_t other, const uint8_t *right, size_t other_length),
+      code, left, length, other, right, other_length)
 WRITES(multihash_encode, (uint64_t code, const uint8_t *digest, size_t length, uint8_t *out, size_t room), code, digest,
        length, out, room)
 WRITES(multihash_scale_encode, (uint64_t code, const uint8_t *digest, size_t length, uint8_t *out, size_t room), code,

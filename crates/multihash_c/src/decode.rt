@@ -81,6 +81,18 @@ pub extern "C" fn multihash_from_prefix(prefix: &[u8], whole_length: usize) -> D
 pub extern "C" fn multihash_read(bytes: &[u8]) -> Decoded
     ensures { ReadsWithin 255 bytes.now result }
 {
+    if is_short(bytes) {
+        return read_within(bytes, DIGEST_MAX);
+    }
+    read_longer(bytes)
+}
+
+// Does what `multihash_read` does, for an input that is not short.
+#[cold]
+#[inline(never)]
+fn read_longer(bytes: &[u8]) -> Decoded
+    ensures { ReadsWithin 255 bytes.now result }
+{
     read_within(bytes, DIGEST_MAX)
 }
 
@@ -189,13 +201,13 @@ fn decode_whole(front: &[u8], whole_length: usize) -> Decoded
     // This is at most 255.
     let size = head.digest_len as usize;
     let left = whole_length - head.digest_offset;
+    if left == size {
+        return accept(head.code, size, whole_length);
+    }
     if left < size {
         return rejected_end(whole_length);
     }
-    if left > size {
-        return rejected_size((left - size) as u64, whole_length);
-    }
-    accept(head.code, size, whole_length)
+    rejected_size((left - size) as u64, whole_length)
 }
 
 // Decodes the multihash whose encoding is at the front of `bytes`, as `read` does for the capacity

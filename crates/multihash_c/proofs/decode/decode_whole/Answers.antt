@@ -34,35 +34,12 @@ pub returns-then-head-clause-cut : goal.returns-then-head-clause-cut
 returns-then-head-clause-cut c = λ has. absurd (head_no_error _ _ _ c.args.front.now insufficient c.in-Some.ensures.some has)
 
 pub returns-then-left-size-clause-verdict : goal.returns-then-left-size-clause-verdict
-returns-then-left-size-clause-verdict c = λ input long begins enough. (
-  unexpected_eof,
-  whole_short _ _ _ input (head_kept _ _ _ c.args.front.now input begins c.in-Some.ensures.some) 255 (omega (arith, c.if-head.false)) (drop _ input) refl
-      (omega (arith, length-drop c.in-Some.head.digest_offset input, long, c.if-left-size.true)),
-  c.rejected_end.ensures.reports input,
-)
-
-pub returns-then-left-size-clause-cut : goal.returns-then-left-size-clause-cut
-returns-then-left-size-clause-cut c = λ has. absurd (head_no_error _ _ _ c.args.front.now insufficient c.in-Some.ensures.some has)
-
-pub returns-then-left-size-2-clause-verdict : goal.returns-then-left-size-2-clause-verdict
-returns-then-left-size-2-clause-verdict c = λ input long begins enough. (
-  invalid_size _,
-  whole_trailing _ _ _ input (head_kept _ _ _ c.args.front.now input begins c.in-Some.ensures.some) 255 (omega (arith, c.if-head.false)) (drop _ input) refl
-      _ (omega (arith, length-drop c.in-Some.head.digest_offset input, long, c.if-left-size-2.true))
-      (omega (arith, length-drop c.in-Some.head.digest_offset input, long)),
-  c.rejected_size-then-left-size-2.ensures.reports input,
-)
-
-pub returns-then-left-size-2-clause-cut : goal.returns-then-left-size-2-clause-cut
-returns-then-left-size-2-clause-cut c = λ has. absurd (head_no_error _ _ _ c.args.front.now insufficient c.in-Some.ensures.some has)
-
-pub returns-clause-verdict : goal.returns-clause-verdict
-returns-clause-verdict c = λ input long begins enough.
+returns-then-left-size-clause-verdict c = λ input long begins enough.
     let head = c.in-Some.head in
     let has = c.in-Some.ensures.some in
     let rest = drop head.digest_offset input in
     let exact : length rest ≡ head.digest_len =
-    omega (arith, length-drop head.digest_offset input, long, c.if-left-size.false, c.if-left-size-2.false) in
+    omega (arith, length-drop head.digest_offset input, long, c.if-left-size.true) in
     let at : c.accept.result.digest_offset ≡ head.digest_offset =
     omega (arith, c.accept.ensures.offset, exact, length-drop head.digest_offset input, long, has.within, c.requires) in
     let all : take c.accept.result.digest_length (drop c.accept.result.digest_offset input) ≡ rest =
@@ -71,6 +48,29 @@ returns-clause-verdict c = λ input long begins enough.
       whole_exact _ _ _ input (head_kept _ _ _ c.args.front.now input begins has) 255 (omega (arith, c.if-head.false)) rest refl exact,
       c.accept.ensures.reports input _ refl (omega (arith, long)) (sym all),
     )
+
+pub returns-then-left-size-clause-cut : goal.returns-then-left-size-clause-cut
+returns-then-left-size-clause-cut c = λ has. absurd (head_no_error _ _ _ c.args.front.now insufficient c.in-Some.ensures.some has)
+
+pub returns-then-left-size-2-clause-verdict : goal.returns-then-left-size-2-clause-verdict
+returns-then-left-size-2-clause-verdict c = λ input long begins enough. (
+  unexpected_eof,
+  whole_short _ _ _ input (head_kept _ _ _ c.args.front.now input begins c.in-Some.ensures.some) 255 (omega (arith, c.if-head.false)) (drop _ input) refl
+      (omega (arith, length-drop c.in-Some.head.digest_offset input, long, c.if-left-size-2.true)),
+  c.rejected_end.ensures.reports input,
+)
+
+pub returns-then-left-size-2-clause-cut : goal.returns-then-left-size-2-clause-cut
+returns-then-left-size-2-clause-cut c = λ has. absurd (head_no_error _ _ _ c.args.front.now insufficient c.in-Some.ensures.some has)
+
+pub returns-clause-verdict : goal.returns-clause-verdict
+returns-clause-verdict c = λ input long begins enough. (
+  invalid_size _,
+  whole_trailing _ _ _ input (head_kept _ _ _ c.args.front.now input begins c.in-Some.ensures.some) 255 (omega (arith, c.if-head.false)) (drop _ input) refl
+      _ (omega (arith, length-drop c.in-Some.head.digest_offset input, long, c.if-left-size.false, c.if-left-size-2.false))
+      (omega (arith, length-drop c.in-Some.head.digest_offset input, long)),
+  c.rejected_size-2.ensures.reports input,
+)
 
 pub returns-clause-cut : goal.returns-clause-cut
 returns-clause-cut c = λ has. absurd (head_no_error _ _ _ c.args.front.now insufficient c.in-Some.ensures.some has)
