@@ -6,6 +6,7 @@ pub mod byte_count;
 pub mod capacities;
 pub mod code_table;
 pub mod content_id;
+pub mod errors;
 pub mod forms;
 pub mod loops;
 pub mod merkle;
