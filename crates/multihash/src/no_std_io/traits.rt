@@ -9,9 +9,9 @@ use super::Error;
 ///
 /// An implementation exposes two ghost members to contracts: `rest`, the list of bytes still to come,
 /// or `None` for a reader whose input is not known, and `failures`, the number of times that it has
-/// failed. Its methods are proved to keep the laws in their clauses. Whether the input is known never
-/// changes. A call that fails with an error of the reader itself raises the count, and no other call
-/// changes it.
+/// failed. Its methods have to keep the laws that their documentation states; in Rattle these are clauses,
+/// which are proved. Whether the input is known never changes. A call that fails with an error of the reader
+/// itself raises the count, and no other call changes it.
 pub trait Read {
     // The bytes still to come, if the input is known.
     ghost rest: { Self → Option (List ℕ) };
@@ -59,9 +59,9 @@ pub trait Read {
 /// An implementation exposes four ghost members to contracts: `allocates`, which has to be the value of
 /// `ALLOCATES` (nothing checks this for a custom writer), `appended`, the relation of two states and the
 /// list of bytes appended between them, whether it is `full`, and `failures`, the number of times that
-/// it has failed. Its methods are proved to keep the laws in their clauses. A call that fails with an
-/// error of the writer itself raises the count, except one that is out of memory where it allocates, and
-/// no other call changes it.
+/// it has failed. Its methods have to keep the laws that their documentation states; in Rattle these are
+/// clauses, which are proved. A call that fails with an error of the writer itself raises the count, except
+/// one that is out of memory where it allocates, and no other call changes it.
 pub trait Write {
     /// Whether a call may allocate, and so return [`Error::out_of_memory`] without counting a failure.
     const ALLOCATES: bool;

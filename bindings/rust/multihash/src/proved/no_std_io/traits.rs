@@ -7,9 +7,9 @@ use super::Error;
 ///
 /// An implementation exposes two ghost members to contracts: `rest`, the list of bytes still to come,
 /// or `None` for a reader whose input is not known, and `failures`, the number of times that it has
-/// failed. Its methods are proved to keep the laws in their clauses. Whether the input is known never
-/// changes. A call that fails with an error of the reader itself raises the count by exactly one, and
-/// no other call changes it; so a reader that retries another one has a count of its own.
+/// failed. Its methods have to keep the laws that their documentation states; in Rattle these are clauses,
+/// which are proved. Whether the input is known never changes. A call that fails with an error of the reader
+/// itself raises the count, and no other call changes it.
 pub trait Read {
     /// Reads some of the next bytes into the front of `buf`, and returns their number. The rest of
     /// `buf` is unchanged. It returns 0 for a non-empty buffer only at the end of a known input; no law
@@ -18,8 +18,8 @@ pub trait Read {
     /// # Errors
     ///
     /// An error of the reader itself, of the kind [`Error::is_other`] or [`Error::is_out_of_memory`],
-    /// exactly if the reader's count of failures rises, by one. Nothing was consumed then, and the
-    /// contents of `buf` are unspecified.
+    /// exactly if the reader's count of failures rises. Nothing was consumed then, and the contents of
+    /// `buf` are unspecified.
     fn read(&mut self, buf: &mut [u8]) -> Result<usize, Error>;
 
     /// Reads as many of the next bytes as `buf` holds. It always succeeds for an empty buffer.
@@ -27,7 +27,7 @@ pub trait Read {
     /// # Errors
     ///
     /// - [`Error::is_unexpected_eof`] if fewer bytes remain.
-    /// - An error of the reader itself, exactly if the reader's count of failures rises, by one.
+    /// - An error of the reader itself, exactly if the reader's count of failures rises.
     ///
     /// Fewer bytes than `buf` holds were consumed then, and the contents of `buf` are unspecified.
     fn read_exact(&mut self, buf: &mut [u8]) -> Result<(), Error> {
@@ -48,27 +48,26 @@ pub trait Read {
 /// An implementation exposes four ghost members to contracts: `allocates`, which has to be the value of
 /// `ALLOCATES` (nothing checks this for a custom writer), `appended`, the relation of two states and the
 /// list of bytes appended between them, whether it is `full`, and `failures`, the number of times that
-/// it has failed. Its methods are proved to keep the laws in their clauses. A call that fails with an
-/// error of the writer itself raises the count by exactly one, and no other call changes it; so a writer
-/// that retries another one has a count of its own.
+/// it has failed. Its methods have to keep the laws that their documentation states; in Rattle these are
+/// clauses, which are proved. A call that fails with an error of the writer itself raises the count, except
+/// one that is out of memory where it allocates, and no other call changes it.
 pub trait Write {
     /// Whether a call may allocate, and so return [`Error::out_of_memory`] without counting a failure.
     const ALLOCATES: bool;
 
     /// Appends some of the first bytes of `buf`, and returns their number. It returns 0 for a non-empty
-    /// buffer only if it is full then, and for every buffer if it was full before.
+    /// buffer only if it is full then.
     ///
     /// # Errors
     ///
     /// - An error of the writer itself, of the kind [`Error::is_other`] or [`Error::is_out_of_memory`],
-    ///   if the writer's count of failures rises, by one.
+    ///   if the writer's count of failures rises.
     /// - [`Error::is_out_of_memory`] with an unchanged count, if it allocates.
     ///
     /// Nothing was appended then.
     fn write(&mut self, buf: &[u8]) -> Result<usize, Error>;
 
-    /// Appends the whole of `buf`. It always succeeds for an empty buffer, and fails for any other if the
-    /// writer was full before.
+    /// Appends the whole of `buf`. It always succeeds for an empty buffer.
     ///
     /// # Errors
     ///
