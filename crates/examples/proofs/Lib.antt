@@ -1,2 +1,3 @@
+mod ErrorLemmas
 pub mod IdentifierLemmas
 pub mod IdentifierVectors

@@ -1,6 +1,7 @@
 //! Digests in buffers of a given capacity.
-ghost use Rattle.std.specs.Prelude.{◌≡◌, ◌<◌, ◌≤◌, ◌⊎◌, ◌++◌, ◌-◌, length, min, take, replicate, MatchResult};
+ghost use Rattle.std.specs.Prelude.{◌≡◌, ◌<◌, ◌≤◌, ◌⊎◌, ◌++◌, ◌-◌, ◌^◌, length, min, take, replicate, MatchResult, IfOk, IsTrue};
 ghost use Rattle.multihash.specs.Varint.{varint_limit};
+ghost use Rattle.multihash.specs.Pair.{truncated};
 ghost use Rattle.multihash.specs.Refusal.{IsInvalidSize, IsInvalidCode};
 ghost use Rattle.multihash.specs.Multihash.{pair_of};
 
@@ -33,4 +34,19 @@ pub fn first_20<const S: usize>(multihash: &Multihash<S>) -> (u64, [u8; 20], u8)
     ensures size { result.2 ≡ min 20 (length (pair_of multihash.now).digest) }
 {
     multihash.truncate(20).resize::<20>().unwrap().into_inner()
+}
+
+/// Returns the multihash truncated twice, which is truncated once to the smaller size.
+pub fn truncate_twice<const S: usize>(m: &Multihash<S>, first: u8, second: u8) -> Multihash<S>
+    ensures { pair_of result ≡ truncated (min first second) (pair_of m.now) }
+{
+    m.truncate(first).truncate(second)
+}
+
+/// Returns whether the multihash is the same as in a buffer of another capacity, which is so wherever it fits.
+pub fn is_same_resized<const S: usize, const R: usize>(m: &Multihash<S>) -> Result<bool, Error>
+    requires { R < 2 ^ 16 }
+    ensures { IfOk result IsTrue }
+{
+    Ok(m.resize::<R>()?.same_as(m))
 }

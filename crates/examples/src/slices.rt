@@ -1,6 +1,6 @@
 //! Callers that read a slice, or fill a slice or a vector, and whose contracts state its bytes.
 ghost use Rattle.std.specs.Prelude.{◌≡◌, ◌<◌, ◌≤◌, ◌+◌, ◌↔◌, ℕ, List, ◌++◌, length, take, drop, min, false, Some};
-ghost use Rattle.std.specs.Prelude.{vec_len, vec_capacity, IsTrue, IfOk, IfErr, IfSome, IfNone, IsErrAnd, MatchOption};
+ghost use Rattle.std.specs.Prelude.{◌-◌, vec_len, vec_capacity, IsOk, IsTrue, IfOk, IfErr, IfSome, IfNone, IsErrAnd, MatchOption};
 ghost use Rattle.multihash.specs.Varint.{insufficient, IsVarint, IsInsufficient};
 ghost use Rattle.multihash.specs.Pair.{digest_limit};
 ghost use Rattle.multihash.specs.Encoding.{IsEncoding};
@@ -94,4 +94,20 @@ pub fn encode_into<const S: usize>(m: &Multihash<S>, buffer: &mut [u8]) -> Optio
     }
     let mut writer = SliceWriter::new(buffer);
     Some(m.write(&mut writer).unwrap())
+}
+
+/// Writes the encoding to the front of a plain slice, which a reference to it advances past. Returns its length and
+/// what is left of the slice. It fits exactly if the slice has as many bytes.
+pub fn write_to_slice<'a, const S: usize>(
+    m: &Multihash<S>,
+    buffer: &'a mut [u8],
+) -> Result<(usize, &'a mut [u8]), Error>
+    ensures { (bytes : List ℕ) × IsEncoding (pair_of m.now) bytes
+        × (IsOk result ↔ (length bytes ≤ length buffer.old))
+        × IfOk result (λ written. (written.0 ≡ length bytes)
+        × (length written.1.now ≡ length buffer.old - length bytes)) }
+{
+    let mut left = buffer;
+    let len = m.write(&mut left)?;
+    Ok((len, left))
 }

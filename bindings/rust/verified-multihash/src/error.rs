@@ -104,8 +104,8 @@ impl Error {
     /// a digest or of a fixed-size part. It is true if [`Error::is_insufficient`] is, and if
     /// [`Error::io`] is an unexpected end of file.
     ///
-    /// For `read` and `scale_decode` that is exactly when more input could change the result. More input
-    /// also changes an error of `from_bytes` or `from_value` that counts trailing bytes.
+    /// For `read` that is exactly when more input could change the result. More input also changes an
+    /// error of `from_bytes` or `from_value` that counts trailing bytes.
     pub fn is_incomplete(&self) -> bool {
         match &self.kind {
             Kind::Io(e) => e.is_unexpected_eof(),
