@@ -680,19 +680,25 @@ MH_INLINE multihash_decoded mh_decode_read_within(const uint8_t *bytes, size_t b
     return mh_accept(head.code, size, head.digest_offset + size);
 }
 
-/* Does what `multihash_read` does, for an input that is not short. */
+/* Does what `mh_decode_read_first` does, for an input that is not short. */
 MH_COLD multihash_decoded mh_read_longer(const uint8_t *bytes, size_t bytes_length)
 {
     return mh_decode_read_within(bytes, bytes_length, MH_DIGEST_MAX);
 }
 
-/* Decodes the multihash whose encoding is at the front of `bytes`. */
-multihash_decoded multihash_read(const uint8_t *bytes, size_t bytes_length)
+/* What `multihash_read` returns. */
+MH_INLINE multihash_decoded mh_decode_read_first(const uint8_t *bytes, size_t bytes_length)
 {
     if (mh_is_short(bytes, bytes_length)) {
         return mh_decode_read_within(bytes, bytes_length, MH_DIGEST_MAX);
     }
     return mh_read_longer(bytes, bytes_length);
+}
+
+/* Decodes the multihash whose encoding is at the front of `bytes`. */
+multihash_decoded multihash_read(const uint8_t *bytes, size_t bytes_length)
+{
+    return mh_decode_read_first(bytes, bytes_length);
 }
 
 /* Decodes the multihash whose encoding is at the front of `bytes`, with a digest of at most `limit`
@@ -1004,6 +1010,18 @@ multihash_encoded multihash_put_status_text(uint32_t status, uint8_t *out, size_
 /* ---- multihash_c/src/many.rt
  * Decoding of many multihashes in one call, for C. */
 
+/* The result if what follows the items is no multihash. */
+MH_INLINE multihash_batch mh_stopped(multihash_decoded found, size_t count, size_t taken)
+{
+    return (multihash_batch){.status = found.status, .size = found.size, .count = count, .taken = taken};
+}
+
+/* Whether a code of one byte and a digest of 32 bytes may come first. */
+MH_INLINE bool mh_is_usual(const uint8_t *bytes, size_t bytes_length)
+{
+    return bytes_length >= 34 && bytes[0] < 128 && bytes[1] == 32;
+}
+
 /* Decodes the multihashes at the front of `bytes`, one after another, until `out` is full, the input ends, or what
  * follows is no multihash. */
 multihash_batch multihash_read_many(const uint8_t *bytes, size_t bytes_length, multihash_item *out,
@@ -1012,19 +1030,29 @@ multihash_batch multihash_read_many(const uint8_t *bytes, size_t bytes_length, m
     size_t count = 0;
     size_t taken = 0;
     while (count < out_length && taken < bytes_length) {
-        const multihash_decoded found = mh_decode_read_within(bytes + taken, bytes_length - taken,
-            MH_DIGEST_MAX);
-        if (found.status != MULTIHASH_OK) {
-            return (multihash_batch){.status = found.status, .size = found.size, .count = count,
-                .taken = taken};
-        }
-        /* Offsets and ends of digests are at most the number of bytes. */
+        const multihash_decoded found = mh_decode_read_first(bytes + taken, bytes_length - taken);
+        if (found.status != MULTIHASH_OK) return mh_stopped(found, count, taken);
+        /* The sum is at most the number of bytes. */
         out[count] = (multihash_item){.code = found.code, .digest_offset = taken + found.digest_offset,
             .digest_length = found.digest_length};
         /* It is at most the number of bytes. */
         taken += found.taken;
         /* It is at most the number of items. */
         count += 1;
+        /* After a usual digest the place of the next multihash does not depend on what was read: so a
+         * processor does not wait for it. */
+        while (count < out_length && mh_is_usual(bytes + taken, bytes_length - taken)) {
+            const multihash_decoded usual = mh_decode_read_within(bytes + taken, bytes_length - taken,
+                MH_DIGEST_MAX);
+            if (usual.status != MULTIHASH_OK) return mh_stopped(usual, count, taken);
+            /* The sum is at most the number of bytes. */
+            out[count] = (multihash_item){.code = usual.code, .digest_offset = taken + usual.digest_offset,
+                .digest_length = usual.digest_length};
+            /* It is at most the number of bytes. */
+            taken += usual.taken;
+            /* It is at most the number of items. */
+            count += 1;
+        }
     }
     return (multihash_batch){.status = MULTIHASH_OK, .size = 0, .count = count, .taken = taken};
 }

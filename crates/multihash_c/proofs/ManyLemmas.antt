@@ -1,6 +1,7 @@
--- The encodings of items, one after another: one more, which was read.
-use Rattle.std.proofs.Common.{◌≡◌, ℕ, ◌+◌, ◌≤◌, List, [], ◌∷◌, ◌++◌, length, take, drop, refl, sym, ap, ◌∙◌, subst, arith, length-drop}
-use Rattle.std.proofs.lemmas.List.{drop-drop}
+-- The encodings of items, one after another: one more, which was read. Then the buffer has one more item.
+use Rattle.std.proofs.Common.{◌≡◌, ℕ, ◌+◌, ◌≤◌, ◌-◌, ◌<◌, List, [], ◌∷◌, ◌++◌, length, take, drop, slice_set, refl, sym, ap, ◌∙◌, subst, arith, length-drop}
+use Rattle.std.proofs.lemmas.Grind.{drop_more_same}
+use Rattle.std.proofs.lemmas.List.{drop-drop, take_more_set, drop-set-lt, take_all}
 use Rattle.multihash.specs.Pair.{Pair, FitsBuffer}
 use Rattle.multihash.specs.Encoding.{IsEncoding}
 use Rattle.multihash.specs.Varint.{insufficient, overflow, not_minimal}
@@ -51,3 +52,25 @@ module _ (input : List ℕ) (at : ℕ) (d : Decoded) (within : at ≤ length inp
   -- what was read of what follows an index is an item there
   pub item_read : IsEncodedAt input at (at + d.taken) (item_of at d)
   item_read = let (v, has, reports) = reads.verdict in of_verdict v has reports
+
+-- the items so far are encoded one after another, and the other ones are unchanged
+pub record Holds (bytes : List ℕ) (old out : List Item) (count taken : ℕ) : Type 0 where
+  pub items : AreEncodedFrom bytes 0 (take count out) taken
+  pub rest : drop count out ≡ drop count old
+  pub room : count ≤ length old
+  pub inside : taken ≤ length bytes
+
+pub holds_more : (bytes : List ℕ) (old out : List Item) (count taken : ℕ) (found : Decoded) → Holds bytes old out count taken → length out ≡ length old → count < length out
+    → ReadsWithin 255 (take (length bytes - taken) (drop taken bytes)) found → found.status ≡ status_ok
+    → Holds bytes old (slice_set out count (item_of taken found)) (count + 1) (taken + found.taken)
+holds_more bytes old out count taken found before long free reads ok =
+    let rest : ReadsWithin 255 (drop taken bytes) found =
+    subst (λ z. ReadsWithin 255 z found) (take_all (length bytes - taken) (drop taken bytes) (omega (arith, length-drop taken bytes))) reads in
+    let item = item_read bytes taken found before.inside rest ok in
+    record {
+      items = subst (λ z. AreEncodedFrom bytes 0 z (taken + found.taken)) (sym (take_more_set out count (item_of taken found) free))
+          (encoded_push bytes 0 (take count out) taken (taken + found.taken) (item_of taken found) before.items item);
+      rest = drop-set-lt (count + 1) out count (item_of taken found) (omega arith) ∙ drop_more_same out old count before.rest;
+      room = omega (arith, free, long);
+      inside = item.inside;
+    }

@@ -81,13 +81,21 @@ pub extern "C" fn multihash_from_prefix(prefix: &[u8], whole_length: usize) -> D
 pub extern "C" fn multihash_read(bytes: &[u8]) -> Decoded
     ensures { ReadsWithin 255 bytes.now result }
 {
+    read_first(bytes)
+}
+
+// What `multihash_read` returns.
+#[inline(always)]
+pub(crate) fn read_first(bytes: &[u8]) -> Decoded
+    ensures { ReadsWithin 255 bytes.now result }
+{
     if is_short(bytes) {
         return read_within(bytes, DIGEST_MAX);
     }
     read_longer(bytes)
 }
 
-// Does what `multihash_read` does, for an input that is not short.
+// Does what `read_first` does, for an input that is not short.
 #[cold]
 #[inline(never)]
 fn read_longer(bytes: &[u8]) -> Decoded

@@ -2,8 +2,9 @@
 ghost use Rattle.std.specs.Prelude.{◌≡◌, ◌≤◌, ◌⊎◌, length, take, drop};
 ghost use Rattle.multihash_c.specs.Status.{status_ok};
 ghost use Rattle.multihash_c.specs.Many.{AreEncodedFrom, FailsAt};
+ghost use Rattle.multihash_c.specs.Decoded.{ReadsWithin};
 
-use crate::decode::read_within;
+use crate::decode::{Decoded, read_first, read_within};
 use crate::{DIGEST_MAX, status};
 
 /// A multihash in a buffer.
@@ -46,16 +47,11 @@ pub extern "C" fn multihash_read_many(bytes: &[u8], out: &mut [Item]) -> Batch
     let mut count: usize = 0;
     let mut taken: usize = 0;
     while count < out.len() && taken < bytes.len() {
-        let found = read_within(&bytes[taken..], DIGEST_MAX);
+        let found = read_first(&bytes[taken..]);
         if found.status != status::OK {
-            return Batch {
-                status: found.status,
-                size: found.size,
-                count,
-                taken,
-            };
+            return stopped(found, count, taken);
         }
-        // Offsets and ends of digests are at most the number of bytes.
+        // The sum is at most the number of bytes.
         out[count] = Item {
             code: found.code,
             digest_offset: taken + found.digest_offset,
@@ -65,10 +61,47 @@ pub extern "C" fn multihash_read_many(bytes: &[u8], out: &mut [Item]) -> Batch
         taken += found.taken;
         // It is at most the number of items.
         count += 1;
+        // After a usual digest the place of the next multihash does not depend on what was read: so a
+        // processor does not wait for it.
+        while count < out.len() && is_usual(&bytes[taken..]) {
+            let usual = read_within(&bytes[taken..], DIGEST_MAX);
+            if usual.status != status::OK {
+                return stopped(usual, count, taken);
+            }
+            // The sum is at most the number of bytes.
+            out[count] = Item {
+                code: usual.code,
+                digest_offset: taken + usual.digest_offset,
+                digest_length: usual.digest_length,
+            };
+            // It is at most the number of bytes.
+            taken += usual.taken;
+            // It is at most the number of items.
+            count += 1;
+        }
     }
     Batch {
         status: status::OK,
         size: 0,
+        count,
+        taken,
+    }
+}
+
+// Whether a code of one byte and a digest of 32 bytes may come first.
+#[inline(always)]
+fn is_usual(bytes: &[u8]) -> bool {
+    bytes.len() >= 34 && bytes[0] < 128 && bytes[1] == 32
+}
+
+// The result if what follows the items is no multihash.
+#[inline(always)]
+fn stopped(found: Decoded, count: usize, taken: usize) -> Batch
+    ensures { result ≡ record { status = found.status; size = found.size; count = count; taken = taken } }
+{
+    Batch {
+        status: found.status,
+        size: found.size,
         count,
         taken,
     }
