@@ -16,6 +16,7 @@ pub mod laws;
 mod number;
 mod of_multihash;
 mod one_of;
+mod pins;
 mod stream;
 mod tag;
 mod whole;
