@@ -10,7 +10,6 @@ use fakes::expect::{ErrorKind, is_rejected};
 use fakes::forms::{CASES, USUAL, case, different};
 use fakes::{check, check_eq, expect_ok};
 use form::Counted;
-use theorems::list_through;
 use multihash::list::{read_list, write_list};
 use multihash::no_std_io::Write;
 use multihash::{Error, Multihash};
@@ -21,6 +20,7 @@ use std::process::Abort;
 use std::test::Fail;
 use storage::content;
 use storage::log::read_entry;
+use theorems::list_through;
 
 fn capacity_of(value: &Value) -> usize {
     match value {
