@@ -64,25 +64,6 @@ fn each_length_is_kept(rt: HostRuntime) {
     expect_each_kept::<127>(&rt, rt.alloc());
 }
 
-#[test]
-fn each_long_length_is_kept(rt: HostRuntime) {
-    expect_each_kept::<128>(&rt, rt.alloc());
-    expect_each_kept::<200>(&rt, rt.alloc());
-    expect_each_kept::<254>(&rt, rt.alloc());
-    expect_each_kept::<255>(&rt, rt.alloc());
-    expect_each_kept::<256>(&rt, rt.alloc());
-    expect_each_kept::<300>(&rt, rt.alloc());
-    expect_each_kept::<1000>(&rt, rt.alloc());
-}
-
-// Codes with a varint of one or two bytes, as nearly all hash functions have.
-#[test]
-fn each_code_of_two_bytes_is_kept(rt: HostRuntime) {
-    for code in 0..16384 {
-        expect_kept::<32>(&rt, rt.alloc(), code, &[65; 32]);
-    }
-}
-
 const FAILED: &str = "an allocation failed";
 
 // Otherwise it is out of memory.
