@@ -19,20 +19,6 @@ installs() {
     diff - <(echo "$prefix")
 }
 
-# Below DESTDIR, from where pkg-config has to find it, in other folders, each named from the root; with the program,
-# another one here. The folder of the build has a name that a shell would not read as one word.
-installs_below() {
-  local -x PKG_CONFIG_SYSROOT_DIR=below # from the work folder: pkg-config escapes no blank of it
-  local bin=other/bin include=headers/c document=pages/c man=manual to=/opt/multihash
-  build "built (64)" -DMULTIHASH_C_PROGRAM="$(type -P true)" \
-    -DCMAKE_INSTALL_{PREFIX=$to,LIBDIR=$to/lib/64,INCLUDEDIR=$to/$include,DOCDIR=$to/$document,MANDIR=$to/$man} \
-    -DCMAKE_INSTALL_BINDIR=$to/$bin
-  DESTDIR=$work/below cmake --install "$work/built (64)"
-  is_installed "$work/below$to" lib/64
-  cmp "$(type -P true)" "$work/below$to/$bin/mh_show"
-  (cd "$work"; installed_test "$work/below$to")
-}
-
 # Under a name for debugging, by a compiler whose default is C90, with the sources of each target as one unit.
 debug_build() {
   build debug -DCMAKE_C_STANDARD=90 -DCMAKE_BUILD_TYPE=Debug -DCMAKE_DEBUG_POSTFIX=d -DCMAKE_UNITY_BUILD=ON \
@@ -42,18 +28,14 @@ debug_build() {
   installed_test "$work/debug.prefix"
 }
 
-# The package works where it was unpacked: also of another archive, which was changed after a build, and with other
-# folders of each kind. No other file is made. Paths on the command line may be relative ones.
+# The package works where it was unpacked, also with other folders of each kind and another program. No other file is
+# made.
 packs() {
-  local name archive=$work/own.a packed
+  local name packed
   packed=multihash_c-$version-$(uname -m).tar.gz
-  cp "$prefix/lib/libmultihash_c.a" "$archive"
   cp "$(type -P true)" "$work/program"
-  (cd "$work"; build other -DMULTIHASH_C_ARCHIVE=own.a -DBUILD_SHARED_LIBS=ON -DMULTIHASH_C_PROGRAM=program \
+  (cd "$work"; build other -DBUILD_SHARED_LIBS=ON -DMULTIHASH_C_PROGRAM=program \
     -DCMAKE_INSTALL_{LIBDIR=lib/other,INCLUDEDIR=headers/c,DOCDIR=pages/c,MANDIR=manual,BINDIR=other/bin})
-  objcopy --add-symbol mark=.text:0 "$work/built/libmultihash_c.a" "$archive"
-  cmake --build "$work/other"
-  grep mark "$work/other/libmultihash_c.so"
   for name in built other; do
     mkdir "$work/un packed $name"
     (cd "$work/$name"; cpack -B "$work/$name/packed")
@@ -62,9 +44,9 @@ packs() {
   done
   mv "$prefix" "$work/moved"
   works "$work/un packed built" lib
-  cmp "$archive" "$work/un packed other/lib/other/libmultihash_c.a"
   local bin=other/bin include=headers/c document=pages/c man=manual
   works "$work/un packed other" lib/other
+  cmp "$work/program" "$work/un packed other/$bin/mh_show"
   mv "$work/moved" "$prefix"
 }
 
@@ -80,7 +62,6 @@ man_pages() {
 ONLY='' try "building" build built -DCMAKE_INSTALL_PREFIX="$prefix"
 ONLY='' try "installing" installs
 needs="mandoc" try "man pages" man_pages
-try "installing below a folder" installs_below
 try "a build for debugging" debug_build
 ONLY='' try "packing" packs
 try "the installed test of nothing" rejects "no multihash_c.pc" bindings/c/examples/test.sh "$work/none"

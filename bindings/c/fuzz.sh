@@ -15,7 +15,7 @@ build() {
   local out=$1 work=${WORK:-$1} file
   mkdir -p "$out" "$work/seeds" "$work/objects"
   for file in "$here"/tests/{draws,models,buffer}.c "$here/src/multihash.c"; do
-    "${CC:-clang}" "${flags[@]}" -std=c11 -DFUZZ -DHEAP -Wall -Wextra -I "$here/include" -c "$file" \
+    "${CC:-clang}" "${flags[@]}" -std=c11 -DFUZZ -Wall -Wextra -I "$here/include" -c "$file" \
       -o "$work/objects/$(basename "$file" .c).o"
   done
   "${CXX:-clang}" "${flags[@]}" "$work"/objects/*.o "${LIB_FUZZING_ENGINE:--fsanitize=fuzzer}" \

@@ -4,7 +4,7 @@
 # shellcheck disable=SC2034,SC2154 # what others use, or have set
 warnings=(-Wall -Wextra -Wpedantic -Wconversion -Wsign-conversion -Wshadow -Wcast-qual -Werror)
 c_flags=(-std=c11 "${warnings[@]}" -Wstrict-prototypes -Wmissing-prototypes)
-heap=(-g -O1 -DHEAP)
+heap=(-g -O1)
 sanitize=("${heap[@]}" "-fsanitize=address,undefined" -fno-sanitize-recover=all)
 ulimit -c 0
 top=$PWD

@@ -65,17 +65,10 @@ has_shared_library() {
   exports_exactly "$1" bindings/c/src/multihash_c.map
 }
 
-# All may read what is in a folder, and run its programs and nothing else, but that a shared library may be run.
-has_modes() {
-  find "$1" ! -type l ! \( -perm 755 \( -type d -o -name '*.sh' -o -path '*/bin/*' -o -name '*.so.*' \) \) \
-    ! \( -perm 644 -type f ! -name '*.sh' ! -path '*/bin/*' \) | diff /dev/null -
-}
-
 # A prefix has what it should have, with that folder for libraries. The documents are the repository's.
 is_installed() {
   env -C "$1" find . ! -type d | sort | diff <(files_in "$2" | sort) -
   find "$1" -xtype l | diff /dev/null -
-  has_modes "$1"
   cmp "$header" "$1/$include/multihash.h"
   diff -r bindings/c/examples "$1/$document/examples"
   cmp bindings/c/README.md "$1/$document/README.md"

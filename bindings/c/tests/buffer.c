@@ -1,5 +1,4 @@
-/* Buffers outside of which no byte can be accessed: on Linux that ends the program. With HEAP they have exactly their
- * length on the heap, for a sanitizer or valgrind, which see more. */
+/* Buffers that have exactly their length on the heap, for sanitizers and valgrind. */
 #ifndef _GNU_SOURCE
 #define _GNU_SOURCE
 #endif
@@ -7,41 +6,7 @@
 
 #if defined(__linux__)
 #include <sys/mman.h>
-#include <unistd.h>
 #endif
-
-#if defined(__linux__) && !defined(HEAP)
-/* How many buffers can be there at once, and the pages of each, between two that cannot be accessed. */
-#define BUFFERS 4
-#define PAGES 2
-
-static uint8_t *pages[BUFFERS], *given[BUFFERS];
-static size_t made;
-
-/* At the front of its pages and at their end, by turns. */
-uint8_t *buffer(size_t length)
-{
-    size_t page = (size_t)sysconf(_SC_PAGESIZE), at = 0;
-    if (length == 0) return NULL;
-    while (at < BUFFERS && given[at] != NULL) at++;
-    CHECK(at < BUFFERS && length <= PAGES * page);
-    if (pages[at] == NULL) {
-        pages[at] = (uint8_t *)mmap(NULL, (PAGES + 2) * page, PROT_NONE, MAP_PRIVATE | MAP_ANONYMOUS, -1, 0);
-        CHECK(pages[at] != (uint8_t *)MAP_FAILED);
-        CHECK(mprotect(pages[at] + page, PAGES * page, PROT_READ | PROT_WRITE) == 0);
-    }
-    given[at] = pages[at] + (made++ % 2 == 0 ? page : (PAGES + 1) * page - length);
-    return given[at];
-}
-
-void release(uint8_t *bytes)
-{
-    for (size_t at = 0; at < BUFFERS; at++) {
-        if (given[at] == bytes) given[at] = NULL;
-    }
-}
-
-#else
 
 uint8_t *buffer(size_t length)
 {
@@ -54,8 +19,6 @@ void release(uint8_t *bytes)
 {
     free(bytes);
 }
-
-#endif
 
 uint8_t *copy_of(const uint8_t *bytes, size_t length)
 {

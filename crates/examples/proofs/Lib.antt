@@ -1,3 +1,2 @@
 mod ErrorLemmas
 pub mod IdentifierLemmas
-pub mod IdentifierVectors

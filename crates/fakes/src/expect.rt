@@ -2,10 +2,7 @@
 //! wrong, and the macros call `expect` on that in the test. A check is proved once, while `assert!` is proved
 //! at each call. Each borrow of a local and each branch makes the proof of a test longer: so a note is a
 //! value and no formatted text, and `expect_ok!` replaces `?`.
-ghost use Rattle.std.specs.Prelude.{◌≡◌, IsSomeAnd};
 ghost use Rattle.multihash.specs.Fault.{IsOwnFault};
-ghost use Rattle.multihash.specs.Refusal.{of_io};
-ghost use Rattle.fakes.specs.Kinds.{error_of};
 
 use multihash::{Error, no_std_io};
 use std::fmt::Debug;
@@ -129,7 +126,6 @@ impl ErrorKind {
 
     /// The kind of an error: the first test that applies.
     pub fn of(e: &Error) -> Option<Self>
-        ensures { IsSomeAnd result (λ kind. e.now ≡ error_of kind) }
     {
         if let Some(size) = e.invalid_size() {
             return Some(ErrorKind::InvalidSize(size));
@@ -152,7 +148,6 @@ impl ErrorKind {
 
     /// The kind of a reader's or a writer's error.
     pub fn of_io(e: &no_std_io::Error) -> Option<Self>
-        ensures { IsSomeAnd result (λ kind. of_io e.now ≡ error_of kind) }
     {
         if e.is_unexpected_eof() {
             Some(ErrorKind::UnexpectedEof)

@@ -1,9 +1,9 @@
 //! Errors: that printing one succeeds, at any width and precision. Contracts state the texts.
 use examples::content_id::ContentIdError;
 use examples::peer_id::PeerError;
-use fakes::{check, expect_ok};
+use fakes::check;
 use multihash::no_std_io::{self, Read, Write};
-use multihash::{Error, Multihash, varint};
+use multihash::{Error, Multihash};
 use serde_json::Value;
 use std::alloc::Global;
 use std::error;
@@ -46,73 +46,7 @@ fn link_down() -> Error {
 #[test]
 fn errors_of_callers_are_printed(rt: HostRuntime) {
     expect_printed(&rt, rt.alloc(), &EntryError::Failed(link_down()));
+    expect_printed(&rt, rt.alloc(), &UnknownCode { code: 7 });
     expect_printed(&rt, rt.alloc(), &ContentIdError::Rejected(link_down()));
     expect_printed(&rt, rt.alloc(), &PeerError::Malformed(link_down()));
-}
-
-// A size of 0 is never rejected.
-fn expect_number(rt: &impl Abort, alloc: Global, n: u64) {
-    expect_failure_printed(rt, alloc, &Multihash::<0>::wrap(n | 1 << 63, &[]));
-    let mut input = expect_ok!(rt; vec![in alloc; 0u8]);
-    if n > 0 && varint::write(n, &mut input).is_ok() {
-        expect_failure_printed(rt, alloc, &Multihash::<0>::from_bytes(&input));
-    }
-}
-
-fn expect_number_of_callers(rt: &impl Abort, alloc: Global, n: u64) {
-    expect_printed(rt, alloc, &EntryError::TooLong(n));
-    expect_printed(rt, alloc, &UnknownCode { code: n });
-    expect_printed(rt, alloc, &ContentIdError::OtherVersion(n));
-    expect_printed(rt, alloc, &PeerError::OtherLength(n as usize));
-    expect_printed(rt, alloc, &PeerError::NotAllowed { code: n, size: 7 });
-    expect_printed(rt, alloc, &PeerError::NotAllowed { code: 7, size: n });
-}
-
-fn expect_numbers_about(rt: &impl Abort, alloc: Global, power: u64) {
-    for n in [power.wrapping_sub(1), power, power.wrapping_add(1)] {
-        expect_number(rt, alloc, n);
-        expect_number_of_callers(rt, alloc, n);
-    }
-}
-
-#[test]
-fn numbers_about_powers_are_printed(rt: HostRuntime) {
-    for n in 0..20000 {
-        expect_number(&rt, rt.alloc(), n);
-    }
-    for n in 0..200 {
-        expect_number_of_callers(&rt, rt.alloc(), n);
-    }
-    for bit in 0..64u32 {
-        expect_numbers_about(&rt, rt.alloc(), 1 << bit);
-    }
-    let mut ten = 1u64;
-    for _ in 0..20 {
-        for digit in 1..10u64 {
-            expect_numbers_about(&rt, rt.alloc(), ten.wrapping_mul(digit));
-        }
-        ten = ten.wrapping_mul(10);
-    }
-}
-
-const TEXT: &str =
-    "a text of a reader's own, which is longer than any that this library prints, for each of its \
-     beginnings is passed on, and printed in full, whatever its length is";
-
-// With letters of more than one byte: a prefix ends after each letter.
-const LETTERS: &str = "größer als „eins“";
-
-fn expect_text(rt: &impl Abort, alloc: Global, text: &'static str) {
-    expect_printed(rt, alloc, &no_std_io::Error::other(text));
-    expect_printed(rt, alloc, &Error::from(no_std_io::Error::other(text)));
-}
-
-#[test]
-fn texts_of_each_length_are_printed(rt: HostRuntime) {
-    for len in 0..TEXT.len() {
-        expect_text(&rt, rt.alloc(), TEXT.get(..len).unwrap_or(""));
-    }
-    for len in 0..25 {
-        expect_text(&rt, rt.alloc(), LETTERS.get(..len).unwrap_or(LETTERS));
-    }
 }

@@ -2,7 +2,7 @@
 //! error is passed on unchanged, with no call after it.
 ghost use Rattle.std.specs.Prelude.{◌<◌, ◌^◌};
 
-use fakes::expect::{ErrorKind, is_failed};
+use fakes::expect::ErrorKind;
 use fakes::forms::{Calls, Form, LENGTHS, Sample, long_list, many, samples};
 use fakes::streams::{Counts, Cuts, FailAt, Silent};
 use fakes::{check, check_eq, expect_ok, expect_rejected};
@@ -140,20 +140,6 @@ fn each_length_fails(rt: HostRuntime) {
     expect_each_error::<255>(&rt, rt.alloc(), 0);
     expect_each_error::<300>(&rt, rt.alloc(), LENGTHS);
     expect_errors(&rt, &expect_ok!(&rt; long_list(rt.alloc())));
-}
-
-// The trait's own `read_exact`, of more bytes than a digest has.
-#[test]
-fn each_byte_of_a_long_buffer_fails(rt: HostRuntime) {
-    let bytes = expect_ok!(&rt; many(rt.alloc()));
-    for at in 0..600 {
-        for why in [ErrorKind::LINK_DOWN, ErrorKind::OutOfMemory] {
-            let mut reader = FailAt::new(Cuts::new(&bytes, 1), at, why);
-            let outcome = reader.read_exact(&mut [0; 600]);
-            check!(&rt; is_failed(&outcome, why), (why, at));
-            check_eq!(&rt; reader.cuts.left.len(), bytes.len().saturating_sub(at), at);
-        }
-    }
 }
 
 // The call that meets the end is the last.

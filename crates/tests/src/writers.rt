@@ -1,8 +1,8 @@
-//! Writers: the bytes in slices of each length; how often each is called, borrowed or not; that an error is
-//! passed on unchanged, with no call after it; and how a vector grows.
+//! Writers: the bytes in slices of each length; how often each is called, borrowed or not; and that an error
+//! is passed on unchanged, with no call after it.
 ghost use Rattle.std.specs.Prelude.{◌<◌, ◌^◌};
 
-use fakes::expect::{ErrorKind, is_failed};
+use fakes::expect::ErrorKind;
 use fakes::forms::{CODES, Form, LENGTHS, Sample, different, long_list, many, samples};
 use fakes::streams::{CountsWrites, Drip, FailWrite};
 use fakes::{check, check_eq, expect_bytes, expect_ok, expect_rejected};
@@ -69,35 +69,6 @@ fn each_code_is_written(rt: HostRuntime) {
                 let sample = Sample::<255>::new(rt.alloc(), form, code, digest);
                 expect_in_slices(&rt, &expect_ok!(&rt; sample));
             }
-        }
-    }
-}
-
-// The bytes are not 0, so a byte that is not written differs.
-fn expect_copied(rt: &impl Abort, alloc: Global, bytes: &[u8], room: usize) {
-    let mut buffer = expect_ok!(rt; vec![in alloc; 0u8; room]);
-    let mut left = &mut buffer[..];
-    check_eq!(rt; left.write(bytes).ok(), Some(room.min(bytes.len())));
-    expect_front(rt, &buffer, bytes);
-    let mut buffer = expect_ok!(rt; vec![in alloc; 0u8; room]);
-    let mut left = &mut buffer[..];
-    check_eq!(rt; left.write_all(bytes).is_ok(), bytes.len() <= room);
-    expect_front(rt, &buffer, bytes);
-}
-
-const COPIED: [usize; 17] = [
-    511, 512, 513, 1023, 1024, 1025, 4095, 4096, 4097, 16383, 16384, 16385, 65535, 65536, 65537,
-    5000, 70000,
-];
-
-#[test]
-fn each_length_is_copied(rt: HostRuntime) {
-    let bytes = expect_ok!(&rt; many(rt.alloc()));
-    for len in (0..511).chain(COPIED) {
-        let these = bytes.get(..len).unwrap_or(&[]);
-        expect_copied(&rt, rt.alloc(), these, len / 2);
-        for room in len.saturating_sub(2)..len.saturating_add(2) {
-            expect_copied(&rt, rt.alloc(), these, room);
         }
     }
 }
@@ -222,47 +193,4 @@ fn each_length_fails_or_is_full(rt: HostRuntime) {
     expect_each_error::<255>(&rt, rt.alloc(), 0);
     expect_each_error::<300>(&rt, rt.alloc(), LENGTHS);
     expect_errors(&rt, rt.alloc(), &expect_ok!(&rt; long_list(rt.alloc())));
-}
-
-// The trait's own `write_all`, of more bytes than a digest has.
-#[test]
-fn each_byte_of_a_long_buffer_fails_or_is_full(rt: HostRuntime) {
-    let bytes = expect_ok!(&rt; many(rt.alloc()));
-    for at in 0..600 {
-        for why in ERRORS {
-            let mut writer = failing_writer::<false>(&rt, rt.alloc(), at, why);
-            let outcome = writer.write_all(bytes.get(..600).unwrap_or(&[]));
-            check!(&rt; is_failed(&outcome, why), (why, at));
-            expect_bytes!(&rt; &writer.drip.held, bytes.get(..at).unwrap_or(&[]));
-        }
-    }
-}
-
-// How often the capacities change while the bytes are appended 300 times. A vector that doubles has less than
-// twice what is needed, and 8 at first.
-fn count_own_growths(rt: &impl Abort, alloc: Global, bytes: &[u8]) -> usize {
-    let mut held = Vec::new(alloc);
-    let mut parts = Vec::new(alloc);
-    let mut growths = 0usize;
-    for _ in 0..300 {
-        let before = (held.capacity(), parts.capacity());
-        check!(rt; held.write_all(bytes).is_ok());
-        check!(rt; parts.write(bytes).is_ok());
-        let most = held.len().saturating_mul(2).max(8);
-        check!(rt; held.capacity().max(parts.capacity()) <= most, most);
-        if (held.capacity(), parts.capacity()) != before {
-            growths = growths.saturating_add(1);
-        }
-    }
-    growths
-}
-
-// Each length alone, since another piece between would double the capacity instead.
-#[test]
-fn a_vector_grows_seldom_by_each_length(rt: HostRuntime) {
-    let bytes = expect_ok!(&rt; many(rt.alloc()));
-    for len in (1..258).chain([300, 512, 1000]) {
-        let growths = count_own_growths(&rt, rt.alloc(), bytes.get(..len).unwrap_or(&[]));
-        check!(&rt; growths < 40, (len, growths));
-    }
 }

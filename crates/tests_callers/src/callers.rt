@@ -1,21 +1,19 @@
-//! Callers, in `examples`, `frame`, `storage` and `theorems`: the calls of a reader or a writer, that an
-//! error is passed on, what is reserved, and that memory suffices.
-use examples::any_reader::read_up_to;
-use examples::content_id::{Codec, ContentId, ContentIdError};
+//! Callers, in `examples`, `form`, `frame`, `storage` and `theorems`: the calls of a reader or a writer, that an
+//! error is passed on, and known values.
 use examples::formats::{self, Identifier, Node};
+use examples::loops;
 use examples::std_reader::StdReader;
-use examples::{code_table, loops};
 use fakes::expect::ErrorKind;
 use fakes::streams::{Counts, CountsWrites, Cuts, Drip, FailAt, FailWrite};
 use fakes::{check, check_eq, expect_bytes, expect_ok, expect_rejected};
 use form::{Block, Both, Bytes, Counted, Form, FormError, Number, OneOf, OtherCase, Tag};
-use theorems::{list_through, read_verdict};
 use multihash::no_std_io::{Read, Write};
 use multihash::{Error, Multihash};
 use std::alloc::Global;
 use std::process::Abort;
 use storage::content::{UnknownCode, hash_of, is_damaged, verify};
-use storage::log::{EntryError, read_entry, valid_prefix, write_entry};
+use storage::log::{EntryError, valid_prefix};
+use theorems::list_through;
 
 // The identifier of `aaaa` as raw bytes, with its SHA-256 from another implementation.
 const IDENTIFIER: [u8; 36] = [
@@ -26,16 +24,10 @@ const IDENTIFIER: [u8; 36] = [
 
 #[derive(Clone, Copy, Debug)]
 enum Reads {
-    Verdict,
-    Coded,
-    UpTo(usize),
-    Listed,
-    Identifier,
     Node,
-    FormIdentifier,
+    Identifier,
     Framed,
     NextFramed,
-    Entry,
 }
 
 pub fn of_entry<T: Drop>(outcome: Result<T, EntryError>) -> Result<(), Error> {
@@ -43,14 +35,6 @@ pub fn of_entry<T: Drop>(outcome: Result<T, EntryError>) -> Result<(), Error> {
         Ok(_entry) => Ok(()),
         Err(EntryError::Failed(e)) => Err(e),
         Err(EntryError::TooLong(_n)) => Ok(()),
-    }
-}
-
-fn of_id<T: Drop>(outcome: Result<T, ContentIdError>) -> Result<(), Error> {
-    match outcome {
-        Ok(_id) => Ok(()),
-        Err(ContentIdError::Rejected(e)) => Err(e),
-        Err(_e) => Ok(()),
     }
 }
 
@@ -62,28 +46,13 @@ pub fn of_form<T: Drop>(outcome: Result<T, FormError>) -> Result<(), Error> {
     }
 }
 
-fn done<T: Drop>(outcome: Result<T, Error>) -> Result<(), Error> {
-    match outcome {
-        Ok(_value) => Ok(()),
-        Err(e) => Err(e),
-    }
-}
-
 impl Reads {
     fn make<R: Read>(self, alloc: Global, r: &mut R) -> Result<(), Error> {
-        let one = [Multihash::<32>::default()];
-        let mut out = Vec::new(alloc);
         match self {
-            Reads::Verdict => done(read_verdict::<32, _>(r)),
-            Reads::Coded => done(code_table::read::<32, _>(&[18], r)),
-            Reads::UpTo(limit) => done(read_up_to::<32, _>(alloc, r, limit)),
-            Reads::Listed => done(list_through::<32, 32, _, _>(alloc, &one, &mut out, r)),
-            Reads::Identifier => of_id(ContentId::<32>::read(r)),
             Reads::Node => of_form(form::read::<Node, R>(alloc, r)),
-            Reads::FormIdentifier => of_form(form::read::<Identifier, R>(alloc, r)),
+            Reads::Identifier => of_form(form::read::<Identifier, R>(alloc, r)),
             Reads::Framed => of_entry(frame::read(alloc, r, usize::MAX)),
             Reads::NextFramed => of_entry(frame::read_next(alloc, r, usize::MAX)),
-            Reads::Entry => of_entry(read_entry::<32, _>(alloc, r, usize::MAX)),
         }
     }
 }
@@ -122,21 +91,12 @@ fn calls_of_readers_are_counted(rt: HostRuntime) {
     entry[34..].copy_from_slice(&BLOCK);
     let mut node = [1; 40];
     node[2..].copy_from_slice(&entry);
-    let rows: [(Reads, &[u8], [usize; 4]); 14] = [
-        (Reads::Verdict, hash, [2, 0, 1, 34]),
-        (Reads::Coded, hash, [2, 0, 1, 34]),
-        (Reads::UpTo(0), hash, [0; 4]),
-        (Reads::UpTo(1), hash, [2, 0, 1, 34]),
-        (Reads::UpTo(2), hash, [3, 0, 1, 35]),
-        (Reads::Listed, hash, [2, 0, 1, 34]),
+    let rows: [(Reads, &[u8], [usize; 4]); 5] = [
+        (Reads::Node, &node, [5, 0, 2, 40]),
         (Reads::Identifier, hash, [2, 0, 1, 34]),
         (Reads::Identifier, &IDENTIFIER, [4, 0, 1, 36]),
-        (Reads::Node, &node, [5, 0, 2, 40]),
-        (Reads::FormIdentifier, hash, [2, 0, 1, 34]),
-        (Reads::FormIdentifier, &IDENTIFIER, [4, 0, 1, 36]),
         (Reads::Framed, &BLOCK, [1, 0, 1, 4]),
         (Reads::NextFramed, &BLOCK, [1, 0, 1, 4]),
-        (Reads::Entry, &entry, [3, 0, 2, 38]),
     ];
     for (call, input, asked) in rows {
         expect_asked(rt, alloc, call, input, asked);
@@ -149,10 +109,7 @@ fn calls_of_readers_are_counted(rt: HostRuntime) {
 #[derive(Clone, Copy, Debug)]
 enum Writes {
     Framed,
-    Entry,
-    Version0,
-    Version1,
-    FormVersion0,
+    Identifier,
 }
 
 fn version_0(digest: [u8; 32]) -> Identifier {
@@ -179,28 +136,15 @@ fn empty_node(alloc: Global) -> Node {
 
 impl Writes {
     fn make<W: Write>(self, content: &[u8], w: &mut W) -> Result<(), Error> {
-        let hash = hash_of::<32>(content);
         match self {
             Writes::Framed => frame::write(content, w),
-            Writes::Entry => write_entry(&hash, content, w),
-            Writes::Version0 => ContentId::<32>::V0([7; 32]).write(w),
-            Writes::Version1 => match Codec::new(0x55) {
-                Some(codec) => ContentId::V1 { codec, hash }.write(w),
-                None => Ok(()),
-            },
-            Writes::FormVersion0 => of_form(version_0([7; 32]).write(w)),
+            Writes::Identifier => of_form(version_0([7; 32]).write(w)),
         }
     }
 }
 
 // The calls of `write_all`: a multihash is three, and a varint is one.
-const WRITES: [(Writes, usize); 5] = [
-    (Writes::Framed, 2),
-    (Writes::Entry, 5),
-    (Writes::Version0, 3),
-    (Writes::Version1, 5),
-    (Writes::FormVersion0, 3),
-];
+const WRITES: [(Writes, usize); 2] = [(Writes::Framed, 2), (Writes::Identifier, 3)];
 
 fn failing_writer(rt: &impl Abort, alloc: Global, at: usize, why: ErrorKind) -> FailWrite<false> {
     FailWrite::new(expect_ok!(rt; Drip::new(alloc, 100, 100)), at, why)
@@ -297,50 +241,6 @@ fn a_reader_of_std_is_read(rt: HostRuntime) {
         for limits in [(1, 200), (64, 200), (200, 200), (200, 1), (200, 65)] {
             expect_std(&rt, bytes.get(..len).unwrap_or(&[]), limits, len % 3);
         }
-    }
-}
-
-// A vector that is not made at once has doubled.
-fn expect_doubled(rt: &impl Abort, (len, capacity): (usize, usize), count: usize) {
-    check_eq!(rt; len, count);
-    check!(rt; capacity <= count.saturating_mul(2).max(8), (count, capacity));
-    check!(rt; capacity > count || count < 5000, (count, capacity));
-}
-
-// A block is read page by page.
-fn expect_block(rt: &impl Abort, alloc: Global, count: usize) {
-    let block = expect_ok!(rt; vec![in alloc; 7u8; count]);
-    let (mut out, mut log) = (Vec::new(alloc), Vec::new(alloc));
-    expect_ok!(rt; frame::write(&block, &mut out));
-    let mut reader = Counts::new(&out);
-    let read = expect_ok!(rt; frame::read(alloc, &mut reader, count));
-    expect_doubled(rt, (read.len(), read.capacity()), count);
-    check_eq!(rt; reader.whole, count.div_ceil(4096), count);
-    expect_ok!(rt; write_entry(&hash_of::<32>(&block), &block, &mut log));
-    let entry = expect_ok!(rt; read_entry::<32, _>(alloc, &mut log.as_slice(), count));
-    expect_doubled(rt, (entry.block.len(), entry.block.capacity()), count);
-}
-
-#[test]
-fn blocks_of_each_length_are_read(rt: HostRuntime) {
-    for count in (0..130).chain([255, 256, 1000, 4095, 4096, 4097, 5000, 20000, 70000]) {
-        expect_block(&rt, rt.alloc(), count);
-    }
-}
-
-fn expect_items(rt: &impl Abort, alloc: Global, count: usize) {
-    let bytes = expect_ok!(rt; vec![in alloc; 0u8; count.saturating_mul(2)]);
-    let items = expect_ok!(rt; read_up_to::<4, _>(alloc, &mut bytes.as_slice(), usize::MAX));
-    expect_doubled(rt, (items.len(), items.capacity()), count);
-    let (out, input) = (&mut Vec::new(alloc), &mut bytes.as_slice());
-    let list = expect_ok!(rt; list_through::<4, 4, _, _>(alloc, &items, out, input));
-    check_eq!(rt; (list.len(), list.capacity()), (count, count));
-}
-
-#[test]
-fn streams_of_each_length_are_read(rt: HostRuntime) {
-    for count in (0..130).chain([255, 1000, 5000]) {
-        expect_items(&rt, rt.alloc(), count);
     }
 }
 

@@ -10,7 +10,6 @@ use fakes::expect::{ErrorKind, is_rejected};
 use fakes::forms::{CASES, USUAL, case, different};
 use fakes::{check, check_eq, expect_ok};
 use form::Counted;
-use theorems::list_through;
 use multihash::list::{read_list, write_list};
 use multihash::no_std_io::Write;
 use multihash::{Error, Multihash};
@@ -21,6 +20,7 @@ use std::process::Abort;
 use std::test::Fail;
 use storage::content;
 use storage::log::read_entry;
+use theorems::list_through;
 
 fn capacity_of(value: &Value) -> usize {
     match value {
@@ -62,25 +62,6 @@ fn each_length_is_kept(rt: HostRuntime) {
     expect_each_kept::<48>(&rt, rt.alloc());
     expect_each_kept::<64>(&rt, rt.alloc());
     expect_each_kept::<127>(&rt, rt.alloc());
-}
-
-#[test]
-fn each_long_length_is_kept(rt: HostRuntime) {
-    expect_each_kept::<128>(&rt, rt.alloc());
-    expect_each_kept::<200>(&rt, rt.alloc());
-    expect_each_kept::<254>(&rt, rt.alloc());
-    expect_each_kept::<255>(&rt, rt.alloc());
-    expect_each_kept::<256>(&rt, rt.alloc());
-    expect_each_kept::<300>(&rt, rt.alloc());
-    expect_each_kept::<1000>(&rt, rt.alloc());
-}
-
-// Codes with a varint of one or two bytes, as nearly all hash functions have.
-#[test]
-fn each_code_of_two_bytes_is_kept(rt: HostRuntime) {
-    for code in 0..16384 {
-        expect_kept::<32>(&rt, rt.alloc(), code, &[65; 32]);
-    }
 }
 
 const FAILED: &str = "an allocation failed";
