@@ -1,7 +1,6 @@
 -- The two varints at the front of a content identifier; there is one identifier at one position. Bytes that
 -- are no peer identifier have one error, and a malformed varint is one.
-use Rattle.std.proofs.Common.{◌≡◌, ℕ, List, ◌++◌, length, Option, Some, IfErr, MatchResult, inl, inr, Result, Ok, Err, refl, sym, ap, ◌∙◌, subst, arith, append_assoc}
-use Rattle.std.specs.Result.{IsErrAnd}
+use Rattle.std.proofs.Common.{◌≡◌, ℕ, List, ◌++◌, length, Option, Some, inl, inr, Err, refl, sym, ap, ◌∙◌, subst, arith, append_assoc}
 use Rattle.std.proofs.lemmas.List.{append_cancel_right}
 use Rattle.multihash.specs.Pair.{Pair}
 use Rattle.multihash.specs.Encoding.{IsEncoding}

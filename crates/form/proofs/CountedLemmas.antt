@@ -1,10 +1,10 @@
--- Reading items failed: for `read_items`.
-use Rattle.std.proofs.Common.{◌≡◌, ℕ, ◌<◌, inl, List, [], ◌∷◌, ◌++◌, length, Option, refl, sym, ap, subst, ◌∙◌, arith}
+-- Items, one after another: for `read_items` and `all_from_bytes`.
+use Rattle.std.proofs.Common.{◌≡◌, ℕ, ◌<◌, ◌⊎◌, inl, inr, List, [], ◌∷◌, ◌++◌, length, length-append, append_assoc, Option, refl, sym, ap, subst, ◌∙◌, arith}
 use Rattle.std.specs.Io.KnownBytes.{prepend_known}
 use Rattle.multihash.specs.Reading.{Consumes}
 use Rattle.multihash.specs.Streams.{AreParts}
 use Rattle.multihash.proofs.ReadingLemmas.{Consumes-none, prepend_known-append}
-use Rattle.form.specs.Form.{Then, FailsAt}
+use Rattle.form.specs.Form.{Then, AreSame, FailsAt}
 use Rattle.form.proofs.BothLemmas.{first_fails, second_fails}
 
 -- out of memory
@@ -39,3 +39,33 @@ items_fail IsPart Same unique U M S (f ∷ found) (y ∷ ys) c old mid (p, other
     cons_fails IsPart y ys U M S old (second_fails (IsPart y) (AreParts IsPart ys) (IsPart f) (Same y f) U U M S old
     between (unique y f) (p, is_p, start) (λ h. h)
     (λ _. items_fail IsPart Same unique U M S found ys others between mid are (omega (arith, few)) refl fails))
+
+-- the parts of some items are a prefix of those of others: they are all of these, or the part of one more follows
+pub parts_compared : {A : Type 0} (IsPart : A → List ℕ → Type 0) (Same : A → A → Type 0)
+    → ((x y : A) (a b r s : List ℕ) → IsPart x a → IsPart y b → a ++ r ≡ b ++ s → Same x y × (r ≡ s))
+    → ((x : A) (bytes : List ℕ) → IsPart x bytes → 0 < length bytes)
+    → (found xs : List A) (a left bytes : List ℕ) → AreParts IsPart found a → AreParts IsPart xs bytes → bytes ≡ a ++ left
+    → (AreSame Same found xs × (left ≡ []))
+    ⊎ ((x : A) × (part : List ℕ) × (rest : List ℕ) × IsPart x part × (left ≡ part ++ rest))
+parts_compared IsPart Same unique some [] [] a left bytes none all cut =
+    inl (tt, sym (ap (λ (l : List ℕ). l ++ left) none) ∙ sym cut ∙ all)
+parts_compared IsPart Same unique some [] (x ∷ xs) a left bytes none (part, rest, is, _, split) cut =
+    inr (x, part, rest, is, sym (ap (λ (l : List ℕ). l ++ left) none) ∙ sym cut ∙ split)
+parts_compared IsPart Same unique some (f ∷ found) [] a left bytes (part, others, is, _, split) all cut =
+    absurd (omega (
+      arith,
+      some f part is,
+      ap length split,
+      ap length all,
+      ap length cut,
+      length-append part others,
+      length-append a left,
+    ))
+parts_compared IsPart Same unique some (f ∷ found) (x ∷ xs) a left bytes (p, others, is_p, are, split) (q, rest, is_q, are_too, split_too) cut =
+    let joined : p ++ (others ++ left) ≡ q ++ rest =
+    sym (append_assoc p others left) ∙ ap (λ (l : List ℕ). l ++ left) (sym split) ∙ sym cut ∙ split_too in
+    let told = unique f x p q (others ++ left) rest is_p is_q joined in
+    elim (parts_compared IsPart Same unique some found xs others left rest are are_too (sym told.1)) [
+      | inl all ↦ inl ((told.0, all.0), all.1)
+      | inr next ↦ inr next
+    ]

@@ -4,6 +4,7 @@
 //! parts and the calls.
 #![tactic(auto)]
 
+mod all;
 mod array;
 mod block;
 mod both;
@@ -21,6 +22,7 @@ mod stream;
 mod tag;
 mod whole;
 
+pub use all::all_from_bytes;
 pub use array::Bytes;
 pub use block::Block;
 pub use both::{Both, write_three, write_two};

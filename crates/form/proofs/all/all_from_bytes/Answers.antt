@@ -1,0 +1,42 @@
+use Rattle.std.proofs.Common.{◌≡◌, ◌++◌, ℕ, List, [], ◌∷◌, length, length-append, append_assoc, inl, inr, sym, ap, ◌∙◌, arith, rules}
+use Rattle.multihash.proofs.OutcomeLemmas.{passed_on}
+use Rattle.multihash.proofs.StreamLemmas.{parts_push}
+use Rattle.form.proofs.CountedLemmas.{parts_compared}
+use Rattle.form.proofs.WholeLemmas.{empty_is, not_empty}
+use Rattle.form.proofs.all.all_from_bytes.Goals as goal
+
+pub returns-in_err-item-clause-found : goal.returns-in_err-item-clause-found
+returns-in_err-item-clause-found g c xs all =
+    let (front, parts, cut) = c.loop-rest.invariant in
+    elim (parts_compared g.T.Form.is_form g.T.Form.same g.met.T.Form.unique g.met.T.Form.some c.loop-rest.items.items xs front
+    c.loop-rest.rest.now c.args.bytes.now parts all cut) [
+      | inl same ↦ absurd (not_empty c.loop-rest.rest.now _ c.is_empty.ensures c.loop-rest-test.true same.1)
+      | inr next ↦ passed_on c.from_residual.result _ _ _ c.from_residual.ensures.1
+          (c.in_err-item.ensures.found next.0 next.1 next.2 next.3 next.4)
+    ]
+
+pub loop-rest-preserved : goal.loop-rest-preserved
+loop-rest-preserved g c =
+    let (front, parts, cut) = c.loop-rest.invariant in
+    let (one, is_one, split) = c.in_ok-item.ensures.ok in
+    let items : c.push.new.self.items ≡ c.loop-rest.items.items ++ c.in_ok-item.item ∷ [] = search rules in (
+      front ++ one,
+      rw items (parts_push g.T.Form.is_form c.loop-rest.items.items c.in_ok-item.item front one parts is_one),
+      cut ∙ (ap (λ (z : List ℕ). front ++ z) split ∙ sym (append_assoc front one c.in_ok-item.left.now)),
+    )
+
+pub returns-clause-found : goal.returns-clause-found
+returns-clause-found g c xs all =
+    let (front, parts, cut) = c.loop-rest.invariant in
+    let none = empty_is c.loop-rest.rest.now _ c.is_empty.ensures c.loop-rest-test.false in
+    elim (parts_compared g.T.Form.is_form g.T.Form.same g.met.T.Form.unique g.met.T.Form.some c.loop-rest.items.items xs front
+    c.loop-rest.rest.now c.args.bytes.now parts all cut) [
+      | inl same ↦ same.0
+      | inr next ↦ absurd (omega (
+        arith,
+        g.met.T.Form.some next.0 next.1 next.3,
+        ap length none,
+        ap length next.4,
+        length-append next.1 next.2,
+      ))
+    ]
