@@ -125,8 +125,7 @@ impl ErrorKind {
     pub const DISK_GONE: ErrorKind = ErrorKind::Other("disk gone");
 
     /// The kind of an error: the first test that applies.
-    pub fn of(e: &Error) -> Option<Self>
-    {
+    pub fn of(e: &Error) -> Option<Self> {
         if let Some(size) = e.invalid_size() {
             return Some(ErrorKind::InvalidSize(size));
         }
@@ -147,8 +146,7 @@ impl ErrorKind {
     }
 
     /// The kind of a reader's or a writer's error.
-    pub fn of_io(e: &no_std_io::Error) -> Option<Self>
-    {
+    pub fn of_io(e: &no_std_io::Error) -> Option<Self> {
         if e.is_unexpected_eof() {
             Some(ErrorKind::UnexpectedEof)
         } else if e.is_write_zero() {
