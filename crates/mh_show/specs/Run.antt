@@ -1,6 +1,6 @@
 -- What a run of the program does to an input and to outputs whose bytes are known.
 use Rattle.std.specs.Prelude.{◌≤◌, ℕ, ◌⊎◌, List, ◌++◌, length, codes, Option}
-use Rattle.std.specs.Io.KnownBytes.{Appends, Consumes, IsAtEnd}
+use Rattle.std.specs.Io.KnownBytes.{Appends, Consumes as ReadsKnown, IsAtEnd}
 use Rattle.multihash.specs.Writing.{AppendsPrefix}
 use Rattle.mh_show.specs.declared.run.RunError.{RunError}
 use Rattle.mh_show.specs.declared.run.RunError.TheVariants.{Input, NotShown, Output}
@@ -24,7 +24,7 @@ most_input = 65536
 
 -- the text is the whole input
 pub record ReadsWhole (old new : Option (List ℕ)) (text : List ℕ) : Type 0 where
-  pub consumes : Consumes old new text
+  pub consumes : ReadsKnown old new text
   pub at_end : IsAtEnd new
   pub short : length text ≤ most_input
 

@@ -1,6 +1,6 @@
 //! The whole program, over any input and outputs.
 ghost use Rattle.std.specs.Prelude.{◌≡◌, ◌≤◌, ◌<◌, ◌⊎◌, length, take, IfOk, IfErr, OnOk, OnErr};
-ghost use Rattle.std.specs.Io.KnownBytes.{Appends, Consumes, IsAtEnd};
+ghost use Rattle.std.specs.Io.KnownBytes.{Appends, Consumes as ReadsKnown, IsAtEnd};
 ghost use Rattle.mh_show.specs.Run.{ReadsWhole, AppendsPrefixOf, ShowsInput, EndsRun, ReportsError};
 
 #[cfg(test)]
@@ -123,7 +123,7 @@ fn read_input<I: Read>(alloc: Global, input: &mut I) -> Result<Vec<u8>, RunError
 fn read_to_end<I: Read>(input: &mut I, room: &mut [u8]) -> Result<usize, RunError>
     ensures within { IfOk result (λ n. n < length room.new) }
     ensures read { IfOk result (λ n.
-        Consumes (I.remaining input.old) (I.remaining input.new) (take n room.new)) }
+        ReadsKnown (I.remaining input.old) (I.remaining input.new) (take n room.new)) }
     ensures end { OnOk result (IsAtEnd (I.remaining input.new)) }
     ensures err { IfErr result (λ e. e ≡ RunError.Input) }
 {

@@ -1,6 +1,6 @@
 use Rattle.std.proofs.Common.{◌≡◌, ℕ, ◌+◌, ◌-◌, ◌≤◌, List, ◌++◌, rules, arith, length, take, slice_range, sym, ap, ◌∙◌, subst, le_refl, drop_at, length-take-le}
 use Rattle.std.proofs.lemmas.Slice.{take-put_mid_below}
-use Rattle.std.specs.Io.KnownBytes.{Consumes}
+use Rattle.std.specs.Io.KnownBytes.{Consumes as ReadsKnown}
 use Rattle.std.proofs.KnownBytes.{Consumes-trans}
 use borrow.Rule.Slice.PartMut.{put_mid, post_of}
 use lib.Seq.{take-add, take-append-le}
@@ -26,4 +26,4 @@ loop-length-preserved g c =
     let within = c.loop-length.invariant.1 in
     let part = slice_range-put_mid from room c.in-Ok.count c.loop-length.room c.read.new.buf within c.in-Ok.ensures.bound.0 in
     let concatenated = take_split from (from + c.in-Ok.count) c.loop-length.room (put_mid from room c.loop-length.room c.read.new.buf) (omega arith) (take-put_mid_below _ _ _ _ _ (le_refl _) within) in
-    (search rules, search rules, subst (Consumes _ _) (ap (λ l. take from c.loop-length.room ++ l) (sym part) ∙ concatenated) (Consumes-trans _ _ _ _ _ c.loop-length.invariant.2 c.in-Ok.ensures.bytes.0))
+    (search rules, search rules, subst (ReadsKnown _ _) (ap (λ l. take from c.loop-length.room ++ l) (sym part) ∙ concatenated) (Consumes-trans _ _ _ _ _ c.loop-length.invariant.2 c.in-Ok.ensures.bytes.0))
