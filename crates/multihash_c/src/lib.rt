@@ -7,6 +7,7 @@ mod compare;
 mod decode;
 mod encode;
 mod many;
+mod pins;
 mod status;
 mod version;
 
