@@ -15,7 +15,7 @@ freestanding() {
     clang --target=$target -ffreestanding -nostdlibinc "${c_flags[@]}" -O2 -I "$c/include" -c "$source" \
       -o "$work/free.o"
     llvm-nm --undefined-only -j "$work/free.o" | sed -E 's/^_*//; /^stack_(chk_fail|chk_guard|pointer)$/d' | sort |
-      comm -23 - <(printf "%s\n" aeabi_memclr8 memcpy memset) | diff /dev/null -
+      comm -23 - <(printf "%s\n" aeabi_memclr8 memcmp memcpy memset) | diff /dev/null -
   done
 }
 

@@ -7,6 +7,7 @@
 #include <string.h>
 #else /* without a C library: compilers call it there too */
 void *memcpy(void *, const void *, size_t);
+int memcmp(const void *, const void *, size_t);
 #endif
 
 #if defined(__GNUC__)
@@ -111,8 +112,8 @@ static inline mh_ordering mh_usize_cmp(size_t a, size_t b)
 
 static inline mh_ordering mh_slice_cmp(const uint8_t *a, size_t a_length, const uint8_t *b, size_t b_length)
 {
-    for (size_t i = 0; i < a_length && i < b_length; i++) {
-        if (a[i] != b[i]) return a[i] < b[i] ? MH_LESS : MH_GREATER;
-    }
+    const size_t least = mh_usize_min(a_length, b_length);
+    const int order = least > 0 ? memcmp(a, b, least) : 0;
+    if (order != 0) return order < 0 ? MH_LESS : MH_GREATER;
     return mh_usize_cmp(a_length, b_length);
 }

@@ -9,6 +9,7 @@
 #include <string.h>
 #else /* without a C library: compilers call it there too */
 void *memcpy(void *, const void *, size_t);
+int memcmp(const void *, const void *, size_t);
 #endif
 
 #if defined(__GNUC__)
@@ -113,9 +114,9 @@ static inline mh_ordering mh_usize_cmp(size_t a, size_t b)
 
 static inline mh_ordering mh_slice_cmp(const uint8_t *a, size_t a_length, const uint8_t *b, size_t b_length)
 {
-    for (size_t i = 0; i < a_length && i < b_length; i++) {
-        if (a[i] != b[i]) return a[i] < b[i] ? MH_LESS : MH_GREATER;
-    }
+    const size_t least = mh_usize_min(a_length, b_length);
+    const int order = least > 0 ? memcmp(a, b, least) : 0;
+    if (order != 0) return order < 0 ? MH_LESS : MH_GREATER;
     return mh_usize_cmp(a_length, b_length);
 }
 
@@ -516,40 +517,14 @@ MH_INLINE int32_t mh_compare_usual(const uint8_t *a, size_t a_length, const uint
     return mh_compare_last(a, a_length, b, a_length - 16);
 }
 
-/* How 16 bytes or more compare, by pairs of words; the last pair may overlap the one before.
- * Proved: 16 <= length a; length a == length b. */
-MH_INLINE int32_t mh_compare_many(const uint8_t *a, size_t a_length, const uint8_t *b)
-{
-    const size_t last = a_length - 16;
-    size_t at = 0;
-    while (at < last) {
-        if (!mh_same_word(a, b, at)) return mh_sign_at(a, b, at);
-        /* At least 16 bytes follow, so these sums are at most the length. */
-        if (!mh_same_word(a, b, at + 8)) {
-            /* This is at most the length. */
-            return mh_sign_at(a, b, at + 8);
-        }
-        /* This is at most the length. */
-        at += 16;
-    }
-    return mh_compare_last(a, a_length, b, last);
-}
-
-/* Does what `mh_compare_bytes` does, for every length.
- * Proved: length a == length b. */
-MH_NOT_INLINE int32_t mh_compare_any(const uint8_t *a, size_t a_length, const uint8_t *b, size_t b_length)
-{
-    if (a_length >= 16) return mh_compare_many(a, a_length, b);
-    if (a_length >= 8) return mh_compare_last(a, a_length, b, 0);
-    return mh_sign(mh_slice_cmp(a, a_length, b, b_length));
-}
-
-/* How bytes of the same length compare. The usual lengths are compared with no loop.
+/* How bytes of the same length compare. Those of 8 to 32 are compared by words.
  * Proved: length a == length b. */
 MH_INLINE int32_t mh_compare_bytes(const uint8_t *a, size_t a_length, const uint8_t *b, size_t b_length)
 {
     if (16 <= a_length && a_length <= 32) return mh_compare_usual(a, a_length, b);
-    return mh_compare_any(a, a_length, b, b_length);
+    if (a_length > 32) return mh_sign(mh_slice_cmp(a, a_length, b, b_length));
+    if (a_length >= 8) return mh_compare_last(a, a_length, b, 0);
+    return mh_sign(mh_slice_cmp(a, a_length, b, b_length));
 }
 
 /* Compares two codes and digests by the code, then by the digest's length, then by the first byte

@@ -1,4 +1,5 @@
-use Rattle.std.proofs.Common.{arith}
+use Rattle.std.proofs.Common.{arith, ◌∙◌}
+use Rattle.std.proofs.lemmas.List.{length-set}
 use Rattle.multihash_c.proofs.ManyLemmas.{holds_more}
 use Rattle.multihash_c.proofs.many.multihash_read_many.Goals as goal
 
@@ -12,6 +13,6 @@ loop-count-2-init c = record {
 pub loop-count-2-preserved : goal.loop-count-2-preserved
 loop-count-2-preserved c = record {
   holds = holds_more c.args.bytes.now c.args.out.now c.loop-count-2.out c.loop-count-2.count c.loop-count-2.taken c.read_within-usual.result
-      c.loop-count-2.invariant.holds (omega (arith, c.loop-count-2.auto.out, c.loop-count.auto.out)) c.loop-count-2-test.true c.read_within-usual.ensures c.if-usual-ne-OK.false;
+      c.loop-count-2.invariant.holds (c.loop-count-2.auto.out ∙ length-set _ _ _ ∙ c.loop-count.auto.out) c.loop-count-2-test.true c.read_within-usual.ensures c.if-usual-ne-OK.false;
   more = omega (arith, c.loop-count-2.invariant.more);
 }
