@@ -169,4 +169,6 @@ def written_page(texts: dict[str, str]) -> str:
 
 
 if __name__ == "__main__":
-    sys.exit(PAGE.write_text(written_page(sources()), "utf-8") == 0)
+    if sys.argv[1:] == ["--check"]:
+        sys.exit(PAGE.read_text("utf-8") != written_page(sources()) and "not what tools/contracts.py writes")
+    PAGE.write_text(written_page(sources()), "utf-8")
