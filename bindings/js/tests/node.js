@@ -10,7 +10,7 @@ import { SourceTextModule, createContext, runInContext } from 'node:vm';
 import { fails, hex, same, told, unhex } from './check.js';
 import { hashStreams, hashes } from './hashes.js';
 import { endedAnywhere } from './stream.js';
-import { tests } from './suite.js';
+import { testsOf } from './suite.js';
 
 const { Module } = WebAssembly;
 const bytesOf = (name) => readFileSync(new URL(`../${name}`, import.meta.url));
@@ -169,7 +169,6 @@ export async function run(which) {
   const texts = [vectors, ...beside].map((path) => readFileSync(path, 'utf8'));
   test('declared', () => declared(module, which));
   if (compiled) for (const check of [compiledBefore, unfit, webCrypto]) test(check.name, () => check(texts[1]));
-  if (which === 'index') for (const check of [largeContent, names]) test(check.name, () => check(module));
-  test('nodeStreams', () => nodeStreams(module));
-  for (const [name, check] of Object.entries(tests)) test(name, () => check(module, ...texts));
+  if (which === 'index') for (const check of [largeContent, names, nodeStreams]) test(check.name, () => check(module));
+  for (const [name, check] of testsOf(which)) test(name, () => check(module, ...texts));
 }

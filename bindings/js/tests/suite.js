@@ -1,8 +1,10 @@
-// All tests, in Node.js and in a page, by their names: each gets the functions of an entry, the test vectors, the list
-// of hash functions, and the list of values.
+// Tests in Node.js and in a page, by their names: each gets the functions of an entry, the test vectors, the list of hash
+// functions, and the list of values.
 import * as ofArguments from './arguments.js';
 import * as ofHashes from './hashes.js';
 import { streams } from './stream.js';
 import { values, vectors } from './vectors.js';
 
-export const tests = { ...ofArguments, ...ofHashes, streams, values, vectors };
+/** All tests of index.js; one of the others, which differ from it in how they load alone. */
+export const testsOf = (entry) =>
+  Object.entries(entry === 'index' ? { ...ofArguments, ...ofHashes, streams, values, vectors } : { values });

@@ -18,31 +18,16 @@ const isFixed = <A>(_: A, ...__: Same<Fields<A>, Readonly<Fields<A>>> extends tr
 
 const bytes = new Uint8Array([0x12, 0]);
 const found = is<Multihash>()(decode(bytes));
-// @ts-expect-error bytes are no text
-decode('1200');
+is<(bytes: Uint8Array) => Multihash>()(decode);
 is<(bytes: Uint8Array, limit?: Wide) => Read>()(read);
-// @ts-expect-error a limit is no text
-read(bytes, '255');
 is<{ readonly multihash: Multihash; readonly taken: number }>()(read(bytes, 2n ** 60n));
-is<Head>()(head(bytes));
-// @ts-expect-error bytes are no array of numbers
-head([18, 0]);
+is<(bytes: Uint8Array) => Head>()(head);
 is<{ readonly code: Wide; readonly digestLength: Wide; readonly taken: number }>()(head(bytes));
 is<(code: Wide, digest: Uint8Array) => Uint8Array>()(encode);
-// @ts-expect-error a digest is no text
-encode(1, '');
 is<(code: Wide, digestLength: Wide) => number>()(encodedLength);
-// @ts-expect-error a length is no digest
-encodedLength(18, bytes);
 is<(left: Multihash, right: Multihash) => -1 | 0 | 1>()(compare);
-// @ts-expect-error an encoding is no multihash
-compare(found, bytes);
-is<Read>()(scaleDecode(bytes));
-// @ts-expect-error a buffer is no view
-scaleDecode(new ArrayBuffer(9));
+is<(bytes: Uint8Array) => Read>()(scaleDecode);
 is<(code: Wide, digest: Uint8Array) => Uint8Array>()(scaleEncode);
-// @ts-expect-error a code is no name
-scaleEncode('sha2-256', bytes);
 is<string>()(index.version);
 is<readonly [255, 18, 266, 264]>()(
   [index.DIGEST_MAX, index.HEAD_MAX, index.LENGTH_MAX, index.SCALE_LENGTH_MAX] as const);
@@ -60,12 +45,8 @@ is<number>()(found.size);
 is<Uint8Array>()(found.digest);
 is<Uint8Array>()(found.bytes);
 isFixed(found);
-// @ts-expect-error a multihash is not changed
-found.code = 3;
 is<string>()(found.toString());
-is<Multihash>()(Multihash.fromHex('1200'));
-// @ts-expect-error bytes are no text
-Multihash.fromHex(bytes);
+is<(text: string) => Multihash>()(Multihash.fromHex);
 is<boolean>()(found.equals('any value'));
 is<Multihash<number>>()(found.narrow());
 is<{ code: number | string; size: number; digest: string }>()(found.toJSON());
@@ -104,8 +85,6 @@ export const texts = (stream: ReadableStream<string>): MultihashReader => new Mu
 // @ts-expect-error an option that is none
 new MultihashReader(stream, { most: 64 });
 is<Multihash | null>()(await reader.read());
-// @ts-expect-error null is the end
-export const next: Multihash = await reader.read();
 for await (const each of reader) is<Multihash>()(each);
 is<Uint8Array>()(reader.rest);
 isFixed(reader);
@@ -113,9 +92,7 @@ is<void>()(reader.release());
 is<Promise<void>>()(reader.cancel('a reason'));
 is<Promise<void>>()(reader[Symbol.asyncDispose]());
 
-is<void>()(module.connect(await WebAssembly.compileStreaming(fetch('multihash.wasm'))));
-// @ts-expect-error bytes are compiled before
-module.connect('multihash.wasm');
+is<(module: object) => void>()(module.connect);
 export const entries: (typeof index)[] = [inline, module, hashes];
 
 /** As in js-multiformats, whose `CID.create` takes it. */
