@@ -31,9 +31,6 @@ fn implemented() {
 
 #[test]
 fn limits() {
-    assert_eq!(text(Multihash::<300>::wrap(1, &[7; 256])), "Invalid multihash size 256.");
-    assert_eq!(text(Multihash::<3>::wrap(u64::MAX, b"abcd")), "Invalid multihash size 4.");
-    assert_eq!(text(Multihash::<4>::wrap(1 << 63, b"abcd")), "Invalid multihash code 9223372036854775808.");
     let error = varint::write(CODE_MAX + 1, &mut SliceWriter::new(&mut [])).expect_err("too large");
     assert_eq!((error.invalid_code(), varint::len(CODE_MAX + 1).is_ok()), (Some(1 << 63), false));
 }
@@ -41,31 +38,9 @@ fn limits() {
 #[test]
 fn sizes() {
     let long = of::<255>(0x12, &[7; 255]);
-    assert_eq!(long.resize::<255>().expect("it fits"), long);
-    assert_eq!(text(long.resize::<254>()), "Invalid multihash size 255.");
     // bytes that were removed are not copied
     let (_, buffer, size) = long.truncate(20).into_inner();
     assert_eq!((&buffer[..20], &buffer[20..], size), (&[7; 20][..], &[0; 235][..], 20));
-}
-
-/// Digests that differ in one byte are unlike, and compare as slices do.
-#[test]
-fn each_byte() {
-    for size in 1..=255 {
-        let digest = [0x55; 255];
-        let value = of::<255>(0x12, &digest[..size]);
-        for at in 0..size {
-            let mut other = digest;
-            other[at] = if at % 2 == 0 { 0x54 } else { 0xd5 };
-            let unlike = of::<255>(0x12, &other[..size]);
-            assert!(value != unlike && !value.same_as(&of::<300>(0x12, &other[..size])), "{size} {at}");
-            assert_eq!(value.cmp(&unlike), digest.cmp(&other), "{size} {at}");
-            if size <= 64 {
-                let (value, unlike) = (of::<64>(0x12, &digest[..size]), of::<64>(0x12, &other[..size]));
-                assert_eq!((value == unlike, value.cmp(&unlike)), (false, digest.cmp(&other)), "{size} {at}");
-            }
-        }
-    }
 }
 
 #[test]
