@@ -1,6 +1,6 @@
 #!/usr/bin/env bash
 # The library for C on this machine: its header and its source by each compiler without a warning, its tests, plain and
-# under sanitizers, and beside the archive that the kit builds of the proved functions.
+# under sanitizers, and those over the archive that the kit builds of the proved functions.
 # shellcheck source=checks/lib/tap.sh
 . "$(dirname "$0")/lib/tap.sh"
 require cc python3
@@ -58,21 +58,17 @@ test_compilers() {
     build_and_run clang-memory "" clang "${c_flags[@]}" "${heap[@]}" -fsanitize=memory "${tests[@]}" "$source"
 }
 
-# The tests over both, in one program.
-beside_archive() {
+# The tests over the functions that are proved.
+proved_archive() {
   tools/generate archive "$work/proved.a" --cpu=x86-64
   if [ -n "${KEPT-}" ]; then
     cp -a "$PROVED" "$KEPT/part"
     mv "$KEPT/part" "$KEPT/copy"
   fi
-  exported | sed 's/.*/& proved_&/' > "$work/renamed"
-  objcopy --redefine-syms="$work/renamed" "$work/proved.a"
-  mapfile -t calls < <(exported | sed '/version$/d; s/^/-Wl,--wrap=/')
-  build_and_run beside "" cc "${c_flags[@]}" -O2 "${tests[@]}" "$c/tests/beside.c" "$source" "$work/proved.a" \
-    "${calls[@]}"
+  build_and_run archive "" cc "${c_flags[@]}" -O2 "${tests[@]}" "$work/proved.a"
 }
 
-needs="rt objcopy /lib64/ld-linux-x86-64.so.2" try "beside the archive" beside_archive
+needs="rt /lib64/ld-linux-x86-64.so.2" try "the archive of the proved functions" proved_archive
 test_compilers
 needs="nm objdump" try "names" has_names "$work/cc-c11-2.o"
 # a test in C calls each function that the header declares
