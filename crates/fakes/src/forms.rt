@@ -84,15 +84,6 @@ pub enum Form {
 impl Form {
     pub const ALL: [Form; 3] = [Form::Binary, Form::Scale, Form::List(2)];
 
-    /// Those, and longer lists.
-    pub const MORE: [Form; 5] = [
-        Form::Binary,
-        Form::Scale,
-        Form::List(2),
-        Form::List(3),
-        Form::List(5),
-    ];
-
     // The number of times that it contains the pair.
     fn count(self) -> usize {
         match self {

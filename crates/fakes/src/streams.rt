@@ -90,7 +90,7 @@ impl Read for Silent<'_> {
     }
 }
 
-/// A reader of a slice with known input, which counts its calls and the bytes that they ask for.
+/// A reader of a slice with known input, which counts its calls.
 #[derive(Drop)]
 pub struct Counts<'a> {
     pub left: &'a [u8],
@@ -100,11 +100,6 @@ pub struct Counts<'a> {
     pub others: usize,
     /// The calls of `read_exact`.
     pub whole: usize,
-    /// The bytes that all calls asked for.
-    pub bytes: usize,
-    /// The calls after one that met the end.
-    pub after_end: usize,
-    ended: bool,
 }
 
 impl<'a> Counts<'a> {
@@ -114,9 +109,6 @@ impl<'a> Counts<'a> {
             single: 0,
             others: 0,
             whole: 0,
-            bytes: 0,
-            after_end: 0,
-            ended: false,
         }
     }
 
@@ -137,17 +129,11 @@ impl Read for Counts<'_> {
         } else {
             self.others = self.others.saturating_add(1);
         }
-        self.bytes = self.bytes.saturating_add(buf.len());
-        self.after_end = self.after_end.saturating_add(usize::from(self.ended));
-        self.ended = self.left.is_empty() && !buf.is_empty();
         self.left.read(buf)
     }
 
     fn read_exact(&mut self, buf: &mut [u8]) -> Result<(), Error> {
         self.whole = self.whole.saturating_add(1);
-        self.bytes = self.bytes.saturating_add(buf.len());
-        self.after_end = self.after_end.saturating_add(usize::from(self.ended));
-        self.ended = self.left.len() < buf.len();
         self.left.read_exact(buf)
     }
 }

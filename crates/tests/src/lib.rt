@@ -10,6 +10,4 @@ mod readers;
 #[cfg(test)]
 mod values;
 #[cfg(test)]
-mod varints;
-#[cfg(test)]
 mod writers;

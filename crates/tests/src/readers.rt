@@ -36,7 +36,7 @@ fn expect_read<const S: usize>(rt: &impl Abort, sample: &Sample<S>) {
 fn expect_each_read<const S: usize>(rt: &impl Abort, alloc: Global, from: usize)
     requires { S < 2 ^ 16 }
 {
-    for sample in &expect_ok!(rt; samples::<S>(alloc, &Form::MORE, from)) {
+    for sample in &expect_ok!(rt; samples::<S>(alloc, &Form::ALL, from)) {
         expect_read(rt, sample);
     }
 }

@@ -3,7 +3,7 @@
 ghost use Rattle.std.specs.Prelude.{◌<◌, ◌^◌};
 
 use fakes::expect::ErrorKind;
-use fakes::forms::{CODES, Form, LENGTHS, Sample, different, long_list, many, samples};
+use fakes::forms::{Form, LENGTHS, Sample, long_list, many, samples};
 use fakes::streams::{CountsWrites, Drip, FailWrite};
 use fakes::{check, check_eq, expect_bytes, expect_ok, expect_rejected};
 use multihash::no_std_io::{self, Write};
@@ -58,21 +58,6 @@ fn each_length_is_written(rt: HostRuntime) {
     expect_each_in_slices::<300>(&rt, rt.alloc());
 }
 
-// Each code with lengths at which the size's varint or a copy behaves differently.
-#[test]
-fn each_code_is_written(rt: HostRuntime) {
-    let bytes = different();
-    for code in CODES {
-        for len in [0, 1, 31, 32, 33, 64, 127, 128, 255] {
-            let digest = bytes.get(..len).unwrap_or(&[]);
-            for form in Form::ALL {
-                let sample = Sample::<255>::new(rt.alloc(), form, code, digest);
-                expect_in_slices(&rt, &expect_ok!(&rt; sample));
-            }
-        }
-    }
-}
-
 // A borrowed writer has the trait's own `write_all`, which makes no call for no bytes.
 fn expect_calls<const S: usize>(rt: &impl Abort, alloc: Global, sample: &Sample<S>) {
     // The code and the size of a SCALE form are one write.
@@ -99,7 +84,7 @@ fn expect_calls<const S: usize>(rt: &impl Abort, alloc: Global, sample: &Sample<
 fn expect_each_call<const S: usize>(rt: &impl Abort, alloc: Global, from: usize)
     requires { S < 2 ^ 16 }
 {
-    for sample in &expect_ok!(rt; samples::<S>(alloc, &Form::MORE, from)) {
+    for sample in &expect_ok!(rt; samples::<S>(alloc, &Form::ALL, from)) {
         expect_calls(rt, alloc, sample);
     }
 }

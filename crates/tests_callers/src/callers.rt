@@ -1,19 +1,16 @@
-//! Callers, in `examples`, `form`, `frame`, `storage` and `theorems`: the calls of a reader or a writer, that an
-//! error is passed on, and known values.
-use examples::formats::{self, Identifier, Node};
+//! Callers, in `examples`, `form` and `storage`: a reader of `std`, and known values.
+use examples::formats;
 use examples::loops;
 use examples::std_reader::StdReader;
 use fakes::expect::ErrorKind;
-use fakes::streams::{Counts, CountsWrites, Cuts, Drip, FailAt, FailWrite};
+use fakes::streams::{Cuts, FailAt};
 use fakes::{check, check_eq, expect_bytes, expect_ok, expect_rejected};
-use form::{Block, Both, Bytes, Counted, Form, FormError, Number, OneOf, OtherCase, Tag};
-use multihash::no_std_io::{Read, Write};
-use multihash::{Error, Multihash};
-use std::alloc::Global;
+use form::{FormError, OneOf};
+use multihash::no_std_io::Read;
+use multihash::Multihash;
 use std::process::Abort;
-use storage::content::{UnknownCode, hash_of, is_damaged, verify};
-use storage::log::{EntryError, valid_prefix};
-use theorems::list_through;
+use storage::content::{UnknownCode, is_damaged, verify};
+use storage::log::valid_prefix;
 
 // The identifier of `aaaa` as raw bytes, with its SHA-256 from another implementation.
 const IDENTIFIER: [u8; 36] = [
@@ -21,171 +18,6 @@ const IDENTIFIER: [u8; 36] = [
     0xf1, 0x84, 0xd6, 0xdb, 0xee, 0x29, 0xc9, 0x88, 0x53, 0xe0, 0xa0, 0x48, 0x5e, 0xce, 0xe7, 0xf2,
     0x7b, 0x9a, 0xf0, 0xb4,
 ];
-
-#[derive(Clone, Copy, Debug)]
-enum Reads {
-    Node,
-    Identifier,
-    Framed,
-    NextFramed,
-}
-
-pub fn of_entry<T: Drop>(outcome: Result<T, EntryError>) -> Result<(), Error> {
-    match outcome {
-        Ok(_entry) => Ok(()),
-        Err(EntryError::Failed(e)) => Err(e),
-        Err(EntryError::TooLong(_n)) => Ok(()),
-    }
-}
-
-pub fn of_form<T: Drop>(outcome: Result<T, FormError>) -> Result<(), Error> {
-    match outcome {
-        Ok(_value) => Ok(()),
-        Err(FormError::Failed(e)) => Err(e),
-        Err(_e) => Ok(()),
-    }
-}
-
-impl Reads {
-    fn make<R: Read>(self, alloc: Global, r: &mut R) -> Result<(), Error> {
-        match self {
-            Reads::Node => of_form(form::read::<Node, R>(alloc, r)),
-            Reads::Identifier => of_form(form::read::<Identifier, R>(alloc, r)),
-            Reads::Framed => of_entry(frame::read(alloc, r, usize::MAX)),
-            Reads::NextFramed => of_entry(frame::read_next(alloc, r, usize::MAX)),
-        }
-    }
-}
-
-fn expect_asked(rt: &impl Abort, alloc: Global, call: Reads, input: &[u8], asked: [usize; 4]) {
-    let mut reader = Counts::new(input);
-    expect_ok!(rt; call.make(alloc, &mut reader));
-    check_eq!(rt; [reader.single, reader.others, reader.whole, reader.bytes], asked, call);
-}
-
-// A call that fails or meets the end is the last. A long input ends early only.
-fn expect_last(rt: &impl Abort, alloc: Global, call: Reads, input: &[u8], calls: usize) {
-    for at in 0..calls {
-        for why in [ErrorKind::LINK_DOWN, ErrorKind::OutOfMemory] {
-            let mut reader = FailAt::new(Cuts::new(input, 300), at, why);
-            expect_rejected!(rt; &call.make(alloc, &mut reader), why, (call, at));
-            check_eq!(rt; reader.asked, at.saturating_add(1), call);
-        }
-    }
-    for len in 0..input.len().min(40) {
-        let mut reader = Counts::new(input.get(..len).unwrap_or(&[]));
-        let _outcome = call.make(alloc, &mut reader);
-        check_eq!(rt; reader.after_end, 0, (call, len));
-    }
-}
-
-const BLOCK: [u8; 4] = [3, 7, 8, 9];
-
-#[test]
-fn calls_of_readers_are_counted(rt: HostRuntime) {
-    let alloc = rt.alloc();
-    let rt = &rt;
-    let hash = &IDENTIFIER[2..];
-    let mut entry = [0; 38];
-    entry[..34].copy_from_slice(hash);
-    entry[34..].copy_from_slice(&BLOCK);
-    let mut node = [1; 40];
-    node[2..].copy_from_slice(&entry);
-    let rows: [(Reads, &[u8], [usize; 4]); 5] = [
-        (Reads::Node, &node, [5, 0, 2, 40]),
-        (Reads::Identifier, hash, [2, 0, 1, 34]),
-        (Reads::Identifier, &IDENTIFIER, [4, 0, 1, 36]),
-        (Reads::Framed, &BLOCK, [1, 0, 1, 4]),
-        (Reads::NextFramed, &BLOCK, [1, 0, 1, 4]),
-    ];
-    for (call, input, asked) in rows {
-        expect_asked(rt, alloc, call, input, asked);
-        let [single, others, whole, _] = asked;
-        let calls = single.saturating_add(others).saturating_add(whole);
-        expect_last(rt, alloc, call, input, calls);
-    }
-}
-
-#[derive(Clone, Copy, Debug)]
-enum Writes {
-    Framed,
-    Identifier,
-}
-
-fn version_0(digest: [u8; 32]) -> Identifier {
-    let value = Both {
-        first: Tag {},
-        second: Bytes { bytes: digest },
-    };
-    OneOf::Second(OtherCase { value })
-}
-
-fn empty_node(alloc: Global) -> Node {
-    Both {
-        first: Number { value: 1 },
-        second: Both {
-            first: Counted {
-                items: Vec::new(alloc),
-            },
-            second: Block {
-                bytes: Vec::new(alloc),
-            },
-        },
-    }
-}
-
-impl Writes {
-    fn make<W: Write>(self, content: &[u8], w: &mut W) -> Result<(), Error> {
-        match self {
-            Writes::Framed => frame::write(content, w),
-            Writes::Identifier => of_form(version_0([7; 32]).write(w)),
-        }
-    }
-}
-
-// The calls of `write_all`: a multihash is three, and a varint is one.
-const WRITES: [(Writes, usize); 2] = [(Writes::Framed, 2), (Writes::Identifier, 3)];
-
-fn failing_writer(rt: &impl Abort, alloc: Global, at: usize, why: ErrorKind) -> FailWrite<false> {
-    FailWrite::new(expect_ok!(rt; Drip::new(alloc, 100, 100)), at, why)
-}
-
-#[test]
-fn calls_of_writers_are_counted(rt: HostRuntime) {
-    let alloc = rt.alloc();
-    let rt = &rt;
-    let long = expect_ok!(rt; vec![in alloc; 7u8; 70000]);
-    for (call, calls) in WRITES {
-        for content in [&BLOCK, long.as_slice()] {
-            let mut writer = CountsWrites::new(alloc);
-            expect_ok!(rt; call.make(content, &mut writer));
-            check_eq!(rt; (writer.parts, writer.whole), (0, calls), call);
-        }
-        for at in 0..calls {
-            for why in [ErrorKind::DISK_GONE, ErrorKind::OutOfMemory] {
-                let mut writer = failing_writer(rt, alloc, at, why);
-                expect_rejected!(rt; &call.make(&BLOCK, &mut writer), why, (call, at));
-                check_eq!(rt; writer.asked, at.saturating_add(1), call);
-            }
-        }
-    }
-}
-
-#[test]
-fn nothing_is_read_after_a_failed_write(rt: HostRuntime) {
-    let (alloc, why) = (rt.alloc(), ErrorKind::DISK_GONE);
-    let one = [hash_of::<32>(&BLOCK)];
-    for at in 0..3 {
-        let mut reader = Counts::new(&IDENTIFIER);
-        let mut writer = failing_writer(&rt, alloc, at, why);
-        let failed = formats::node_through(alloc, &empty_node(alloc), &mut writer, &mut reader);
-        expect_rejected!(&rt; &of_form(failed), why, at);
-        let mut writer = failing_writer(&rt, alloc, at, why);
-        let failed = list_through::<32, 32, _, _>(alloc, &one, &mut writer, &mut reader);
-        expect_rejected!(&rt; &failed, why, at);
-        check_eq!(&rt; reader.asked(), (0, 0, 0), at);
-    }
-}
 
 // Where the other fails, it fails twice, first by an interruption.
 #[derive(Drop)]
@@ -253,15 +85,6 @@ fn codes_of_a_stream_are_read(rt: HostRuntime) {
     check!(&rt; matches!(codes.as_slice(), [0x13, 0]));
     stream[1] = 65;
     expect_rejected!(&rt; &loops::codes(rt.alloc(), &stream), ErrorKind::InvalidSize(65), ());
-}
-
-// The head of a block that claims 2^62 bytes.
-const CLAIM: [u8; 9] = [128, 128, 128, 128, 128, 128, 128, 128, 64];
-
-#[test]
-fn a_claimed_length_is_not_allocated(rt: HostRuntime) {
-    let read = frame::read(rt.alloc(), &mut CLAIM.as_slice(), usize::MAX);
-    expect_rejected!(&rt; &of_entry(read), ErrorKind::UnexpectedEof, ());
 }
 
 // The entries of `one` and of no bytes, with their SHA-256 from another implementation.
