@@ -8,27 +8,18 @@ require cc cmake python3 readelf pkg-config
 # shellcheck source=checks/lib/installed.sh
 . checks/lib/installed.sh
 
-# The reader of a stream of a folder, over pipes that are cut at each byte.
-reads_stream() {
-  cc "${c_flags[@]}" "${sanitize[@]}" -I "$c/include" -I "$1" "$c/tests/stream.c" "$source" -o "$work/stream"
-  "$work/stream"
-}
-
-# The one that is installed. The program reads SHA2-512 too.
+# The reader of a stream, over pipes that are cut at each byte. The program reads SHA2-512 too.
 stream_example() {
-  reads_stream "$c/examples"
+  cc "${c_flags[@]}" "${sanitize[@]}" -I "$c/include" -I "$c/examples" "$c/tests/stream.c" "$source" -o "$work/stream"
+  "$work/stream"
   cc "${c_flags[@]}" -I "$c/include" "$c/examples/stream.c" "$source" -o "$work/stream"
   prints "size 64" "$work/stream" < <(printf '\x13\x40%064d' 0)
-}
-
-build_verify() {
-  cc "${c_flags[@]}" "${sanitize[@]}" -I "$c/include" "$1" "$source" -lcrypto -o "$work/verify"
 }
 
 # The example that hashes, over each row of hashes.tsv: for some codes it has no function.
 verify_example() {
   local code name digest hex
-  build_verify "$c/examples/verify.c"
+  cc "${c_flags[@]}" "${sanitize[@]}" -I "$c/include" "$c/examples/verify.c" "$source" -lcrypto -o "$work/verify"
   while IFS=$'\t' read -r code name digest; do
     hex=
     for ((code = code; code > 127; code >>= 7)); do hex+=$(printf %02x $((code & 127 | 128))); done

@@ -7,9 +7,10 @@ import subprocess
 import sys
 from collections.abc import Iterator
 from functools import cache
+from pathlib import Path
 
-from start import FENCE, TOP
-
+TOP = Path(__file__).resolve().parents[2]
+FENCE = re.compile(r"^ *```(\S*)[^\n]*\n(.*?)^ *```$", re.M | re.S)
 sys.path.append(str(TOP / "tools"))
 import contracts
 

@@ -4,15 +4,15 @@ import re
 import sys
 from collections.abc import Iterator
 
-from pages import C, CALLING, FORMAT, HEADER, MAN, RUST, Texts, flat, pages_of, paths, placed, read, sources
-from start import FENCE, TOP
+from pages import C, CALLING, FENCE, FORMAT, HEADER, MAN, RUST, TOP, Texts
+from pages import flat, pages_of, paths, placed, read, sources
 
 sys.path.append(str(TOP / "crates" / "vectors"))
 import verdicts
 
 CARGO, NPM, JS = f"{RUST}/multihash/Cargo.toml", "bindings/js/package.json", "bindings/js/LICENSE"
 README, RULES = "README.md", verdicts.RULES
-MORE = ("bindings/js/core.js", "bindings/js/test.sh", "checks/lib/start.py", "checks/release.t", "tools/install")
+MORE = ("bindings/js/core.js", "bindings/js/test.sh", "checks/programs.t", "checks/release.t", "tools/install")
 # a version or a limit as pages and these state it, and where it is from
 STATED = (
     (r"Rust (\d[\d.]*\d)", CARGO, r'rust-version = "(.*)"'),

@@ -1,4 +1,4 @@
-// The exact type of each function and field in C++, and calls that it rejects.
+// The exact type of each function and field in C++.
 #include "multihash.h"
 
 #include <type_traits>
@@ -12,8 +12,6 @@ template <typename Struct, typename... Types> constexpr bool has(Types Struct::*
 {
     return true;
 }
-template <auto function, typename... Types>
-constexpr bool rejects = !std::is_invocable_v<decltype(function), Types...>;
 using bytes = const uint8_t *;
 using out = uint8_t *;
 using text = const char *;
@@ -46,9 +44,3 @@ static_assert(has<multihash_item, uint64_t, size_t, size_t>(
     &multihash_item::code, &multihash_item::digest_offset, &multihash_item::digest_length));
 static_assert(has<multihash_batch, multihash_status, uint64_t, size_t, size_t>(
     &multihash_batch::status, &multihash_batch::size, &multihash_batch::count, &multihash_batch::taken));
-
-static_assert(!rejects<multihash_from_bytes, out, size_t>);
-static_assert(rejects<multihash_from_bytes, text, size_t>);
-static_assert(rejects<multihash_from_bytes, bytes>);
-static_assert(rejects<multihash_encode, uint64_t, bytes, size_t, bytes, size_t>);
-static_assert(rejects<multihash_compare, decoded, decoded>);

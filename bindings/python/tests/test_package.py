@@ -77,8 +77,6 @@ TEXTS = [
     (vm.scale_decode, [bytes(8)], "the input ends before the digest's length"),
     (vm.scale_decode, [bytes(8) + b"\3ab"], "the input ends inside the digest (2 of 3 bytes)"),
     (vm.scale_decode, [bytes(7) + b"\x80"], "the code is 9223372036854775808, and the largest is 2**63 - 1"),
-    (Multihash, [18, bytes(256)], "the digest has 256 bytes, and the limit is 255"),
-    (vm.encode, [1 << 63, b""], "the code is 9223372036854775808, and the largest is 2**63 - 1"),
     (vm.encoded_len, [18, 10**5000], "the digest has %s bytes, and the limit is 255" % shown(10**5000)),
     (vm.decode, ["1220"], "data must be bytes (Multihash.fromhex takes text), not str"),
     (vm.read, [3], "data must be a bytes-like object, not int"),
@@ -86,12 +84,8 @@ TEXTS = [
     (Multihash, [18, "abc"], "digest must be a bytes-like object, not str"),
     (Multihash, ["sha2-256", b"abc"], "code must be an int (hashes.CODES has the codes of names), not str"),
     (vm.encode, [1.5, b""], "code must be an int, not float"),
-    (vm.encode, [-1, b""], "code must not be negative"),
     (vm.encoded_len, [18, b""], "digest_length must be an int, not bytes"),
-    (vm.encoded_len, [18, -1], "digest_length must not be negative"),
     (vm.read, [b"\0\0", "9"], "limit must be an int, not str"),
-    (vm.read, [b"\0\0", -1], "limit must not be negative"),
-    (vm.compare, [VALUE, b"\0\0"], "right must be a Multihash, not bytes"),
     (vm.MultihashReader, ["path"], "file or stream must be an object with a method read, not str"),
     (vm.read_from, [io.StringIO("1220")], "the result of read must be a bytes-like object, not str"),
     (hashes.digest, [b"", "sha256"], "name must be in hashes.CODES, such as 'sha2-256', not 'sha256'"),
@@ -251,7 +245,6 @@ class Values(unittest.TestCase):
     def test_order(self):
         pairs = [(0, b"zz"), (1, b"b"), (1, b"ab"), (1, b"bb"), (2, b""), (2, bytes(255)), ((1 << 63) - 1, b"")]
         kinds = Multihash, Named, type("Sibling", (Multihash,), {}), type("Inner", (Named,), {})
-        ordered = [Multihash(*pair) for pair in pairs]
         for one, other in itertools.product(kinds, repeat=2):
             for (i, left), (k, right) in itertools.product(enumerate(pairs), repeat=2):
                 left, right = one(*left), other(*right)
@@ -260,12 +253,11 @@ class Values(unittest.TestCase):
                 self.assertEqual((left >= right, left == right, left != right), (i >= k, i == k, i != k))
                 self.assertEqual(len({left, right}), 1 + (i != k))
         for wrong in ((1, b"b"), None, b"\1\0"):
-            for pair in ((wrong, ordered[0]), (ordered[0], wrong)):
-                self.assertRaisesRegex(
-                    TypeError, "must be a Multihash, not %s" % type(wrong).__name__, vm.compare, *pair
-                )
-            self.assertRaises(TypeError, lambda: ordered[0] < wrong)
-            self.assertNotEqual(ordered[0], wrong)
+            text = "must be a Multihash, not %s" % type(wrong).__name__
+            self.assertRaisesRegex(TypeError, "left " + text, vm.compare, wrong, VALUE)
+            self.assertRaisesRegex(TypeError, "right " + text, vm.compare, VALUE, wrong)
+            self.assertRaises(TypeError, lambda: VALUE < wrong)
+            self.assertNotEqual(VALUE, wrong)
 
     def test_values(self):
         source = bytearray(b"abc")
