@@ -27,7 +27,6 @@ TESTS = {
     "allocating_read_of_lists": 16,
     # 2 for the binary form, 2 for SCALE, 3 for a list
     "allocating_writes": 7,
-    "allocating_capacity_alone": 1,
     "allocating_write_of_a_vector": 2,
     "allocating_push": 2,
     # each block by 3, of 4096, 8192 and 16384 bytes

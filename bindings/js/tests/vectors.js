@@ -107,13 +107,6 @@ function checkBack(module, kind, multihash, encoding) {
   same(`${again.equals(multihash)} ${taken}`, `true ${form.length}`, 'scaleDecode');
 }
 
-/** The order by the code, the digest's length, and the digest. */
-export function order(left, right) {
-  const keys = [left, right].map(({ code, size, digest }) => [BigInt(code), size, hex(digest)]);
-  const at = keys[0].findIndex((key, index) => key !== keys[1][index]);
-  return at < 0 ? 0 : keys[0][at] < keys[1][at] ? -1 : 1;
-}
-
 /** Compares the two multihashes of a line. */
 function orderLine({ Multihash, compare }, line) {
   const [, ...columns] = line.split('\t');
@@ -124,7 +117,7 @@ function orderLine({ Multihash, compare }, line) {
 /** The length of the code and the size of a truncated SCALE encoding, as far as they are complete. */
 const partsOf = ({ length }) => length < 8 ? 0 : Math.min(length, 9);
 
-/** Compares the results for the input of a line with it. Returns the multihash or the error. */
+/** Compares the results for the input of a line with it. */
 function checkLine(module, line, kind) {
   const [S, input, read, readTaken, whole, scale, scaleTaken] = line.split('\t');
   const data = unhex(input);
@@ -149,24 +142,14 @@ function checkLine(module, line, kind) {
     sameEnd(form, scaleTaken);
   }
   if (!(found instanceof Error)) checkBack(module, kind, found, data.subarray(0, taken));
-  return found;
 }
 
 export function vectors(module, text) {
   const [columns, ...lines] = text.trim().split('\n');
   same(columns, 'S\tinput\tread\tread_taken\tfrom_bytes\tscale_decode\tscale_taken', 'columns');
-  let before = module.Multihash.of(0, new Uint8Array());
   for (const [index, line] of lines.entries()) {
-    if (line.startsWith('order\t')) {
-      orderLine(module, line);
-      continue;
-    }
-    const found = checkLine(module, line, KINDS[index % KINDS.length]);
-    if (found instanceof Error) continue;
-    for (const [left, right] of [[before, found], [found, before]])
-      same(module.compare(left, right), order(left, right), 'compare');
-    same(found.equals(before), order(before, found) === 0, 'equals');
-    before = found;
+    if (line.startsWith('order\t')) orderLine(module, line);
+    else checkLine(module, line, KINDS[index % KINDS.length]);
   }
 }
 

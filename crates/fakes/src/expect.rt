@@ -175,8 +175,3 @@ pub(crate) fn own_error(why: ErrorKind) -> no_std_io::Error
 pub fn is_rejected<T>(outcome: &Result<T, Error>, why: ErrorKind) -> bool {
     matches!(outcome, Err(e) if ErrorKind::of(e) == Some(why))
 }
-
-/// Whether a reader or a writer failed with this kind of error.
-pub fn is_failed<T>(outcome: &Result<T, no_std_io::Error>, why: ErrorKind) -> bool {
-    matches!(outcome, Err(e) if ErrorKind::of_io(e) == Some(why))
-}

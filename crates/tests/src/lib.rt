@@ -4,8 +4,6 @@
 #[cfg(test)]
 mod errors;
 #[cfg(test)]
-mod lists;
-#[cfg(test)]
 mod readers;
 #[cfg(test)]
 mod values;

@@ -4,9 +4,10 @@ ghost use Rattle.std.specs.Prelude.{◌<◌, ◌^◌};
 
 use fakes::expect::ErrorKind;
 use fakes::forms::{Calls, Form, LENGTHS, Sample, long_list, many, samples};
-use fakes::streams::{Counts, Cuts, FailAt, Silent};
+use fakes::streams::{Counts, CountsWrites, Cuts, FailAt, Silent};
 use fakes::{check, check_eq, expect_ok, expect_rejected};
 use multihash::Multihash;
+use multihash::list::{read_list, write_list};
 use multihash::no_std_io::{self, Read};
 use std::alloc::Global;
 use std::process::Abort;
@@ -173,4 +174,21 @@ fn each_length_is_borrowed(rt: HostRuntime) {
         check!(&rt; borrowed_read_exact(&mut reader, &mut buffer).is_ok(), len);
         check_eq!(&rt; reader.asked(), (0, 0, 1), len);
     }
+}
+
+#[test]
+fn no_items_make_no_call(rt: HostRuntime) {
+    let alloc = rt.alloc();
+    let rt = &rt;
+    let none: [Multihash<4>; 0] = [];
+    let mut writer = CountsWrites::new(alloc);
+    check!(rt; write_list(&none, &mut writer).is_ok());
+    check_eq!(rt; (writer.parts, writer.whole), (0, 0));
+    let mut reader = Counts::new(&[0, 0]);
+    check!(rt; expect_ok!(rt; read_list::<4, _>(alloc, &mut reader, 0)).is_empty());
+    check_eq!(rt; reader.asked(), (0, 0, 0));
+    // Nor does a long list make one for no bytes.
+    let mut reader = Counts::new(&[0; 2002]);
+    check_eq!(rt; expect_ok!(rt; read_list::<4, _>(alloc, &mut reader, 1001)).len(), 1001);
+    check_eq!(rt; reader.asked(), (2002, 0, 1001));
 }

@@ -70,16 +70,6 @@ fn unless_failed(succeeded: bool) -> Result<(), Fail> {
     if succeeded { Ok(()) } else { Err(FAILED)? }
 }
 
-fn unless_rejected<T: Drop>(rt: &impl Abort, outcome: Result<T, Error>) -> Result<T, Fail> {
-    match outcome {
-        Ok(value) => Ok(value),
-        Err(e) => {
-            check_eq!(rt; ErrorKind::of(&e), Some(ErrorKind::OutOfMemory));
-            Err(FAILED)?
-        }
-    }
-}
-
 // Each form is one allocation.
 fn makes_forms<const S: usize>(rt: &impl Abort, alloc: Global, code: u64, digest: &[u8]) -> bool
     requires { S < 2 ^ 16 }
@@ -158,27 +148,6 @@ fn allocating_writes(rt: HostRuntime) -> Result<(), Fail> {
     unless_failed(made)
 }
 
-fn append_forms(held: &mut Vec<u8>, m: &Multihash<255>) -> Result<(), Error> {
-    m.write(held)?;
-    m.write(&mut &mut *held)?;
-    m.scale_encode(held)?;
-    write_list(&[*m, *m], held)
-}
-
-// The one allocation is that of the capacity.
-#[test]
-fn allocating_capacity_alone(rt: HostRuntime) -> Result<(), Fail> {
-    let reserved = Vec::with_capacity(rt.alloc(), 8192).map_err(Error::from);
-    let mut held = unless_rejected(&rt, reserved)?;
-    let digest = [65; 255];
-    for len in [0usize, 1, 31, 32, 33, 64, 127, 128, 200, 255] {
-        let m = Multihash::wrap(300, digest.get(..len).unwrap_or(&[]));
-        expect_ok!(&rt; append_forms(&mut held, &expect_ok!(&rt; m)));
-    }
-    check_eq!(&rt; held.capacity(), 8192);
-    Ok(())
-}
-
 // A vector whose allocation fails is unchanged.
 #[test]
 fn allocating_write_of_a_vector(rt: HostRuntime) -> Result<(), Fail> {
@@ -195,14 +164,13 @@ fn allocating_write_of_a_vector(rt: HostRuntime) -> Result<(), Fail> {
 fn allocating_push(rt: HostRuntime) -> Result<(), Fail> {
     let m = Multihash::<4>::default();
     let mut held = Vec::new(rt.alloc());
-    let bytes = unless_rejected(&rt, m.to_bytes(rt.alloc()))?;
-    let outcome = keep(&mut held, bytes);
+    let outcome = keep(&mut held, m.to_bytes(rt.alloc()));
     check_eq!(&rt; held.len(), usize::from(outcome.is_ok()));
     unless_failed(succeeded(&rt, &outcome))
 }
 
-fn keep(held: &mut Vec<Vec<u8>>, bytes: Vec<u8>) -> Result<(), Error> {
-    held.push(bytes)?;
+fn keep(held: &mut Vec<Vec<u8>>, bytes: Result<Vec<u8>, Error>) -> Result<(), Error> {
+    held.push(bytes?)?;
     Ok(())
 }
 
