@@ -109,7 +109,7 @@ class Expressions:
         return Value(wanted, text if int(text, 0) < 1 << 31 else ONES["u64"].format(text))
 
     def of_text(self, node: Node, wanted: Type | None) -> Value:
-        return Value(Type("slice", (U8,)), f"(const uint8_t *){node.name[1:]}", "cast", str(len(node.name) - 3))
+        return Value(Type("slice", (U8,)), f"MH_TEXT({node.name[1:]})")
 
     def of_path(self, node: Node, wanted: Type | None) -> Value:
         owner, _, name = node.name.rpartition("::")
@@ -283,7 +283,7 @@ class Expressions:
             is_slice = kind.name in POINTERS[:2]
             value = self.bytes(kid) if is_slice else self.expression(kid, kind)
             given += [value.code, value.length] if is_slice and name not in made.short else [value.code]
-        return Value(made.result, f"{made.name}({', '.join(given)})")
+        return Value(made.result, f"{made.name}({', '.join(filter(None, given))})")
 
     def helper(self, node: Node, value: Value, method: str) -> str:
         """Returns the name of a method of Rust's library in the prelude."""
