@@ -122,8 +122,6 @@ class Items:
             return Type("slice" if name == "&" else "slice_mut", of[0].of)
         if name in ("&", "&mut"):
             return of[0]._replace(name="array_ref") if of[0].name == "array" else of[0]
-        if name == "array" and of[0] == U8:
-            return Type(name, of, self.number(at, node.kids[1]))
         is_known = name in SCALARS or name in ("slice", "tuple", "Option", "Result") or self.find(at, name)
         return Type(name, of) if is_known else at.refuse(node, "no known type")
 

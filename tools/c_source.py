@@ -297,14 +297,8 @@ class Function(Expressions):
         return [f"{to.code} {node.name} {value.code};"]
 
 
-def main() -> int:
+if __name__ == "__main__":
     try:
         print(Translation().text(), end="")
     except (Refused, rt_source.Unread) as error:
-        print(f"c_source.py: {error}", file=sys.stderr)
-        return 1
-    return 0
-
-
-if __name__ == "__main__":
-    sys.exit(main())
+        sys.exit(f"c_source.py: {error}")

@@ -773,10 +773,10 @@ MH_INLINE void mh_put_digest(const uint8_t *digest, size_t digest_length, uint8_
     }
 }
 
-/* The result for that many bytes and a buffer of that size: they were written if they fit. */
-static inline multihash_encoded mh_count(size_t length, size_t buffer)
+/* The result for an encoding of that length and a buffer that has room for that many bytes. */
+static inline multihash_encoded mh_count(size_t length, size_t room)
 {
-    const uint32_t status = length <= buffer ? MULTIHASH_OK : MULTIHASH_NO_ROOM;
+    const uint32_t status = length <= room ? MULTIHASH_OK : MULTIHASH_NO_ROOM;
     return (multihash_encoded){.status = status, .size = 0, .length = length};
 }
 

@@ -200,14 +200,14 @@ fn rejected_code() -> Encoded
     }
 }
 
-// The result for that many bytes and a buffer of that size: they were written if they fit.
-fn count(length: usize, buffer: usize) -> Encoded
+// The result for an encoding of that length and a buffer that has room for that many bytes.
+fn count(length: usize, room: usize) -> Encoded
     ensures length { result.length ≡ length }
     ensures no_size { result.size ≡ 0 }
-    ensures fits { length ≤ buffer → result.status ≡ status_ok }
-    ensures no_room { buffer < length → result.status ≡ status_no_room }
+    ensures fits { length ≤ room → result.status ≡ status_ok }
+    ensures no_room { room < length → result.status ≡ status_no_room }
 {
-    let status = if length <= buffer {
+    let status = if length <= room {
         status::OK
     } else {
         status::NO_ROOM
