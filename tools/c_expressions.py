@@ -1,6 +1,7 @@
 """Translates expressions of functions of the library for C, and the names in them."""
 
 import re
+from collections.abc import Callable
 from typing import NamedTuple
 
 from c_items import BOOL, NUMBERS, POINTERS, TOP, U8, U32, U64, UNIT, USIZE, Item, Items, Type, snake
@@ -44,13 +45,10 @@ def is_constant(node: Node) -> bool:
 
 
 class Program(Items):
-    """The items, and what C has of them."""
+    """The items, and what C has of them: it has that of a constant or a function from the first use on."""
 
-    def constant(self, it: Item) -> Value:
-        raise NotImplementedError
-
-    def function(self, it: Item) -> Signature:
-        raise NotImplementedError
+    constant: Callable[[Item], Value]
+    function: Callable[[Item], Signature]
 
 
 class Expressions:
@@ -109,7 +107,7 @@ class Expressions:
         return Value(wanted, text if int(text, 0) < 1 << 31 else ONES["u64"].format(text))
 
     def of_text(self, node: Node, wanted: Type | None) -> Value:
-        return Value(Type("slice", (U8,)), f"(const uint8_t *){node.name[1:]}", "cast", str(len(node.name) - 3))
+        return Value(Type("slice", (U8,)), f"MH_TEXT({node.name[1:]})")
 
     def of_path(self, node: Node, wanted: Type | None) -> Value:
         owner, _, name = node.name.rpartition("::")
@@ -145,8 +143,6 @@ class Expressions:
             case ("-", "i32") | ("!", ("bool" | "u32" | "u64" | "usize")):
                 mark = "~" if node.name == "!" and value.type != BOOL else node.name
                 return Value(value.type, f"{mark}{self.inner(value)}", "cast")
-            case "&", "array":
-                return self.bytes(node.kids[0])._replace(type=value.type._replace(name="array_ref"))
             case ("&" | "*"), _:
                 return value
         self.it.refuse(node, "no known operation")
@@ -283,7 +279,7 @@ class Expressions:
             is_slice = kind.name in POINTERS[:2]
             value = self.bytes(kid) if is_slice else self.expression(kid, kind)
             given += [value.code, value.length] if is_slice and name not in made.short else [value.code]
-        return Value(made.result, f"{made.name}({', '.join(given)})")
+        return Value(made.result, f"{made.name}({', '.join(filter(None, given))})")
 
     def helper(self, node: Node, value: Value, method: str) -> str:
         """Returns the name of a method of Rust's library in the prelude."""

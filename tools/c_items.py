@@ -1,6 +1,7 @@
 """What tools/c_source.py translates: the items of the library for C, with their names, types and comments in C."""
 
 import re
+from itertools import takewhile
 from pathlib import Path
 from textwrap import wrap
 from typing import NamedTuple, NoReturn
@@ -17,8 +18,9 @@ TUPLES: dict[tuple[str, ...], tuple[str, str, str]] = {
     ("u64", "usize"): ("mh_varint", "number", "length"),
     ("Error", "usize"): ("mh_error_at", "error", "taken"),
 }
-# The marks of clauses in ASCII, as far as preconditions have them.
-ASCII = {"≤": "<=", "≡": "==", "≢": "!=", "→": "->", "×": "and", "ℕ": "number", ".now": "", ".old": ""}
+# What clauses have in place of what C has, in those that need no words of proofs.
+IN_C = {"≤": "<=", "≡": "==", "varint_limit": "2^63", ".now": "", ".old": ""}
+PLAIN = re.compile(r"{0}(?: (?:[+<]|<=|==) {0})+".format(r"(?:length )?[\w^]+"))
 
 
 class Type(NamedTuple):
@@ -50,23 +52,23 @@ class Item(NamedTuple):
         raise Refused(f"{self.path}:{node.line}: {what}: {node.kind} {node.name}")
 
     def about(self) -> list[str]:
-        """Returns the comment before the item, and what a function requires: no test of that is left in C."""
+        """Returns the comment before the item, and what a function requires, if that is plain: C has no test of it."""
         found = re.search(r"(?:^ *(?://(?!!)|#\[)[^\n]*\n)*\Z", self.item.text[: self.item.start].rstrip(" "), re.M)
         lines = [line for line in found[0].splitlines() if "//" in line] if found else []
+        if self.item.kind == "struct":  # the first paragraph
+            lines = [*takewhile(lambda line: line.strip(" /"), lines)]
         if self.item.kind == "fn":
             contract = self.item.text[self.item.signature_end() : self.item.contract_end()]
             clauses = re.findall(r"\brequires(?: \w+)? \{(.*?)\}(?=\s*\n|$)", contract, re.S)
-            required = ascii_of("; ".join(" ".join(clause.split()) for clause in clauses))
+            required = "; ".join(clause for clause in map(in_c, clauses) if PLAIN.fullmatch(clause))
             lines += wrap(f"// Proved: {required}.", 104, subsequent_indent="//   ") if required else []
         return ["", *comment(lines)]
 
 
-def ascii_of(text: str) -> str:
-    for mark, word in ASCII.items():
-        text = text.replace(mark, word)
-    if not text.isascii():
-        raise Refused(f"a clause has other marks than ASCII of tools/c_items.py: {text}")
-    return text
+def in_c(clause: str) -> str:
+    for mark, word in IN_C.items():
+        clause = clause.replace(mark, word)
+    return clause.strip()
 
 
 def snake(name: str) -> str:
@@ -80,6 +82,7 @@ def declared(kind: str, name: str) -> str:
 def comment(lines: list[str]) -> list[str]:
     text = "\n * ".join(re.sub(r"^ *//[/!]? ?(# )?", "", line) for line in lines)
     text = re.sub(r"\[(`[\w:]*`)\]", r"\1", text)
+    text = re.sub(r"`Error::(\w+)`", lambda found: f"`MH_KIND_{found[1].upper()}`", text)
     return f"/* {text} */".replace(" \n", "\n").split("\n") if lines else []
 
 
@@ -119,8 +122,6 @@ class Items:
             return Type("slice" if name == "&" else "slice_mut", of[0].of)
         if name in ("&", "&mut"):
             return of[0]._replace(name="array_ref") if of[0].name == "array" else of[0]
-        if name == "array" and of[0] == U8:
-            return Type(name, of, self.number(at, node.kids[1]))
         is_known = name in SCALARS or name in ("slice", "tuple", "Option", "Result") or self.find(at, name)
         return Type(name, of) if is_known else at.refuse(node, "no known type")
 
@@ -146,12 +147,18 @@ class Items:
             return ("" if of.name == "slice_mut" else "const ") + self.c_type(of.of[0]) + " *"
         name = self.name_of(of)
         if name not in self.types and not name.startswith("multihash_"):
+            about = [""] if of.of else self.defined(of).about()
             fields = [f"    {declared(self.c_type(kind), it)};" for it, kind in self.fields(of).items()]
             if of.name == "Result":
                 fields[1:] = ["    union {", *("    " + line for line in fields[1:]), "    };"]
             fields = [f"    uint8_t bytes[{of.length}];"] if of.name == "array" else fields
-            self.types[name] = ["", f"typedef struct {name} {{", *fields, f"}} {name};"]
+            self.types[name] = [*about, f"typedef struct {name} {{", *fields, f"}} {name};"]
         return name
+
+    def defined(self, of: Type) -> Item:
+        """Returns the struct or the enum that a type is."""
+        [found] = [it for it in self.items.values() if it.item.name == of.name and it.item.kind in ("struct", "enum")]
+        return found
 
     def name_of(self, of: Type) -> str:
         parts = [re.sub("^(mh|multihash)_", "", self.name_of(it)) for it in of.of]
@@ -174,7 +181,7 @@ class Items:
             names = {"Option": ("some",), "Result": ("ok", "err"), "array": ("bytes",)}.get(of.name, own)
             flag = {"Option": {"is_some": BOOL}, "Result": {"is_ok": BOOL}}.get(of.name, {})
             return flag | dict(zip(names, of.of, strict=True))
-        [found] = [it for it in self.items.values() if it.item.name == of.name and it.item.kind in ("struct", "enum")]
+        found = self.defined(of)
         if found.item.kind == "struct":
             parts = [(name, Parser(found.path, kind, [(0, len(kind))])) for name, kind in found.item.parts()]
             return {name: self.type(found, parser.type()) for name, parser in parts}

@@ -16,15 +16,17 @@ The text before it is tools/prelude.c. What is not known is an error that names 
 """
 import re
 import sys
+from itertools import accumulate
 
 import rt_source
 from c_expressions import ONES, PRELUDE, Expressions, Program, Signature, Value
-from c_items import BOOL, NUMBERS, POINTERS, U8, U32, U64, UNIT, USIZE, Item, Type, comment, declared
+from c_items import BOOL, NUMBERS, POINTERS, TOP, U8, U32, U64, UNIT, USIZE, Item, Type, comment, declared
 from rt_code import Node, Refused
 
 # The attributes that say where a function is compiled.
 PLACES = {"no_mangle": "", "inline(always)": "MH_INLINE ", "cold": "MH_COLD ", "inline(never)": "MH_NOT_INLINE "}
 WIDTH = 110
+HEADER = (TOP / "bindings/c/include/multihash.h").read_text("utf-8")
 
 
 def uses(name: str, lines: list[str]) -> int:
@@ -51,12 +53,12 @@ def negated(condition: str) -> str:
 
 
 def wrapped(line: str) -> str:
-    """Breaks a long line of code after a comma, or else an operation."""
+    """Breaks a long line of code where the fewest brackets are open: after the last comma there, or operation."""
     if len(line) <= WIDTH or re.match(r" *(/\*| \*|#|_Static)", line):
         return line
-    at = line.rfind(", ", 0, WIDTH) + 1
-    if at < WIDTH // 2:
-        at = max(line.rfind(f" {mark} ", 0, WIDTH) + len(mark) + 1 for mark in ("|", "&&", "+"))
+    depths = list(accumulate((mark in "({[") - (mark in ")}]") for mark in line))
+    places = [found.end() for found in re.finditer(r"(,|[|+]|&&)(?= )", line[:WIDTH])]
+    at = min(places, key=lambda at: (depths[at], line[at - 1] != ",", -at))
     indent = re.sub(r"\S.*", "", line)
     return line[:at] + "\n" + wrapped(indent + "    " + line[at:].lstrip())
 
@@ -72,18 +74,15 @@ class Translation(Program):
     def __init__(self) -> None:
         super().__init__()
         self.made: dict[tuple[str, str], Signature] = {}
-        self.constants: set[tuple[str, str]] = set()
+        self.constants: dict[tuple[str, str], list[str]] = {}
 
     def constant(self, it: Item) -> Value:
-        """Returns a constant. It is then defined, or compared with that of the header."""
+        """Returns a constant. It is then defined, if the header does not define it."""
         name, (kind_node, node) = self.c_name(it), it.parser().constant()
         kind, number, about = self.type(it, kind_node), self.number(it, node), it.about()
-        if (it.owner, it.item.name) not in self.constants:
-            self.constants.add((it.owner, it.item.name))
-            text = f"{number:#x}" if number > 1 << 16 else str(number)
-            lines = [*about, f"#define {name} {ONES[kind.name].format(text)}"]
-            check = [f'_Static_assert({name} == {number}, "{name}");']
-            self.texts[it.module] += check if name.startswith("MULTIHASH_") else lines
+        text = f"{number:#x}" if number > 1 << 16 else str(number)
+        if not name.startswith("MULTIHASH_"):
+            self.constants[it.owner, it.item.name] = [*about, f"#define {name} {ONES[kind.name].format(text)}"]
         return Value(kind, name)
 
     def function(self, it: Item) -> Signature:
@@ -97,21 +96,32 @@ class Translation(Program):
             self.texts[it.module] += [*it.about(), *lines]
         return self.made[key]
 
+    def checks(self) -> list[str]:
+        """Returns comparisons of the constants that the header defines, and of its version."""
+        version = self.items["version", "multihash_version"]
+        values = {"VERSION_NUMBER": self.number(version, version.parser().function()[-1].kids[0].kids[0])}
+        for it in self.items.values():
+            if it.item.kind == "const" and uses(f"MULTIHASH_{it.item.name}", [HEADER]):
+                values[it.item.name] = self.number(it, it.parser().constant()[1])
+        return ["", *(f'_Static_assert(MULTIHASH_{it} == {n}, "MULTIHASH_{it}");' for it, n in values.items())]
+
     def text(self) -> str:
         for it in self.items.values():
             if "no_mangle" in it.item.attributes:
                 self.function(it)
+        for key, it in reversed(self.items.items()):
+            self.texts[it.module][3:3] = self.constants.get(key, [])
         code = [line for lines in self.texts.values() if len(lines) > 3 for line in lines]
         for name, lines in self.types.items():
             if "    uint8_t tag;" in lines:
                 tags = dict.fromkeys(re.findall(rf"\b{name.upper()}_\w+", "\n".join(code)))
-                payloads = [it for it in lines[3:-1] if uses(re.findall(r"\w+", it)[1], code)]
-                lines[1:-1] = [f"enum {{ {', '.join(tags)} }};", "", *lines[1:3], *payloads]
-        about = "/* Written by tools/generate from the proved functions in crates/. Edit these instead. */\n\n"
+                at = lines.index("    uint8_t tag;") + 1
+                lines[at:-1] = [it for it in lines[at:-1] if uses(re.findall(r"\w+", it)[1], code)]
+                lines[:0] = ["", f"enum {{ {', '.join(tags)} }};"]
         names = {name: made.name for (_, name), made in self.made.items()}
         code = [re.sub(r"`(\w+)`", lambda found: f"`{names.get(str(found[1]), found[1])}`", line) for line in code]
         typed = [line for lines in self.types.values() for line in lines]
-        return about + PRELUDE + "\n".join(wrapped(line) for line in [*typed, *code]) + "\n"
+        return PRELUDE + "\n".join(wrapped(line) for line in [*self.checks(), *typed, *code]) + "\n"
 
 
 class Function(Expressions):
@@ -287,14 +297,8 @@ class Function(Expressions):
         return [f"{to.code} {node.name} {value.code};"]
 
 
-def main() -> int:
+if __name__ == "__main__":
     try:
         print(Translation().text(), end="")
     except (Refused, rt_source.Unread) as error:
-        print(f"c_source.py: {error}", file=sys.stderr)
-        return 1
-    return 0
-
-
-if __name__ == "__main__":
-    sys.exit(main())
+        sys.exit(f"c_source.py: {error}")

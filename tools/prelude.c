@@ -1,14 +1,24 @@
-/* The library for C, in one file beside multihash.h. What is `Proved:` before a function or a statement is proved of
- * each call: so no test of it is left. First comes what the functions need of Rust's library, by its names. */
+/* SPDX-License-Identifier: MIT
+ * Copyright (c) 2026 The Gilmekhus developers */
+
+/* The library for C, in one file beside multihash.h. tools/generate writes it, from the proved functions in crates/ and
+ * from tools/prelude.c: edit these instead.
+ *
+ * What is `Proved:` before a function or a statement is proved of each call inside this file: so no test of it is left.
+ * Callers of multihash_* are not checked. First come functions that are written by hand, and tested only: what the
+ * others need of Rust's library, by its names. */
 #include "multihash.h"
 
 #include <stdbool.h>
 #if __STDC_HOSTED__
 #include <string.h>
-#else /* without a C library: compilers call it there too */
+#else /* without a C library, where compilers expect these two as well */
 void *memcpy(void *, const void *, size_t);
 int memcmp(const void *, const void *, size_t);
 #endif
+
+/* A text without its last zero byte, as two arguments. */
+#define MH_TEXT(text) (const uint8_t *)(text), sizeof(text) - 1
 
 #if defined(__GNUC__)
 #define MH_INLINE static inline __attribute__((always_inline))

@@ -75,7 +75,7 @@ def page(header: str, changes: str) -> str:
     made += [".Sh SYNOPSIS", ".In multihash.h"]
     for _, kind, name, parameters in functions:
         made += prototype(kind, name, parameters)
-    [first] = re.findall(r"\A/\*(.*?)\*/", header, re.S)
+    [first] = re.findall(r"\A/\*.*?\*/\n\n/\*(.*?)\*/", header, re.S)  # after the notice of the licence
     made += [".Sh DESCRIPTION", *paragraphs(first)[1:], ".Ss Types and constants"]
     for comment, declaration in [*re.findall(TYPE, header, re.S), *re.findall(CONSTANTS, header, re.S)]:
         made += [text(plain(comment)), *literal(declaration), ".Pp"]

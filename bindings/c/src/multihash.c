@@ -1,16 +1,24 @@
-/* Written by tools/generate from the proved functions in crates/. Edit these instead. */
+/* SPDX-License-Identifier: MIT
+ * Copyright (c) 2026 The Gilmekhus developers */
 
-/* The library for C, in one file beside multihash.h. What is `Proved:` before a function or a statement is proved of
- * each call: so no test of it is left. First comes what the functions need of Rust's library, by its names. */
+/* The library for C, in one file beside multihash.h. tools/generate writes it, from the proved functions in crates/ and
+ * from tools/prelude.c: edit these instead.
+ *
+ * What is `Proved:` before a function or a statement is proved of each call inside this file: so no test of it is left.
+ * Callers of multihash_* are not checked. First come functions that are written by hand, and tested only: what the
+ * others need of Rust's library, by its names. */
 #include "multihash.h"
 
 #include <stdbool.h>
 #if __STDC_HOSTED__
 #include <string.h>
-#else /* without a C library: compilers call it there too */
+#else /* without a C library, where compilers expect these two as well */
 void *memcpy(void *, const void *, size_t);
 int memcmp(const void *, const void *, size_t);
 #endif
+
+/* A text without its last zero byte, as two arguments. */
+#define MH_TEXT(text) (const uint8_t *)(text), sizeof(text) - 1
 
 #if defined(__GNUC__)
 #define MH_INLINE static inline __attribute__((always_inline))
@@ -120,6 +128,18 @@ static inline mh_ordering mh_slice_cmp(const uint8_t *a, size_t a_length, const 
     return mh_usize_cmp(a_length, b_length);
 }
 
+_Static_assert(MULTIHASH_VERSION_NUMBER == 10000, "MULTIHASH_VERSION_NUMBER");
+_Static_assert(MULTIHASH_DIGEST_MAX == 255, "MULTIHASH_DIGEST_MAX");
+_Static_assert(MULTIHASH_OK == 0, "MULTIHASH_OK");
+_Static_assert(MULTIHASH_INSUFFICIENT == 1, "MULTIHASH_INSUFFICIENT");
+_Static_assert(MULTIHASH_OVERFLOW == 2, "MULTIHASH_OVERFLOW");
+_Static_assert(MULTIHASH_NOT_MINIMAL == 3, "MULTIHASH_NOT_MINIMAL");
+_Static_assert(MULTIHASH_INVALID_SIZE == 4, "MULTIHASH_INVALID_SIZE");
+_Static_assert(MULTIHASH_INVALID_CODE == 5, "MULTIHASH_INVALID_CODE");
+_Static_assert(MULTIHASH_UNEXPECTED_EOF == 6, "MULTIHASH_UNEXPECTED_EOF");
+_Static_assert(MULTIHASH_NO_ROOM == 7, "MULTIHASH_NO_ROOM");
+
+/* The code and the digest's length at the front of an encoding. */
 typedef struct mh_head {
     uint64_t code;
     uint64_t digest_len;
@@ -148,6 +168,7 @@ typedef struct mh_kind {
     uint64_t invalid_code;
 } mh_kind;
 
+/* The error of this library's calls. */
 typedef struct mh_error {
     mh_kind kind;
 } mh_error;
@@ -177,6 +198,7 @@ typedef struct mh_head_or_error_at {
     };
 } mh_head_or_error_at;
 
+/* The error of an input with a malformed varint: its status, and the bytes that reading it consumes. */
 typedef struct mh_front_error {
     uint32_t status;
     size_t taken;
@@ -228,20 +250,20 @@ static inline mh_error mh_error_from_code(uint64_t code)
 /* ---- multihash/src/varint.rt
  * Unsigned varints of multiformats, for numbers below 2^63: at most nine bytes. */
 
-/* After that many continuation bytes the last byte is below this one. */
-#define MH_LAST_BYTE_LIMIT 128
-
-/* The most bytes of a varint. */
-#define MH_MAX_LEN ((size_t)9)
-
 /* The most continuation bytes of a varint. */
 #define MH_MAX_CONTINUATION ((size_t)8)
+
+/* After that many continuation bytes the last byte is below this one. */
+#define MH_LAST_BYTE_LIMIT 128
 
 /* The largest number that has a varint: 2^63 - 1. */
 #define MH_VARINT_MAX UINT64_C(0x7fffffffffffffff)
 
+/* The most bytes of a varint. */
+#define MH_MAX_LEN ((size_t)9)
+
 /* The length of the varint of a number that is known to be in range.
- * Proved: n < varint_limit. */
+ * Proved: n < 2^63. */
 MH_INLINE size_t mh_varint_len_in_range(uint64_t n)
 {
     if (n < 128) return 1;
@@ -255,7 +277,7 @@ MH_INLINE size_t mh_varint_len_in_range(uint64_t n)
  *
  * Errors
  *
- * `Error::invalid_code` with the number if it is 2^63 or more. */
+ * `MH_KIND_INVALID_CODE` with the number if it is 2^63 or more. */
 static inline mh_usize_or_error mh_varint_len(uint64_t n)
 {
     /* Most numbers have one byte, so this test comes first. */
@@ -301,8 +323,8 @@ MH_INLINE mh_varint_or_error_at mh_read_high(mh_u128 word, size_t present)
     if (last == 0) {
         return (mh_varint_or_error_at){.is_ok = false, .err = {mh_error_not_minimal(), MH_MAX_LEN}};
     }
-    return (mh_varint_or_error_at){.is_ok = true, .ok = {mh_join_digits(low) |
-        (last << (7 * MH_MAX_CONTINUATION)), MH_MAX_LEN}};
+    return (mh_varint_or_error_at){.is_ok = true,
+        .ok = {mh_join_digits(low) | (last << (7 * MH_MAX_CONTINUATION)), MH_MAX_LEN}};
 }
 
 /* Does what `mh_word_read_counted` does, of bytes whose first are in the word. */
@@ -321,8 +343,8 @@ MH_INLINE mh_varint_or_error_at mh_read_word(mh_u128 word, size_t present)
     /* At most 56 bits are shifted out. */
     if ((varint >> (8 * continuation_bytes)) == 0 && continuation_bytes > 0) {
         /* With the last byte they are at most eight. */
-        return (mh_varint_or_error_at){.is_ok = false, .err = {mh_error_not_minimal(),
-            continuation_bytes + 1}};
+        return (mh_varint_or_error_at){.is_ok = false,
+            .err = {mh_error_not_minimal(), continuation_bytes + 1}};
     }
     /* With the last byte they are at most eight. */
     return (mh_varint_or_error_at){.is_ok = true, .ok = {mh_join_digits(varint), continuation_bytes + 1}};
@@ -398,8 +420,8 @@ MH_INLINE mh_maybe_head mh_head_find_front(const uint8_t *bytes, size_t bytes_le
 {
     /* Mostly each varint has one byte. */
     if (bytes_length >= 2 && bytes[0] < 128 && bytes[1] < 128) {
-        return (mh_maybe_head){.is_some = true, .some = {.code = (uint64_t)bytes[0],
-            .digest_len = (uint64_t)bytes[1], .digest_offset = 2}};
+        return (mh_maybe_head){.is_some = true,
+            .some = {.code = (uint64_t)bytes[0], .digest_len = (uint64_t)bytes[1], .digest_offset = 2}};
     }
     const mh_maybe_varint maybe_code = mh_word_read_front(bytes, bytes_length);
     if (!maybe_code.is_some) return (mh_maybe_head){.is_some = false};
@@ -410,8 +432,8 @@ MH_INLINE mh_maybe_head mh_head_find_front(const uint8_t *bytes, size_t bytes_le
     const uint64_t digest_len = maybe_digest_len.some.number;
     const size_t size_len = maybe_digest_len.some.length;
     /* The sum is at most the number of bytes. */
-    return (mh_maybe_head){.is_some = true, .some = {.code = code, .digest_len = digest_len,
-        .digest_offset = code_len + size_len}};
+    return (mh_maybe_head){.is_some = true,
+        .some = {.code = code, .digest_len = digest_len, .digest_offset = code_len + size_len}};
 }
 
 /* Reads the two varints at the front of `bytes`. An error comes with the number of bytes that reading
@@ -429,8 +451,8 @@ MH_COLD mh_head_or_error_at mh_head_read_counted(const uint8_t *bytes, size_t by
         const uint64_t digest_len = digest_len_result.ok.number;
         const size_t size_len = digest_len_result.ok.length;
         /* The sum is at most the number of bytes. */
-        return (mh_head_or_error_at){.is_ok = true, .ok = {.code = code, .digest_len = digest_len,
-            .digest_offset = code_len + size_len}};
+        return (mh_head_or_error_at){.is_ok = true,
+            .ok = {.code = code, .digest_len = digest_len, .digest_offset = code_len + size_len}};
     }
     const mh_error error = digest_len_result.err.error;
     const size_t taken = digest_len_result.err.taken;
@@ -474,15 +496,14 @@ MH_INLINE uint64_t mh_word_at(const uint8_t *bytes, size_t at)
 }
 
 /* Whether the eight bytes from that index on are equal too, if those before it are.
- * Proved: at + 8 <= length a; at + 8 <= length b; take at a == take at b. */
+ * Proved: at + 8 <= length a; at + 8 <= length b. */
 MH_INLINE bool mh_same_word(const uint8_t *a, const uint8_t *b, size_t at)
 {
     return mh_word_at(a, at) == mh_word_at(b, at);
 }
 
 /* How two words compare that differ, from their lowest byte on. In line the compiler would swap the bytes
- * of equal words too.
- * Proved: swap_bytes w64 a != swap_bytes w64 b. */
+ * of equal words too. */
 MH_NOT_INLINE int32_t mh_sign_of_words(uint64_t a, uint64_t b)
 {
     if (mh_u64_swap_bytes(a) < mh_u64_swap_bytes(b)) return -1;
@@ -490,8 +511,7 @@ MH_NOT_INLINE int32_t mh_sign_of_words(uint64_t a, uint64_t b)
 }
 
 /* How bytes compare that are equal before an index, and differ in the word there.
- * Proved: at + 8 <= length a; at + 8 <= length b; take at a == take at b; take (at + 8) a != take (at +
- *   8) b. */
+ * Proved: at + 8 <= length a; at + 8 <= length b. */
 MH_INLINE int32_t mh_sign_at(const uint8_t *a, const uint8_t *b, size_t at)
 {
     return mh_sign_of_words(mh_word_at(a, at), mh_word_at(b, at));
@@ -499,7 +519,7 @@ MH_INLINE int32_t mh_sign_at(const uint8_t *a, const uint8_t *b, size_t at)
 
 /* How bytes compare that are equal before an index, with 8 to 16 from there on: by the word there and by
  * the last one, which may overlap.
- * Proved: at + 8 <= length a; length a <= at + 16; length a == length b; take at a == take at b. */
+ * Proved: at + 8 <= length a; length a <= at + 16; length a == length b. */
 MH_INLINE int32_t mh_compare_last(const uint8_t *a, size_t a_length, const uint8_t *b, size_t at)
 {
     if (!mh_same_word(a, b, at)) return mh_sign_at(a, b, at);
@@ -542,7 +562,8 @@ int32_t multihash_compare(uint64_t left_code, const uint8_t *left_digest, size_t
 /* ---- multihash_c/src/decode.rt
  * Decoding, for C. */
 
-/* Whether both varints have one byte, as mostly. */
+/* Whether both varints have one byte, as mostly. That case is compiled in line, where the compiler leaves out
+ * tests of the same bytes. The other is compiled once, out of line, from the same function. */
 MH_INLINE bool mh_is_short(const uint8_t *bytes, size_t bytes_length)
 {
     return bytes_length >= 2 && bytes[0] < 128 && bytes[1] < 128;
@@ -563,8 +584,7 @@ static inline uint32_t mh_varint_status(mh_error error)
     return MULTIHASH_NOT_MINIMAL;
 }
 
-/* Returns the error of an input with a malformed varint.
- * Proved: (error : VarintError) and ((S : number) -> HasVerdict S bytes (malformed error)). */
+/* Returns the error of an input with a malformed varint. */
 MH_COLD mh_front_error mh_error_of(const uint8_t *bytes, size_t bytes_length)
 {
     const mh_head_or_error_at error_result = mh_head_read_counted(bytes, bytes_length);
@@ -574,7 +594,7 @@ MH_COLD mh_front_error mh_error_of(const uint8_t *bytes, size_t bytes_length)
     return (mh_front_error){.status = mh_varint_status(error), .taken = taken};
 }
 
-/* The result for a digest that is too long. */
+/* The result for an invalid size: of a digest that is too long, or the number of trailing bytes. */
 static inline multihash_decoded mh_decode_rejected_size(uint64_t size, size_t taken)
 {
     return mh_rejected(MULTIHASH_INVALID_SIZE, size, 0, taken);
@@ -588,7 +608,7 @@ static inline multihash_decoded mh_accept(uint64_t code, size_t digest_length, s
         .digest_offset = taken - digest_length, .digest_length = digest_length, .taken = taken};
 }
 
-/* The result for a truncated digest. */
+/* The result for an input that ends within the digest, or before it in the SCALE form. */
 static inline multihash_decoded mh_rejected_end(size_t taken)
 {
     return mh_rejected(MULTIHASH_UNEXPECTED_EOF, 0, 0, taken);
@@ -628,15 +648,16 @@ multihash_decoded multihash_from_bytes(const uint8_t *bytes, size_t bytes_length
     return mh_decode_longer(bytes, bytes_length);
 }
 
-/* Decodes an input of `whole_length` bytes as `multihash_from_bytes` does. `prefix` is the whole input, or
- * at least its first 18 bytes, the most that two varints have. */
+/* Decodes an input of `whole_length` bytes as `multihash_from_bytes` does, by its first bytes. `prefix` has
+ * enough of them if it is the whole input, has 18, the most that two varints have, or does not end within
+ * the two varints. */
 multihash_decoded multihash_from_prefix(const uint8_t *prefix, size_t prefix_length, size_t whole_length)
 {
     return mh_decode_whole(prefix, mh_usize_min(prefix_length, whole_length), whole_length);
 }
 
-/* Decodes the multihash whose encoding is at the front of `bytes`, as `read` does for the capacity
- * `limit`. */
+/* Decodes the multihash whose encoding is at the front of `bytes`, with a digest of at most `limit` bytes,
+ * and at most 255. */
 MH_INLINE multihash_decoded mh_decode_read_within(const uint8_t *bytes, size_t bytes_length, size_t limit)
 {
     const mh_maybe_head maybe_head = mh_head_find_front(bytes, bytes_length);
@@ -752,10 +773,10 @@ MH_INLINE void mh_put_digest(const uint8_t *digest, size_t digest_length, uint8_
     }
 }
 
-/* The result for that many bytes and a buffer of that size: they were written if they fit. */
-static inline multihash_encoded mh_count(size_t length, size_t buffer)
+/* The result for an encoding of that length and a buffer that has room for that many bytes. */
+static inline multihash_encoded mh_count(size_t length, size_t room)
 {
-    const uint32_t status = length <= buffer ? MULTIHASH_OK : MULTIHASH_NO_ROOM;
+    const uint32_t status = length <= room ? MULTIHASH_OK : MULTIHASH_NO_ROOM;
     return (multihash_encoded){.status = status, .size = 0, .length = length};
 }
 
@@ -792,12 +813,12 @@ MH_INLINE size_t mh_sized_len(size_t digest_length)
     const mh_usize_or_error size_length_result = mh_varint_len((uint64_t)digest_length);
     /* Proved: size_length_result.is_ok. */
     const size_t size_length = size_length_result.ok;
-    /* This is at most 264. */
+    /* This is at most 257: two bytes of the varint, and 255. */
     return size_length + digest_length;
 }
 
 /* Does what `mh_put_varint` does, byte by byte.
- * Proved: n < varint_limit; (bytes : List number) -> IsVarint n bytes -> length bytes <= length buffer. */
+ * Proved: n < 2^63. */
 MH_INLINE size_t mh_put_digits(uint64_t n, uint8_t *buffer)
 {
     size_t at = 0;
@@ -814,7 +835,7 @@ MH_INLINE size_t mh_put_digits(uint64_t n, uint8_t *buffer)
 }
 
 /* Writes the varint of a number to the front of a buffer that is large enough, and returns its length.
- * Proved: n < varint_limit; (bytes : List number) -> IsVarint n bytes -> length bytes <= length buffer. */
+ * Proved: n < 2^63. */
 MH_INLINE size_t mh_put_varint(uint64_t n, uint8_t *buffer)
 {
     if (n < 128) {
@@ -838,8 +859,7 @@ MH_INLINE size_t mh_put_varint(uint64_t n, uint8_t *buffer)
 }
 
 /* Writes the varint of a digest's length and the digest to the front of a buffer that is large enough.
- * Proved: length digest <= 255; (size : List number) -> IsVarint (length digest) size -> length size +
- *   length digest <= length buffer. */
+ * Proved: length digest <= 255. */
 MH_INLINE void mh_put_sized(const uint8_t *digest, size_t digest_length, uint8_t *buffer)
 {
     /* As a byte, so that the compiler sees that the varint has two bytes at most. */
@@ -848,8 +868,7 @@ MH_INLINE void mh_put_sized(const uint8_t *digest, size_t digest_length, uint8_t
 }
 
 /* Writes the encoding of a code and a digest to the front of a buffer that is large enough.
- * Proved: code < varint_limit; length digest <= 255; (bytes : List number) and IsEncoding (record {
- *   code = code; digest = digest }) bytes and (length bytes <= length buffer). */
+ * Proved: code < 2^63; length digest <= 255. */
 static inline void mh_put_encoding(uint64_t code, const uint8_t *digest, size_t digest_length,
     uint8_t *buffer)
 {
@@ -871,7 +890,7 @@ MH_NOT_INLINE multihash_encoded mh_encode_any(uint64_t code, const uint8_t *dige
     const mh_usize_or_error code_length_result = mh_varint_len(code);
     if (!code_length_result.is_ok) return mh_encode_rejected_code();
     const size_t code_length = code_length_result.ok;
-    /* This is at most 273: nine bytes of each varint, and 255. */
+    /* This is at most 266: nine bytes of the code's varint, two of the length's, and 255. */
     const size_t encoding_length = code_length + mh_sized_len(digest_length);
     if (encoding_length <= out_length) mh_put_encoding(code, digest, digest_length, out);
     return mh_count(encoding_length, out_length);
@@ -889,7 +908,7 @@ multihash_encoded multihash_encode(uint64_t code, const uint8_t *digest, size_t 
 }
 
 /* Writes the SCALE form of a code and a digest to the front of a buffer that is large enough.
- * Proved: code < varint_limit; length digest <= 255; 9 + length digest <= length buffer. */
+ * Proved: code < 2^63; length digest <= 255; 9 + length digest <= length buffer. */
 MH_INLINE void mh_put_scale_form(uint64_t code, const uint8_t *digest, size_t digest_length, uint8_t *buffer)
 {
     mh_u64_to_le_bytes(buffer, code);
@@ -909,7 +928,8 @@ MH_INLINE multihash_encoded mh_scale_encode(uint64_t code, const uint8_t *digest
     return mh_count(form_length, out_length);
 }
 
-/* Does what `mh_scale_encode` does, for a digest of another length than the usual one. */
+/* Does what `mh_scale_encode` does, for a digest of another length than the usual one: out of line. In line that
+ * length is a constant. */
 MH_NOT_INLINE multihash_encoded mh_scale_encode_any(uint64_t code, const uint8_t *digest,
     size_t digest_length, uint8_t *out, size_t out_length)
 {
@@ -930,7 +950,7 @@ multihash_encoded multihash_scale_encode(uint64_t code, const uint8_t *digest, s
  * Proved: code_length <= 9; digest_length <= 255. */
 MH_INLINE multihash_encoded mh_count_parts(size_t code_length, size_t digest_length)
 {
-    /* This is at most 273: nine bytes of each varint, and 255. */
+    /* This is at most 266: nine bytes of the code's varint, two of the length's, and 255. */
     const size_t length = code_length + mh_sized_len(digest_length);
     return mh_count(length, length);
 }
@@ -962,23 +982,23 @@ multihash_encoded multihash_put_status_text(uint32_t status, uint8_t *out, size_
 {
     switch (status) {
     case MULTIHASH_OK:
-        return mh_put_text((const uint8_t *)"ok", 2, out, out_length);
+        return mh_put_text(MH_TEXT("ok"), out, out_length);
     case MULTIHASH_INSUFFICIENT:
-        return mh_put_text((const uint8_t *)"not enough input bytes", 22, out, out_length);
+        return mh_put_text(MH_TEXT("not enough input bytes"), out, out_length);
     case MULTIHASH_OVERFLOW:
-        return mh_put_text((const uint8_t *)"input bytes exceed maximum", 26, out, out_length);
+        return mh_put_text(MH_TEXT("input bytes exceed maximum"), out, out_length);
     case MULTIHASH_NOT_MINIMAL:
-        return mh_put_text((const uint8_t *)"encoding is not minimal", 23, out, out_length);
+        return mh_put_text(MH_TEXT("encoding is not minimal"), out, out_length);
     case MULTIHASH_INVALID_SIZE:
-        return mh_put_text((const uint8_t *)"Invalid multihash size", 22, out, out_length);
+        return mh_put_text(MH_TEXT("Invalid multihash size"), out, out_length);
     case MULTIHASH_INVALID_CODE:
-        return mh_put_text((const uint8_t *)"Invalid multihash code", 22, out, out_length);
+        return mh_put_text(MH_TEXT("Invalid multihash code"), out, out_length);
     case MULTIHASH_UNEXPECTED_EOF:
-        return mh_put_text((const uint8_t *)"failed to fill whole buffer", 27, out, out_length);
+        return mh_put_text(MH_TEXT("failed to fill whole buffer"), out, out_length);
     case MULTIHASH_NO_ROOM:
-        return mh_put_text((const uint8_t *)"failed to write whole buffer", 28, out, out_length);
+        return mh_put_text(MH_TEXT("failed to write whole buffer"), out, out_length);
     default:
-        return mh_put_text((const uint8_t *)"unknown status", 14, out, out_length);
+        return mh_put_text(MH_TEXT("unknown status"), out, out_length);
     }
 }
 
@@ -1014,8 +1034,8 @@ multihash_batch multihash_read_many(const uint8_t *bytes, size_t bytes_length, m
         taken += found.taken;
         /* It is at most the number of items. */
         count += 1;
-        /* After a usual digest the place of the next multihash does not depend on what was read: so a
-         * processor does not wait for it. */
+        /* Here each multihash has 34 bytes. So the place of the next one does not depend on a length that was
+         * read, and a processor does not wait for it. */
         while (count < out_length && mh_is_usual(bytes + taken, bytes_length - taken)) {
             const multihash_decoded usual = mh_decode_read_within(bytes + taken, bytes_length - taken,
                 MH_DIGEST_MAX);
@@ -1031,17 +1051,6 @@ multihash_batch multihash_read_many(const uint8_t *bytes, size_t bytes_length, m
     }
     return (multihash_batch){.status = MULTIHASH_OK, .size = 0, .count = count, .taken = taken};
 }
-
-/* ---- multihash_c/src/status.rt
- * The statuses that a C caller gets. */
-_Static_assert(MULTIHASH_INSUFFICIENT == 1, "MULTIHASH_INSUFFICIENT");
-_Static_assert(MULTIHASH_OVERFLOW == 2, "MULTIHASH_OVERFLOW");
-_Static_assert(MULTIHASH_NOT_MINIMAL == 3, "MULTIHASH_NOT_MINIMAL");
-_Static_assert(MULTIHASH_INVALID_SIZE == 4, "MULTIHASH_INVALID_SIZE");
-_Static_assert(MULTIHASH_OK == 0, "MULTIHASH_OK");
-_Static_assert(MULTIHASH_UNEXPECTED_EOF == 6, "MULTIHASH_UNEXPECTED_EOF");
-_Static_assert(MULTIHASH_INVALID_CODE == 5, "MULTIHASH_INVALID_CODE");
-_Static_assert(MULTIHASH_NO_ROOM == 7, "MULTIHASH_NO_ROOM");
 
 /* ---- multihash_c/src/version.rt
  * The version of the library for C. */

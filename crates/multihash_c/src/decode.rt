@@ -67,8 +67,9 @@ fn decode_longer(bytes: &[u8]) -> Decoded
     decode_whole(bytes, bytes.len())
 }
 
-/// Decodes an input of `whole_length` bytes as `multihash_from_bytes` does. `prefix` is the whole input, or
-/// at least its first 18 bytes, the most that two varints have.
+/// Decodes an input of `whole_length` bytes as `multihash_from_bytes` does, by its first bytes. `prefix` has
+/// enough of them if it is the whole input, has 18, the most that two varints have, or does not end within
+/// the two varints.
 #[unsafe(no_mangle)]
 pub extern "C" fn multihash_from_prefix(prefix: &[u8], whole_length: usize) -> Decoded
     ensures { ReportsPrefix prefix.now whole_length result }
@@ -182,7 +183,8 @@ pub extern "C" fn multihash_scale_decode(bytes: &[u8]) -> Decoded
     accept(code, size, taken)
 }
 
-// Whether both varints have one byte, as mostly.
+// Whether both varints have one byte, as mostly. That case is compiled in line, where the compiler leaves out
+// tests of the same bytes. The other is compiled once, out of line, from the same function.
 #[inline(always)]
 fn is_short(bytes: &[u8]) -> bool {
     bytes.len() >= 2 && bytes[0] < 128 && bytes[1] < 128
@@ -218,8 +220,8 @@ fn decode_whole(front: &[u8], whole_length: usize) -> Decoded
     rejected_size((left - size) as u64, whole_length)
 }
 
-// Decodes the multihash whose encoding is at the front of `bytes`, as `read` does for the capacity
-// `limit`.
+// Decodes the multihash whose encoding is at the front of `bytes`, with a digest of at most `limit` bytes,
+// and at most 255.
 #[inline(always)]
 pub(crate) fn read_within(bytes: &[u8], limit: usize) -> Decoded
     ensures { ReadsWithin limit bytes.now result }
@@ -297,7 +299,7 @@ fn accept(code: u64, digest_length: usize, taken: usize) -> Decoded
     }
 }
 
-// The result for a digest that is too long.
+// The result for an invalid size: of a digest that is too long, or the number of trailing bytes.
 fn rejected_size(size: u64, taken: usize) -> Decoded
     ensures reports { (input : List ℕ) → Reports input result (invalid_size size) }
     ensures taken { result.taken ≡ taken }
@@ -313,7 +315,7 @@ fn rejected_code(code: u64, taken: usize) -> Decoded
     rejected(status::INVALID_CODE, 0, code, taken)
 }
 
-// The result for a truncated digest.
+// The result for an input that ends within the digest, or before it in the SCALE form.
 fn rejected_end(taken: usize) -> Decoded
     ensures reports { (input : List ℕ) → Reports input result unexpected_eof }
     ensures taken { result.taken ≡ taken }

@@ -115,7 +115,7 @@ fn encode_any(code: u64, digest: &[u8], out: &mut [u8]) -> Encoded
     let Ok(code_length) = varint::len(code) else {
         return rejected_code();
     };
-    // This is at most 273: nine bytes of each varint, and 255.
+    // This is at most 266: nine bytes of the code's varint, two of the length's, and 255.
     let encoding_length = code_length + sized_len(digest.len());
     if encoding_length <= out.len() {
         put_encoding(code, digest, out);
@@ -123,7 +123,8 @@ fn encode_any(code: u64, digest: &[u8], out: &mut [u8]) -> Encoded
     count(encoding_length, out.len())
 }
 
-// Does what `scale_encode` does, for a digest of another length than the usual one.
+// Does what `scale_encode` does, for a digest of another length than the usual one: out of line. In line that
+// length is a constant.
 #[inline(never)]
 fn scale_encode_any(code: u64, digest: &[u8], out: &mut [u8]) -> Encoded
     ensures { WritesForm IsScale (record { code = code; digest = digest.now }) result out.old out.new }
@@ -158,7 +159,7 @@ fn count_parts(code_length: usize, digest_length: usize) -> Encoded
     ensures { (code : ℕ) (bytes : List ℕ) → IsVarint code bytes → code_length ≡ length bytes →
         ReportsLength code digest_length result }
 {
-    // This is at most 273: nine bytes of each varint, and 255.
+    // This is at most 266: nine bytes of the code's varint, two of the length's, and 255.
     let length = code_length + sized_len(digest_length);
     count(length, length)
 }
@@ -173,7 +174,7 @@ fn sized_len(digest_length: usize) -> usize
     let Ok(size_length) = varint::len(digest_length as u64) else {
         unreachable!()
     };
-    // This is at most 264.
+    // This is at most 257: two bytes of the varint, and 255.
     size_length + digest_length
 }
 
@@ -199,14 +200,14 @@ fn rejected_code() -> Encoded
     }
 }
 
-// The result for that many bytes and a buffer of that size: they were written if they fit.
-fn count(length: usize, buffer: usize) -> Encoded
+// The result for an encoding of that length and a buffer that has room for that many bytes.
+fn count(length: usize, room: usize) -> Encoded
     ensures length { result.length ≡ length }
     ensures no_size { result.size ≡ 0 }
-    ensures fits { length ≤ buffer → result.status ≡ status_ok }
-    ensures no_room { buffer < length → result.status ≡ status_no_room }
+    ensures fits { length ≤ room → result.status ≡ status_ok }
+    ensures no_room { room < length → result.status ≡ status_no_room }
 {
-    let status = if length <= buffer {
+    let status = if length <= room {
         status::OK
     } else {
         status::NO_ROOM

@@ -1,6 +1,6 @@
 //! The library for C: what `include/multihash.h` declares.
 //!
-//! Each export returns what the library returns, and its contract says so in the library's definitions.
+//! Each export meets a contract over the definitions that the library has.
 #![tactic(auto)]
 
 mod compare;

@@ -61,8 +61,8 @@ pub extern "C" fn multihash_read_many(bytes: &[u8], out: &mut [Item]) -> Batch
         taken += found.taken;
         // It is at most the number of items.
         count += 1;
-        // After a usual digest the place of the next multihash does not depend on what was read: so a
-        // processor does not wait for it.
+        // Here each multihash has 34 bytes. So the place of the next one does not depend on a length that was
+        // read, and a processor does not wait for it.
         while count < out.len() && is_usual(&bytes[taken..]) {
             let usual = read_within(&bytes[taken..], DIGEST_MAX);
             if usual.status != status::OK {
