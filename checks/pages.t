@@ -1,8 +1,6 @@
 #!/usr/bin/env python3
 """Compares the pages with the sources: docs/CONTRACTS.md, links, paths, names, codes, versions and limits, what blocks
 and tables show, and packages with one another. What a page says in its own words is not compared.
-
-A link that leads nowhere is planted in each page, and for each comparison a difference of pages.edits.
 """
 import sys
 from collections.abc import Iterator

@@ -32,7 +32,7 @@ def row_errors(readme: str) -> Iterator[str]:
 
 
 def page_results(program: start.Program, project: start.Project) -> Iterator[tap.Result]:
-    """Runs the programs of a language's page; plants one that accepts any content, another output, and no program."""
+    """Runs the programs of a language's page."""
     name, page = f"{program.page}, programs", (TOP / program.page).read_text("utf-8")
     if gone := tap.missing(LANGUAGES[program.language].more.split()):
         yield tap.left_out(name, gone)
@@ -41,7 +41,7 @@ def page_results(program: start.Program, project: start.Project) -> Iterator[tap
 
 
 def results(work: Path) -> Iterator[tap.Result]:
-    """Installs each package and runs its programs. Plants a command and programs that fail or print another text."""
+    """Runs README.md's commands, installs each package, and runs its programs."""
     readme = (TOP / "README.md").read_text("utf-8")
     yield "the rows of the programs", "\n".join(row_errors(readme))
     start.copy_repository(copy := work / "copy")
