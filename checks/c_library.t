@@ -31,10 +31,10 @@ compiles() {
   done
 }
 
-# It exports what the header declares, no more and no less, and needs nothing but memcpy.
+# It exports what the header declares, no more and no less, and needs nothing but memcpy and memcmp.
 has_names() {
   nm --extern-only --defined-only -j "$1" | sort | diff <(exported) -
-  keeps_no_state "$1" memcpy
+  keeps_no_state "$1" memcmp memcpy
 }
 
 # The tests as C++, over the object of the C compiler.
