@@ -115,9 +115,10 @@ def section_of(path: str, text: str) -> str:
     # an empty line precedes and follows what has several lines
     block = "\n".join("\n".join(lines if len(lines) < 2 else ["", *lines, ""]) for lines in blocks if lines)
     block = re.sub(r"\n{3,}", "\n\n", block).strip("\n")
-    # what a file says of itself, a paragraph or an item of a list in a line
+    # what a file says of itself, a paragraph or an item of a list in a line, without the links that only rustdoc follows
     lines = takewhile(lambda line: line.startswith("//!"), text.splitlines())
     description = re.sub(r"(?<!\n)\n(?![\n-])", " ", "\n".join(line[4:] for line in lines))
+    description = re.sub(r"\[(`[^`]*`)\]", r"\1", description)
     return f"\n### [{path}](../{path})\n\n{description}\n\n```text\n{block}\n```\n" if block else ""
 
 
@@ -159,7 +160,7 @@ def written_page(texts: dict[str, str]) -> str:
             page += f"\n## {crate}\n" if crate != last else ""
             page += section_of(path, text)
             last = crate
-    page += "\n## Words\n\nThose of clauses and of other definitions, by the files that define them.\n"
+    page += "\n## Words\n\nThe words of clauses and of definitions, by the files that define them.\n"
     for path, text in texts.items():
         rows = [*word_rows(text)] if not path.endswith("/Private.antt") else []
         if rows:
