@@ -22,15 +22,13 @@ OF_BODIES = re.compile(r"#\[(cold|inline|tactic)\b")
 INTRODUCTION = """\
 # Contracts
 
-Written by `tools/contracts.py`, and compared with the sources in CI: the main theorems, then
-the public items of the library, of `frame` and `form`, of the library's part for C and of `mh_show`, as they stand in their files,
-without bodies.
-A difference here is a changed promise.
-[What contracts see](../crates/multihash/CALLING.md#what-contracts-see) says how to read a clause; its
-[words](#words) are at the end.
+This page shows the public items of the crates [theorems](#theorems), [multihash](#multihash), [frame](#frame),
+[form](#form), [multihash_c](#multihash_c) and [mh_show](#mh_show) without their bodies, and the [words](#words) of
+clauses. `tools/generate contracts` writes it, and CI compares it with the sources: a difference here is a changed
+promise. [What contracts see](../crates/multihash/CALLING.md#what-contracts-see) says how to read a clause.
 
-The functions of `laws.rt` and `pins.rt` do nothing: their clauses are laws of the definitions, and
-fix what implementations expose.
+The functions of `laws.rt` and `pins.rt` have empty bodies. Their clauses state laws of the definitions, and what
+callers can know about the library's own readers and writers.
 """
 
 
