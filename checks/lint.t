@@ -1,6 +1,5 @@
 #!/usr/bin/env bash
-# The scripts of the repository: shellcheck, black, pyflakes, mypy, tsc, and rules of this repository, each of which
-# rejects a planted script.
+# The scripts of the repository, by shellcheck, black, pyflakes, mypy and tsc.
 # shellcheck source=checks/lib/tap.sh
 . "$(dirname "$0")/lib/tap.sh"
 

@@ -22,15 +22,13 @@ OF_BODIES = re.compile(r"#\[(cold|inline|tactic)\b")
 INTRODUCTION = """\
 # Contracts
 
-Written by `tools/contracts.py`, and compared with the sources in CI: the main theorems, then
-the public items of the library, of `frame` and `form`, of the library's part for C and of `mh_show`, as they stand in their files,
-without bodies.
-A difference here is a changed promise.
-[What contracts see](../crates/multihash/CALLING.md#what-contracts-see) says how to read a clause; its
-[words](#words) are at the end.
+This page shows the public items of the crates [theorems](#theorems), [multihash](#multihash), [frame](#frame),
+[form](#form), [multihash_c](#multihash_c) and [mh_show](#mh_show) without their bodies, and the [words](#words) of
+clauses. `tools/generate contracts` writes it, and CI compares it with the sources: a difference here is a changed
+promise. [What contracts see](../crates/multihash/CALLING.md#what-contracts-see) says how to read a clause.
 
-The functions of `laws.rt` and `pins.rt` do nothing: their clauses are laws of the definitions, and
-fix what implementations expose.
+The functions of `laws.rt` and `pins.rt` have empty bodies. Their clauses state laws of the definitions, and what
+callers can know about the library's own readers and writers.
 """
 
 
@@ -115,9 +113,10 @@ def section_of(path: str, text: str) -> str:
     # an empty line precedes and follows what has several lines
     block = "\n".join("\n".join(lines if len(lines) < 2 else ["", *lines, ""]) for lines in blocks if lines)
     block = re.sub(r"\n{3,}", "\n\n", block).strip("\n")
-    # what a file says of itself, a paragraph or an item of a list in a line
+    # what a file says of itself, a paragraph or an item of a list in a line, without the links that only rustdoc follows
     lines = takewhile(lambda line: line.startswith("//!"), text.splitlines())
     description = re.sub(r"(?<!\n)\n(?![\n-])", " ", "\n".join(line[4:] for line in lines))
+    description = re.sub(r"\[(`[^`]*`)\]", r"\1", description)
     return f"\n### [{path}](../{path})\n\n{description}\n\n```text\n{block}\n```\n" if block else ""
 
 
@@ -159,7 +158,7 @@ def written_page(texts: dict[str, str]) -> str:
             page += f"\n## {crate}\n" if crate != last else ""
             page += section_of(path, text)
             last = crate
-    page += "\n## Words\n\nThose of clauses and of other definitions, by the files that define them.\n"
+    page += "\n## Words\n\nThe words of clauses and of definitions, by the files that define them.\n"
     for path, text in texts.items():
         rows = [*word_rows(text)] if not path.endswith("/Private.antt") else []
         if rows:

@@ -22,7 +22,8 @@ export type Status =
   | 'insufficient' // the input ends before or inside a varint
   | 'overflow' // a varint has more than nine bytes; numbers of 2^63 and above do
   | 'not_minimal' // a varint of more than one byte ends in a zero byte
-  | 'invalid_size' // the digest is too long, and `size` is its length; or `size` bytes follow the multihash
+  // the digest is too long, and `size` is its length; or bytes follow the multihash, and `size` is their number
+  | 'invalid_size'
   | 'invalid_code' // `code` is 2^63 or more
   | 'unexpected_eof' // the input ends inside the digest or, in SCALE, before it
   | 'not_hexadecimal'; // a text is not an even number of hexadecimal digits

@@ -18,7 +18,8 @@ FORMAT, DIFFERENCES, CONTRACTS = "docs/FORMAT.md", "docs/DIFFERENCES.md", "docs/
 C, CALLING, HEADER = "bindings/c/README.md", "crates/multihash/CALLING.md", "bindings/c/include/multihash.h"
 MAN, RUST = "crates/mh_show/mh_show.1", "bindings/rust"
 SHIM, VERIFIED = f"{RUST}/multihash/README.md", f"{RUST}/verified-multihash/README.md"
-PACKED = (C, "bindings/python/README.md", SHIM, VERIFIED)  # their links lead to no other file
+# their links lead to no other file
+PACKED = (C, "bindings/c/src/README.md", "bindings/js/README.md", "bindings/python/README.md", SHIM, VERIFIED)
 # what a source declares is named on a page
 DECLARED = (
     (HEADER, r"^(?:static inline )?(?:const char \*|\w+ )(multihash_\w+)\(", C),
@@ -48,7 +49,7 @@ def read(path: str) -> str:
 
 @cache
 def sources() -> str:
-    """Returns what all files have but pages and planted differences, and the paths of all."""
+    """Returns the text of all files but pages and must-fail edits, and the paths of all files."""
     return "\n".join([*(read(path) for path in paths() if not path.endswith((".md", ".edits"))), *paths()])
 
 

@@ -230,7 +230,7 @@ static inline mh_error mh_error_not_minimal(void)
     return (mh_error){.kind = {.tag = MH_KIND_NOT_MINIMAL}};
 }
 
-/* Returns whether the input ended within or before a varint. */
+/* Returns whether the input ended before or inside a varint. */
 static inline bool mh_error_is_insufficient(mh_error self)
 {
     return self.kind.tag == MH_KIND_INSUFFICIENT;

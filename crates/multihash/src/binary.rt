@@ -1,4 +1,4 @@
-//! The binary form: the varint of the code, the varint of the digest's length, and the digest.
+//! The binary encoding: the varint of the code, the varint of the digest's length, and the digest.
 ghost use Rattle.std.specs.Prelude.{◌≡◌, ◌<◌, ◌≤◌, ◌+◌, ◌-◌, ◌⊎◌, ℕ, List, length, Some, IfSome, IfOk, IfErr, OnOk, OnErr, take};
 ghost use Rattle.std.specs.Io.KnownBytes.{prepend_known};
 ghost use Rattle.multihash.specs.Varint.{varint_limit, max_continuation, IsVarint};
@@ -25,7 +25,7 @@ impl<const S: usize> Multihash<S> {
     ///
     /// # Errors
     ///
-    /// - [`Error::is_insufficient`] if the input ends within or before a varint; all of it was
+    /// - [`Error::is_insufficient`] if the input ends before or inside a varint; all of it was
     ///   consumed.
     /// - [`Error::is_overflow`] if a varint has more than nine bytes, as every number of 2^63 or more
     ///   needs, and [`Error::is_not_minimal`] if a varint of more than one byte ends in a zero byte; the
@@ -103,7 +103,7 @@ impl<const S: usize> Multihash<S> {
     ///
     /// # Errors
     ///
-    /// - [`Error::is_insufficient`] if the bytes end within or before a varint.
+    /// - [`Error::is_insufficient`] if the bytes end before or inside a varint.
     /// - [`Error::is_overflow`] if a varint has more than nine bytes, as every number of 2^63 or more
     ///   needs.
     /// - [`Error::is_not_minimal`] if a varint of more than one byte ends in a zero byte.

@@ -111,7 +111,7 @@ impl Error {
         }
     }
 
-    /// Returns whether the input ended within or before a varint.
+    /// Returns whether the input ended before or inside a varint.
     pub fn is_insufficient(&self) -> bool
         ensures { IsTrue result ↔ IsVarintError insufficient self.now }
     {
@@ -139,7 +139,7 @@ impl Error {
         matches!(self.kind, Kind::NotBytes)
     }
 
-    /// Returns whether the input is incomplete: it ended within or before a varint, or before the end of
+    /// Returns whether the input is incomplete: it ended before or inside a varint, or before the end of
     /// a digest or of a fixed-size part. It is true if [`Error::is_insufficient`] is, and if
     /// [`Error::io`] is an unexpected end of file.
     ///

@@ -25,7 +25,7 @@ impl Head {
     ///
     /// # Errors
     ///
-    /// - [`Error::is_insufficient`] if the bytes end within or before a varint.
+    /// - [`Error::is_insufficient`] if the bytes end before or inside a varint.
     /// - [`Error::is_overflow`] if a varint has more than nine bytes, as every number of 2^63 or more
     ///   needs.
     /// - [`Error::is_not_minimal`] if a varint of more than one byte ends in a zero byte.

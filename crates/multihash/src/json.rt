@@ -1,4 +1,4 @@
-//! The JSON form: the encoding's bytes as an array of whole numbers.
+//! The JSON encoding: the bytes of the binary encoding as an array of whole numbers.
 ghost use Rattle.std.specs.Prelude.{◌≡◌, ◌<◌, ℕ, List, length, Some, IfOk, IfErr, OnOk, OnErr, IsOk, IsErrAnd, MatchOption, true};
 ghost use Rattle.std.specs.List.{list_all};
 ghost use Rattle.serde_json.specs.View.{view};

@@ -61,7 +61,7 @@ pub fn split_unique()
         AreConcatenated ps a → AreConcatenated ps b → a ≡ b }
 {}
 
-/// A pair has one SCALE form, and a form one pair, whatever follows it; each input has one verdict.
+/// A pair has one SCALE encoding, and an encoding one pair, whatever follows it; each input has one verdict.
 pub fn scale_unique()
     ensures one_form { (p : Pair) → p.code < varint_limit → length p.digest ≤ 255 →
         ExactlyOne (IsScale p) }

@@ -1,17 +1,17 @@
-//! Self-describing hashes: a code and a digest in one value, in three forms.
+//! Self-describing hashes: a code and a digest in one value, with three encodings.
 //!
 //! A [`Multihash`] is the code of a hash function and a digest, that function's output. Its encoding is
 //! the varint of the code, the varint of the digest's length, and the digest
 //! (<https://github.com/multiformats/multihash>). The library does no hashing and has no table of
 //! codes.
 //!
-//! Each form is written by one call and read by another:
+//! Each encoding is written by one call and read by another:
 //!
 //! - binary: `m.to_bytes(alloc)?` and `Multihash::<64>::from_bytes(&bytes)?`
 //! - SCALE: `m.scale_encode(&mut writer)?` and `Multihash::<64>::scale_decode(&mut reader)?`
 //! - JSON: `m.to_value(alloc)?` and `Multihash::<64>::from_value(&value)?`
 //!
-//! [`Multihash::write`], [`Multihash::read`] and the module [`list`] are for streams of the binary form.
+//! [`Multihash::write`], [`Multihash::read`] and the module [`list`] are for streams of the binary encoding.
 #![tactic(auto)]
 
 mod binary;

@@ -158,8 +158,7 @@ impl<const S: usize> Multihash<S> {
         Ok(resized)
     }
 
-    /// Returns the code, an array of `S` bytes that has the digest and then zeros, and the digest's
-    /// length in bytes.
+    /// Returns the code, the digest padded with zeros to `S` bytes, and the digest's length in bytes.
     pub fn into_inner(self) -> (u64, [u8; S], u8)
         ensures code { result.0 ≡ (pair_of self.entry).code }
         ensures array { result.1 ≡ (pair_of self.entry).digest

@@ -1,4 +1,4 @@
-//! The SCALE form: the code as eight bytes, lowest first; the digest's length as one byte; the digest.
+//! The SCALE encoding: the code in eight bytes, least significant first, the digest's length in one byte, the digest.
 ghost use Rattle.std.specs.Prelude.{◌≡◌, ◌+◌, ◌<◌, ℕ, List, [], ◌∷◌, ◌++◌, length, IfSome, IfOk, IfErr, OnErr};
 ghost use Rattle.multihash.specs.Scale.{IsScale, IsScaleCode, HasScaleVerdict, ScaleMayFailWith, ConsumesAtScaleError};
 ghost use Rattle.multihash.specs.Verdict.{Verdict};
@@ -14,12 +14,12 @@ use crate::no_std_io::{self, Read, Write};
 use crate::{Error, Multihash, varint};
 
 impl<const S: usize> Multihash<S> {
-    /// Appends the SCALE form to `w`: nine bytes and the digest. Returns the number of bytes.
+    /// Appends the SCALE encoding to `w`: nine bytes and the digest. Returns the number of bytes.
     ///
     /// # Errors
     ///
     /// [`Error::io`] with the writer's error: it is full, it failed, or, if it allocates, it is out of
-    /// memory. A strict prefix of the form has been appended then.
+    /// memory. A strict prefix of the encoding has been appended then.
     pub fn scale_encode<W: Write>(&self, w: &mut W) -> Result<usize, Error>
         ensures ok { IfOk result (λ n. (bytes : List ℕ) × IsScale (pair_of self.now) bytes
             × (n ≡ length bytes) × W.appended w.old bytes w.new) }
@@ -35,7 +35,7 @@ impl<const S: usize> Multihash<S> {
         Ok(9 + digest.len())
     }
 
-    // The bytes of the form before the digest, as one array: so one test of a slice's length suffices.
+    // The bytes of the encoding before the digest, as one array: so one test of a slice's length suffices.
     #[inline(always)]
     fn scale_head(&self) -> [u8; 9]
         ensures { (code : List ℕ) × IsScaleCode (pair_of self.now).code code
@@ -46,7 +46,7 @@ impl<const S: usize> Multihash<S> {
         head
     }
 
-    /// Reads the multihash whose SCALE form comes next. It consumes exactly that form and leaves what
+    /// Reads the multihash whose SCALE encoding comes next. It consumes exactly that and leaves what
     /// follows in `r` unread.
     ///
     /// # Errors

@@ -39,9 +39,10 @@ class Status(enum.IntEnum):
 
     OK = 0
     INSUFFICIENT = 1  # the input ends before or inside a varint
-    OVERFLOW = 2  # a varint has more than nine bytes, as numbers of 2^63 and above have
+    OVERFLOW = 2  # a varint has more than nine bytes; numbers of 2^63 and above do
     NOT_MINIMAL = 3  # a varint of more than one byte ends in a zero byte
-    INVALID_SIZE = 4  # the digest is too long, and `size` is its length; or `size` bytes follow the encoding
+    # the digest is too long, and `size` is its length; or bytes follow the multihash, and `size` is their number
+    INVALID_SIZE = 4
     INVALID_CODE = 5  # `code` is 2^63 or more
     UNEXPECTED_EOF = 6  # the input ends inside the digest or, in SCALE, before it
     NO_ROOM = 7  # not raised: a buffer of C is too small

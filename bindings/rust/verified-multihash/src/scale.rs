@@ -1,4 +1,4 @@
-//! The SCALE form: the code as eight bytes, lowest first; the digest's length as one byte; the digest.
+//! The SCALE encoding: the code in eight bytes, least significant first, the digest's length in one byte, the digest.
 use crate::rattle::{std, *};
 
 use crate::binary::write_digest;
@@ -6,12 +6,12 @@ use crate::no_std_io::{self, Read, Write};
 use crate::{Error, Multihash, varint};
 
 impl<const S: usize> Multihash<S> {
-    /// Appends the SCALE form to `w`: nine bytes and the digest. Returns the number of bytes.
+    /// Appends the SCALE encoding to `w`: nine bytes and the digest. Returns the number of bytes.
     ///
     /// # Errors
     ///
     /// [`Error::io`] with the writer's error: it is full, it failed, or, if it allocates, it is out of
-    /// memory. A strict prefix of the form has been appended then.
+    /// memory. A strict prefix of the encoding has been appended then.
     pub fn scale_encode<W: Write>(&self, w: &mut W) -> Result<usize, Error> {
         let digest = self.digest();
         w.write_all(&self.scale_head())?;
@@ -19,7 +19,7 @@ impl<const S: usize> Multihash<S> {
         Ok(9 + digest.len())
     }
 
-    // The bytes of the form before the digest, as one array: so one test of a slice's length suffices.
+    // The bytes of the encoding before the digest, as one array: so one test of a slice's length suffices.
     #[inline(always)]
     fn scale_head(&self) -> [u8; 9] {
         let mut head = [self.size(); 9];
@@ -27,7 +27,7 @@ impl<const S: usize> Multihash<S> {
         head
     }
 
-    /// Reads the multihash whose SCALE form comes next. It consumes exactly that form and leaves what
+    /// Reads the multihash whose SCALE encoding comes next. It consumes exactly that and leaves what
     /// follows in `r` unread.
     ///
     /// # Errors

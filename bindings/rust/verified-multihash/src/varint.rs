@@ -79,7 +79,7 @@ pub fn write<W: Write>(n: u64, w: &mut W) -> Result<usize, Error> {
 ///
 /// # Errors
 ///
-/// - [`Error::is_insufficient`] if the bytes end within or before the varint.
+/// - [`Error::is_insufficient`] if the bytes end before or inside the varint.
 /// - [`Error::is_overflow`] if the varint has more than nine bytes, as every number of 2^63 or more needs.
 /// - [`Error::is_not_minimal`] if a varint of more than one byte ends in a zero byte.
 pub fn read_front(bytes: &[u8]) -> Result<(u64, &[u8]), Error> {
@@ -152,7 +152,7 @@ fn three_bytes(n: u64) -> [u8; 3] {
 ///
 /// # Errors
 ///
-/// - [`Error::is_insufficient`] if the input ends within or before the varint; all of it was consumed.
+/// - [`Error::is_insufficient`] if the input ends before or inside the varint; all of it was consumed.
 /// - [`Error::is_overflow`] if the varint has more than nine bytes, as every number of 2^63 or more needs,
 ///   and [`Error::is_not_minimal`] if a varint of more than one byte ends in a zero byte; the last byte
 ///   consumed is the one that determines the error.
