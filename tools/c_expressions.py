@@ -38,12 +38,6 @@ class Signature(NamedTuple):
     short: set[str]
 
 
-def is_constant(node: Node) -> bool:
-    is_name = node.kind == "path" and node.name.rpartition("::")[2].isupper()
-    parts = [kid for kid in node.kids if kid.kind != "type"] if node.kind in ("binary", "cast") else []
-    return node.kind == "number" or is_name or (parts != [] and all(map(is_constant, parts)))
-
-
 class Program(Items):
     """The items, and what C has of them: it has that of a constant or a function from the first use on."""
 
@@ -163,7 +157,8 @@ class Expressions:
             right = self.expression(y, left.type)
         if not {left.type.name, right.type.name} <= ({"bool"} if mark in ("&&", "||") else {*NUMBERS}):
             self.it.refuse(node, f"no known operation of {left.type.name}")
-        if left.type == USIZE and mark in ("+", "*", "<<") and not is_constant(node):
+        is_constant = (left.code + right.code).isupper()
+        if left.type == USIZE and mark in ("+", "*", "<<") and not is_constant:
             self.need_bound(node)
         code = f"{self.inner(left, mark)} {mark} {self.inner(right, '*' if mark == '-' else mark)}"
         if left.type == U8 and mark not in COMPARE:

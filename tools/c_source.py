@@ -195,11 +195,9 @@ class Function(Expressions):
         if value.parts and [arm.kids[0].name for arm in arms] in (["Ok", "Err"], ["Some", "None"]):
             made = []
             for arm, part in zip(arms, value.parts):
-                known = dict(self.known)
-                is_reached = arm.kids[1].name != "unreachable"
-                made.append(
-                    self.bound(arm.kids[0], part) + (self.noted(arm, arm.kids[1], wanted) if is_reached else [])
-                )
+                known, bound = dict(self.known), self.bound(arm.kids[0], part)
+                is_unreachable = arm.kids[1].name == "unreachable"
+                made.append(bound + ([] if is_unreachable else self.noted(arm, arm.kids[1], wanted)))
                 self.known = known
             for arm, other, is_met in (arms[0], made[1], negated(value.code)), (arms[1], made[0], value.code):
                 if arm.kids[1].name == "unreachable":
