@@ -1,13 +1,12 @@
 //! Callers, in `examples`, `form` and `storage`: a reader of `std`, and known values.
-use examples::formats;
-use examples::loops;
 use examples::std_reader::StdReader;
+use examples::{formats, loops};
 use fakes::expect::ErrorKind;
 use fakes::streams::{Cuts, FailAt};
 use fakes::{check, check_eq, expect_bytes, expect_ok, expect_rejected};
 use form::{FormError, OneOf};
-use multihash::no_std_io::Read;
 use multihash::Multihash;
+use multihash::no_std_io::Read;
 use std::process::Abort;
 use storage::content::{UnknownCode, is_damaged, verify};
 use storage::log::valid_prefix;
