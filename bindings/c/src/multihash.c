@@ -463,13 +463,13 @@ MH_COLD mh_head_or_error_at mh_head_read_counted(const uint8_t *bytes, size_t by
 /* ---- multihash_c/src/lib.rt
  * The library for C: what `include/multihash.h` declares. */
 
-/* The most bytes of a digest: `MULTIHASH_DIGEST_MAX` in the header. */
+/* The maximum length of a digest: `MULTIHASH_DIGEST_MAX` in the header. */
 #define MH_DIGEST_MAX ((size_t)255)
 
-/* The number of bytes of a code in the SCALE form. */
+/* The number of bytes of a code in the SCALE encoding. */
 #define MH_CODE_LEN ((size_t)8)
 
-/* The bytes of a SCALE form that come before its digest: those of the code, and one of the size. */
+/* The number of bytes before the digest in the SCALE encoding: those of the code, and one of the size. */
 #define MH_SCALE_HEAD ((size_t)9)
 
 /* ---- multihash_c/src/compare.rt
@@ -737,7 +737,7 @@ static inline multihash_decoded mh_decode_rejected_code(uint64_t code, size_t ta
     return mh_rejected(MULTIHASH_INVALID_CODE, 0, code, taken);
 }
 
-/* Decodes the multihash whose SCALE form is at the front of `bytes`. */
+/* Decodes the SCALE encoding of a multihash at the start of `bytes`. */
 multihash_decoded multihash_scale_decode(const uint8_t *bytes, size_t bytes_length)
 {
     if (bytes_length < MH_CODE_LEN) return mh_rejected_end(0);
@@ -907,7 +907,7 @@ multihash_encoded multihash_encode(uint64_t code, const uint8_t *digest, size_t 
     return mh_encode_any(code, digest, digest_length, out, out_length);
 }
 
-/* Writes the SCALE form of a code and a digest to the front of a buffer that is large enough.
+/* Writes the SCALE encoding of a code and a digest to the front of a buffer that is large enough.
  * Proved: code < 2^63; length digest <= 255; 9 + length digest <= length buffer. */
 MH_INLINE void mh_put_scale_form(uint64_t code, const uint8_t *digest, size_t digest_length, uint8_t *buffer)
 {
@@ -936,7 +936,7 @@ MH_NOT_INLINE multihash_encoded mh_scale_encode_any(uint64_t code, const uint8_t
     return mh_scale_encode(code, digest, digest_length, out, out_length);
 }
 
-/* Writes the SCALE form of a code and a digest to the front of `out`. */
+/* Writes the SCALE encoding of a code and a digest to the start of `out`. */
 multihash_encoded multihash_scale_encode(uint64_t code, const uint8_t *digest, size_t digest_length,
     uint8_t *out, size_t out_length)
 {

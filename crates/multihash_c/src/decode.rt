@@ -157,7 +157,7 @@ fn head_of(bytes: &[u8]) -> Front
     }
 }
 
-/// Decodes the multihash whose SCALE form is at the front of `bytes`.
+/// Decodes the SCALE encoding of a multihash at the start of `bytes`.
 #[unsafe(no_mangle)]
 pub extern "C" fn multihash_scale_decode(bytes: &[u8]) -> Decoded
     ensures verdict { (v : Verdict) × HasScaleVerdict 255 bytes.now v × Reports bytes.now result v

@@ -41,7 +41,7 @@ pub extern "C" fn multihash_encode(code: u64, digest: &[u8], out: &mut [u8]) -> 
     encode_any(code, digest, out)
 }
 
-/// Writes the SCALE form of a code and a digest to the front of `out`.
+/// Writes the SCALE encoding of a code and a digest to the start of `out`.
 #[unsafe(no_mangle)]
 pub extern "C" fn multihash_scale_encode(code: u64, digest: &[u8], out: &mut [u8]) -> Encoded
     ensures { WritesForm IsScale (record { code = code; digest = digest.now }) result out.old out.new }
@@ -313,7 +313,7 @@ fn put_digits(n: u64, buffer: &mut [u8]) -> usize
     at + 1
 }
 
-// Writes the SCALE form of a code and a digest to the front of a buffer that is large enough.
+// Writes the SCALE encoding of a code and a digest to the front of a buffer that is large enough.
 #[inline(always)]
 fn put_scale_form(code: u64, digest: &[u8], buffer: &mut [u8])
     requires in_range { code < varint_limit }

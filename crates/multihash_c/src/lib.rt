@@ -11,11 +11,11 @@ mod pins;
 mod status;
 mod version;
 
-// The most bytes of a digest: `MULTIHASH_DIGEST_MAX` in the header.
+// The maximum length of a digest: `MULTIHASH_DIGEST_MAX` in the header.
 const DIGEST_MAX: usize = 255;
 
-// The number of bytes of a code in the SCALE form.
+// The number of bytes of a code in the SCALE encoding.
 const CODE_LEN: usize = 8;
 
-// The bytes of a SCALE form that come before its digest: those of the code, and one of the size.
+// The number of bytes before the digest in the SCALE encoding: those of the code, and one of the size.
 const SCALE_HEAD: usize = CODE_LEN + 1;

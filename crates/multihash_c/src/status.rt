@@ -3,7 +3,7 @@
 /// Success.
 pub const OK: u32 = 0;
 
-/// The input ends within or before a varint.
+/// The input ends before or inside a varint.
 pub const INSUFFICIENT: u32 = 1;
 
 /// A varint has more than nine bytes, as every number of 2^63 or more needs.
@@ -18,7 +18,7 @@ pub const INVALID_SIZE: u32 = 4;
 /// A code is 2^63 or more.
 pub const INVALID_CODE: u32 = 5;
 
-/// The input ends within the digest, or within a fixed-size part of the SCALE form.
+/// The input ends inside the digest or, in SCALE, before it.
 pub const UNEXPECTED_EOF: u32 = 6;
 
 /// The buffer is too small.
