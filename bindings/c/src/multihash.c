@@ -547,8 +547,8 @@ MH_INLINE int32_t mh_compare_bytes(const uint8_t *a, size_t a_length, const uint
     return mh_sign(mh_slice_cmp(a, a_length, b, b_length));
 }
 
-/* Compares two codes and digests by the code, then by the digest's length, then by the first byte
- * that differs. */
+/* Compares two codes and digests by code, then by digest length, then by the first digest byte that
+ * differs. */
 int32_t multihash_compare(uint64_t left_code, const uint8_t *left_digest, size_t left_digest_length,
     uint64_t right_code, const uint8_t *right_digest, size_t right_digest_length)
 {

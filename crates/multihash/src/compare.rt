@@ -101,7 +101,7 @@ impl<const S: usize> Eq for Multihash<S> {
     ghost laws = { Prim.search (comparing, rules) depth 9 };
 }
 
-/// By the code, then by the digest's length, then by the first byte that differs.
+/// By code, then by digest length, then by the first digest byte that differs.
 impl<const S: usize> Ord for Multihash<S> {
     ghost cmp = { on pair_of compare_pairs };
 

@@ -202,7 +202,7 @@ impl<const A: usize, const B: usize> PartialEq<Multihash<B>> for Multihash<A> {
     }
 }
 
-/// By the code, then by the digest's length, then by the first byte that differs.
+/// By code, then by digest length, then by the first digest byte that differs.
 impl<const S: usize> Ord for Multihash<S> {
     fn cmp(&self, other: &Self) -> Ordering {
         self.0.cmp(&other.0)

@@ -73,7 +73,7 @@ impl<const S: usize> PartialEq for Multihash<S> {
 impl<const S: usize> Eq for Multihash<S> {
 }
 
-/// By the code, then by the digest's length, then by the first byte that differs.
+/// By code, then by digest length, then by the first digest byte that differs.
 impl<const S: usize> Ord for Multihash<S> {
 
     fn cmp(&self, other: &Self) -> Ordering {
