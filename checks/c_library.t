@@ -1,6 +1,6 @@
 #!/usr/bin/env bash
 # The library for C on this machine: its header and its source by each compiler without a warning, its tests, plain and
-# under sanitizers, and those over the archive that the kit builds of the proved functions.
+# under sanitizers, and beside the archive that the kit builds of the proved functions.
 # shellcheck source=checks/lib/tap.sh
 . "$(dirname "$0")/lib/tap.sh"
 require cc python3
@@ -43,32 +43,36 @@ as_cxx() {
 }
 
 test_compilers() {
-  local cc cxx
+  local cc cxx there
   for cc in cc clang; do
-    [ $cc = cc ] && cxx=c++ needs=c++ || cxx=clang++ needs="clang clang++"
-    try "$cc, $cxx, header" header $cc $cxx
-    ONLY='' try "$cc" compiles $cc
-    try "$cc, tests" build_and_run $cc "" $cc "${c_flags[@]}" -O2 "${tests[@]}" "$source"
-    try "$cxx, tests" as_cxx $cxx $cc
-    [ $cc = cc ] || needs="clang $clang_runtime"
-    try "$cc, address and undefined-behaviour sanitizers" \
+    [ $cc = cc ] && cxx=c++ there="" || cxx=clang++ there=clang
+    needs="$there $cxx" try "$cc, $cxx, header" header $cc $cxx
+    ONLY='' needs=$there try "$cc" compiles $cc
+    needs=$there try "$cc, tests" build_and_run $cc "" $cc "${c_flags[@]}" -O2 "${tests[@]}" "$source"
+    needs="$there $cxx" try "$cxx, tests" as_cxx $cxx $cc
+    [ $cc = cc ] || there="clang $clang_runtime"
+    needs=$there try "$cc, address and undefined-behaviour sanitizers" \
       build_and_run $cc-san "" $cc "${c_flags[@]}" "${sanitize[@]}" "${tests[@]}" "$source"
   done
-  try "clang, memory sanitizer" \
+  needs=$there try "clang, memory sanitizer" \
     build_and_run clang-memory "" clang "${c_flags[@]}" "${heap[@]}" -fsanitize=memory "${tests[@]}" "$source"
 }
 
-# The tests over the functions that are proved.
-proved_archive() {
+# The tests over the source and the archive, in one program.
+beside_archive() {
   tools/generate archive "$work/proved.a" --cpu=x86-64
   if [ -n "${KEPT-}" ]; then
     cp -a "$PROVED" "$KEPT/part"
     mv "$KEPT/part" "$KEPT/copy"
   fi
-  build_and_run archive "" cc "${c_flags[@]}" -O2 "${tests[@]}" "$work/proved.a"
+  exported | sed 's/.*/& proved_&/' > "$work/renamed"
+  objcopy --redefine-syms="$work/renamed" "$work/proved.a"
+  mapfile -t calls < <(exported | sed '/version$/d; s/^/-Wl,--wrap=/')
+  build_and_run beside "" cc "${c_flags[@]}" -O2 "${tests[@]}" "$c/tests/beside.c" "$source" "$work/proved.a" \
+    "${calls[@]}"
 }
 
-needs="rt /lib64/ld-linux-x86-64.so.2" try "the archive of the proved functions" proved_archive
+needs="rt objcopy /lib64/ld-linux-x86-64.so.2" try "beside the archive" beside_archive
 test_compilers
 needs="nm objdump" try "names" has_names "$work/cc-c11-2.o"
 # a test in C calls each function that the header declares

@@ -62,7 +62,7 @@ impl<T: Form + Drop, const MAX: usize> Form for Counted<T, MAX> {
     ghost some = { λ x. counted_some T.is_form x.items.items };
 }
 
-/// AppendsSome the encodings of the items, one after another.
+/// Appends the encodings of the items, one after another.
 pub fn write_items<T: Form, W: Write>(items: &[T], w: &mut W) -> Result<(), FormError>
     ensures ok { OnOk result (AppendsSome W.appended (AreParts T.is_form items.now) w.old w.new) }
     ensures err { OnErr result (AppendsPrefixOfSome W.appended (AreParts T.is_form items.now) w.old w.new) }

@@ -3,11 +3,11 @@
 //! Each export meets a contract over the definitions that the library has.
 #![tactic(auto)]
 
+mod callers;
 mod compare;
 mod decode;
 mod encode;
 mod many;
-mod pins;
 mod status;
 mod version;
 

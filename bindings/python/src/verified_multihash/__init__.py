@@ -57,7 +57,8 @@ class MultihashError(ValueError):
     `size` is, at INVALID_SIZE, the length of the digest or the number of trailing bytes, otherwise 0.
     `code` is, at INVALID_CODE, the code, otherwise 0.
     `taken` is the number of bytes that were consumed.
-    `is_incomplete` is true if the input is truncated: only then can more input change the result.
+    `is_incomplete` is true if the input is truncated. In `read`, `head`, `scale_decode` and the readers, only then can
+    more input change the result.
     """
 
     __slots__ = ("status", "size", "code", "taken", "is_incomplete")
