@@ -46,17 +46,6 @@ def stated_errors(texts: Texts) -> Iterator[str]:
             yield f"{C}: {name} is {number}, {said.get(name)}"
 
 
-def code_errors(texts: Texts) -> Iterator[str]:
-    """Compares constants with names of hash functions, of sources and pages, with hashes.tsv."""
-    rows = (line.split("\t") for line in read("crates/vectors/data/hashes.tsv").splitlines()[1:])
-    codes = {name.upper().replace("-", "_"): int(code, 16) for code, name, _ in rows}
-    form = re.compile(rf"\b({'|'.join(codes)})(?:: \w+)? = (0x\w+|\d+)\b")
-    for path in paths():
-        for name, code in form.findall(texts.get(path) or read(path)) if not path.endswith(".edits") else ():
-            if int(code, 0) != codes[name]:
-                yield f"{path}: {name} is {codes[name]:#x}, not {code}"
-
-
 def shown_errors(texts: Texts) -> Iterator[str]:
     """Compares the output of mh_show that pages show, and the Rattle code of CALLING.md, which is from sources."""
     shown = read("crates/mh_show/stdout")
