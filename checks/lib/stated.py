@@ -5,7 +5,7 @@ import sys
 from collections.abc import Iterator
 
 from pages import C, CALLING, FENCE, FORMAT, HEADER, MAN, RUST, TOP, Texts
-from pages import flat, pages_of, paths, placed, read, sources
+from pages import flat, pages_of, placed, read, sources
 
 sys.path.append(str(TOP / "crates" / "vectors"))
 import verdicts
