@@ -33,8 +33,8 @@ TESTS = {
     "allocating_storage": 6,
     # the same 3: memory grows with the bytes that arrive, and not with the length that is claimed
     "allocating_claimed_length": 3,
-    # 3 for 4, 8 and 16 items, 1, 1; 1, 2 and 1 for the forms
-    "allocating_examples": 9,
+    # 3 for 4, 8 and 16 items, 1, again 3 for items that are counted; 1, 2 and 1 for the forms
+    "allocating_examples": 11,
     "calls_over_slices_need_no_memory": 0,
 }
 # inputs of mh_show, the last of which cannot be read, how many allocations it makes, and what it prints then
