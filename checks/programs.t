@@ -82,14 +82,15 @@ def programs(readme: str) -> list[Program]:
 
 
 def copy_repository(to: Path) -> None:
-    """Copies the files of the repository that git knows or would, and the proofs that are kept of the program and its
-    library."""
+    """Copies the files of the repository that git knows or would, and the proofs of the program and its library that
+    c_library.t kept in the same run, or that are here."""
     command = "git ls-files -co --exclude-standard -z | tar -c --null -T - | tar -x -C " + f"'{to}'"
     to.mkdir()
     subprocess.run(["bash", "-c", command], cwd=TOP, check=True, stderr=subprocess.DEVNULL)
     for proved in ("crates/multihash/out", "crates/mh_show/out"):
-        if (TOP / proved).exists():
-            shutil.copytree(TOP / proved, to / proved, symlinks=True)
+        places = (Path(os.environ.get("KEPT", "/none"), "copy", proved), TOP / proved)
+        if place := next((place for place in places if place.exists()), None):
+            shutil.copytree(place, to / proved, symlinks=True)
 
 
 class Project(NamedTuple):
