@@ -7,7 +7,8 @@ use Rattle.multihash.specs.Streams.{AreParts}
 use Rattle.frame.specs.Frame.{IsFramed}
 use Rattle.form.specs.Form.{Then}
 
--- the varint of the version, the varint of the number of links and the links, and the content with its length before it
+-- the varint of the version, the varint of the number of links and the links, and the content with its length
+-- before it
 abbrev pub IsNode : ℕ → List (Fields 64) → List ℕ → List ℕ → Type 0
 IsNode version links content = Then (IsVarint version) (Then
     (Then (IsVarint (length links)) (AreParts (λ m. IsEncoding (pair_of m)) links)) (IsFramed content))

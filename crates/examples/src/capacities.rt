@@ -25,8 +25,8 @@ pub fn in_32<const S: usize>(multihash: &Multihash<S>) -> Result<Multihash<32>, 
     multihash.resize()
 }
 
-/// Returns the code, the first 20 bytes of the digest, with zeros after a shorter one, and their number without
-/// the zeros.
+/// Returns the code, the first 20 bytes of the digest, with zeros after a shorter one, and their number
+/// without the zeros.
 pub fn first_20<const S: usize>(multihash: &Multihash<S>) -> (u64, [u8; 20], u8)
     ensures code { result.0 ≡ (pair_of multihash.now).code }
     ensures array { result.1 ≡ take 20 (pair_of multihash.now).digest

@@ -13,8 +13,8 @@ use multihash::Multihash;
 use multihash::no_std_io::{Read, Write};
 use std::alloc::Global;
 
-/// A content identifier: of version 1 with a codec and a multihash, or of version 0, a bare multihash of SHA2-256. So
-/// the first number is the version 1 or the code 0x12, which the length 32 and the digest follow.
+/// A content identifier: of version 1 with a codec and a multihash, or of version 0, a bare multihash of
+/// SHA2-256. So the first number is the version 1 or the code 0x12, which the length 32 and the digest follow.
 pub type Identifier = OneOf<Both<Number, Multihash<64>>, Both<Tag<32>, Bytes<32>>, 1, 0x12>;
 
 /// An entry of a log: its number, the multihash of its block, and the block.
@@ -62,8 +62,8 @@ pub fn entry_numbers(alloc: Global, log: &[u8]) -> Result<Vec<u64>, FormError> {
     Ok(numbers)
 }
 
-/// Appends the encoding of a node: the version, the number of links, the links, the length of the content and the
-/// content.
+/// Appends the encoding of a node: the version, the number of links, the links, the length of the content
+/// and the content.
 ///
 /// # Errors
 ///
@@ -79,8 +79,9 @@ pub fn write_node<W: Write>(node: &Node, w: &mut W) -> Result<(), FormError>
     node.write(w)
 }
 
-/// Writes a node to a writer, and reads one from a reader whose known input is what was appended and then `more`: it is
-/// the same node, and `more` is left. The only errors are out of memory, those of the writer and those of the reader.
+/// Writes a node to a writer, and reads one from a reader whose known input is what was appended and then
+/// `more`: it is the same node, and `more` is left. The only errors are out of memory, those of the writer and
+/// those of the reader.
 ///
 /// # Errors
 ///
