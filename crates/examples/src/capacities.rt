@@ -43,10 +43,15 @@ pub fn truncate_twice<const S: usize>(m: &Multihash<S>, first: u8, second: u8) -
     m.truncate(first).truncate(second)
 }
 
-/// Returns whether the multihash is the same as in a buffer of another capacity, which is so wherever it fits.
-pub fn is_same_resized<const S: usize, const R: usize>(m: &Multihash<S>) -> Result<bool, Error>
+/// Returns the multihash in a buffer of another capacity, if it fits, and whether the two are the same, which
+/// they are.
+pub fn resized<const S: usize, const R: usize>(
+    m: &Multihash<S>,
+) -> Result<(Multihash<R>, bool), Error>
     requires { R < 2 ^ 16 }
-    ensures { IfOk result IsTrue }
+    ensures { IfOk result (λ x. (pair_of x.0 ≡ pair_of m.now) × IsTrue x.1) }
 {
-    Ok(m.resize::<R>()?.same_as(m))
+    let resized = m.resize::<R>()?;
+    let is_same = resized.same_as(m);
+    Ok((resized, is_same))
 }
