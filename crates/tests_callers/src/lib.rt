@@ -1,4 +1,4 @@
-//! Tests of callers, in `examples`, `frame`, `storage` and `theorems`, and of the memory that calls need.
+//! Tests of callers, in `examples`, `form`, `frame`, `storage` and `theorems`, and of the memory that calls need.
 #![tactic(auto)]
 
 #[cfg(test)]
