@@ -1,8 +1,7 @@
 //! Decoding of many multihashes in one call, for C.
-ghost use Rattle.std.specs.Prelude.{◌≡◌, ◌≤◌, ◌⊎◌, length, take, drop};
+ghost use Rattle.std.specs.Prelude.{◌≡◌, ◌<◌, ◌≤◌, ◌⊎◌, length, take, drop, IsTrue};
 ghost use Rattle.multihash_c.specs.Status.{status_ok};
 ghost use Rattle.multihash_c.specs.Many.{AreEncodedFrom, FailsAt};
-ghost use Rattle.multihash_c.specs.Decoded.{ReadsWithin};
 
 use crate::decode::{Decoded, read_first, read_within};
 use crate::{DIGEST_MAX, status};
@@ -43,6 +42,8 @@ pub extern "C" fn multihash_read_many(bytes: &[u8], out: &mut [Item]) -> Batch
     ensures ok { result.status ≡ status_ok →
         (result.size ≡ 0) × ((result.count ≡ length out.old) ⊎ (result.taken ≡ length bytes.now)) }
     ensures err { ¬ (result.status ≡ status_ok) → FailsAt bytes.now result }
+    ensures stops { ¬ (result.status ≡ status_ok) →
+        (result.count < length out.old) × (result.taken < length bytes.now) }
 {
     let mut count: usize = 0;
     let mut taken: usize = 0;
@@ -90,7 +91,9 @@ pub extern "C" fn multihash_read_many(bytes: &[u8], out: &mut [Item]) -> Batch
 
 // Whether a code of one byte and a digest of 32 bytes may come first.
 #[inline(always)]
-fn is_usual(bytes: &[u8]) -> bool {
+fn is_usual(bytes: &[u8]) -> bool
+    ensures { IsTrue result → 34 ≤ length bytes.now }
+{
     bytes.len() >= 34 && bytes[0] < 128 && bytes[1] == 32
 }
 
