@@ -1,5 +1,5 @@
 #!/usr/bin/env bash
-# What is released: its files, what they say of themselves, and programs built against them.
+# Makes a release, compares its files with what should be in them, and tests programs that use them.
 # shellcheck source=checks/lib/tap.sh
 . "$(dirname "$0")/lib/tap.sh"
 # shellcheck source=checks/lib/packages.sh

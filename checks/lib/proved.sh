@@ -8,6 +8,6 @@ if [ -e "${KEPT-}/copy" ]; then
   cp -a "$KEPT/copy" "$PROVED"
 else
   mkdir "$PROVED"
-  tar -c --exclude=out HANDLES crates/{multihash,multihash_c,mh_show} | tar -x -C "$PROVED"
-  grep -E '^(multihash|multihash_c staticlib|mh_show):' crates.txt > "$PROVED/crates.txt"
+  tar -c --exclude=out HANDLES crates/{multihash,multihash_c} | tar -x -C "$PROVED"
+  grep -E '^(multihash|multihash_c staticlib):' crates.txt > "$PROVED/crates.txt"
 fi
