@@ -12,9 +12,10 @@ cargo="cargo rustc=$(oldest rust-version)+ $crates"
 bare="$cargo rustc=$(oldest rust-version-without-std)+"
 targets=$(rustc --print sysroot 2> /dev/null)/lib/rustlib || targets=/none
 
-# Runs a command of Cargo for a package; what is set comes first.
+# Runs a command of Cargo for a package; what is set comes first. Without debug information it takes less time.
 in_crate() {
-  KEEP=1 RUSTFLAGS="-D warnings" RUSTDOCFLAGS="-D warnings" bindings/rust/offline.sh "$work" "$@"
+  KEEP=1 RUSTFLAGS="-D warnings" RUSTDOCFLAGS="-D warnings" CARGO_PROFILE_DEV_DEBUG=0 CARGO_INCREMENTAL=0 \
+    bindings/rust/offline.sh "$work" "$@"
 }
 
 # Runs tests of a package, of which there are some. None is left out, and Cargo does not warn.
