@@ -8,7 +8,7 @@ use Rattle.multihash.specs.Encoding.{IsEncoding}
 use Rattle.multihash_c.specs.declared.encode.Encoded.{Encoded}
 use Rattle.multihash_c.specs.Encoded.{IsTooLong, IsLargeCode, IsPut, ReportsLength, Puts, WritesForm}
 use Rattle.multihash.proofs.EncodingLemmas.{encoding_same}
-use Rattle.std.specs.Prelude.{ℤ, codes}
+use Rattle.std.specs.Prelude.{ℤ}
 use Rattle.std.specs.declared.cmp.Ordering.{Ordering}
 use Rattle.std.specs.declared.cmp.Ordering.TheVariants.{Less, Equal, Greater}
 use Rattle.multihash_c.specs.Compared.{IsSign}
@@ -87,24 +87,20 @@ one_sign Greater a b h k = h ∙ sym k
 
 -- ---- statuses
 
--- each status has one text
-texts : (text : List ℕ) → (IsStatusText 0 text → text ≡ codes "ok")
-    × (IsStatusText 1 text → text ≡ codes "not enough input bytes")
-    × (IsStatusText 2 text → text ≡ codes "input bytes exceed maximum")
-    × (IsStatusText 3 text → text ≡ codes "encoding is not minimal")
-    × (IsStatusText 4 text → text ≡ codes "Invalid multihash size")
-    × (IsStatusText 5 text → text ≡ codes "Invalid multihash code")
-    × (IsStatusText 6 text → text ≡ codes "failed to fill whole buffer")
-    × (IsStatusText 7 text → text ≡ codes "failed to write whole buffer")
-    × (IsStatusText 8 text → text ≡ codes "unknown status")
-texts text = (
-  (λ h. h.ok refl),
-  (λ h. h.error insufficient refl),
-  (λ h. h.error overflow refl),
-  (λ h. h.error not_minimal refl),
-  (λ h. h.size refl),
-  (λ h. h.code refl),
-  (λ h. h.eof refl),
-  (λ h. h.no_room refl),
-  λ h. h.unknown (omega arith),
+-- a status has one text
+abbrev HasOneText : ℕ → Type 0
+HasOneText status = (a b : List ℕ) → IsStatusText status a → IsStatusText status b → a ≡ b
+
+one_text : HasOneText 0 × HasOneText 1 × HasOneText 2 × HasOneText 3 × HasOneText 4 × HasOneText 5
+    × HasOneText 6 × HasOneText 7 × HasOneText 8
+one_text = (
+  (λ a b h k. h.ok refl ∙ sym (k.ok refl)),
+  (λ a b h k. h.error insufficient refl ∙ sym (k.error insufficient refl)),
+  (λ a b h k. h.error overflow refl ∙ sym (k.error overflow refl)),
+  (λ a b h k. h.error not_minimal refl ∙ sym (k.error not_minimal refl)),
+  (λ a b h k. h.size refl ∙ sym (k.size refl)),
+  (λ a b h k. h.code refl ∙ sym (k.code refl)),
+  (λ a b h k. h.eof refl ∙ sym (k.eof refl)),
+  (λ a b h k. h.no_room refl ∙ sym (k.no_room refl)),
+  λ a b h k. h.unknown (omega arith) ∙ sym (k.unknown (omega arith)),
 )

@@ -1,8 +1,6 @@
 -- The statuses that a C caller gets.
 use Rattle.std.specs.Prelude.{◌≡◌, ◌<◌, ℕ, List, codes}
 use Rattle.multihash.specs.Varint.{VarintError, insufficient, overflow, not_minimal}
-use Rattle.multihash.specs.Fault.{printed, UnexpectedEof, WriteZero}
-use Rattle.multihash.specs.Refusal.{varint_text}
 
 -- success
 abbrev pub status_ok : ℕ
@@ -30,12 +28,18 @@ status_unexpected_eof = 6
 abbrev pub status_no_room : ℕ
 status_no_room = 7
 
--- the text of a status, in the library's words, without the invalid size or code
+-- the text of a malformed varint
+abbrev pub text_of_error : VarintError → List ℕ
+text_of_error insufficient = codes "the input ends before or inside a varint"
+text_of_error overflow = codes "a varint has more than nine bytes"
+text_of_error not_minimal = codes "a varint is not minimal: it ends in a zero byte"
+
+-- the text of a status, in words that are true of each call that returns it
 pub record IsStatusText (status : ℕ) (text : List ℕ) : Type 0 where
   pub ok : status ≡ status_ok → text ≡ codes "ok"
-  pub error : (error : VarintError) → status ≡ status_of_error error → text ≡ varint_text error
-  pub size : status ≡ status_invalid_size → text ≡ codes "Invalid multihash size"
-  pub code : status ≡ status_invalid_code → text ≡ codes "Invalid multihash code"
-  pub eof : status ≡ status_unexpected_eof → text ≡ printed UnexpectedEof
-  pub no_room : status ≡ status_no_room → text ≡ printed WriteZero
+  pub error : (error : VarintError) → status ≡ status_of_error error → text ≡ text_of_error error
+  pub size : status ≡ status_invalid_size → text ≡ codes "the digest is too long, or bytes follow the multihash"
+  pub code : status ≡ status_invalid_code → text ≡ codes "the code is 2^63 or more"
+  pub eof : status ≡ status_unexpected_eof → text ≡ codes "the input ends before the end of the digest"
+  pub no_room : status ≡ status_no_room → text ≡ codes "the buffer is too small"
   pub unknown : status_no_room < status → text ≡ codes "unknown status"
