@@ -1,5 +1,5 @@
 /* Compares each export with the models: prefixes of encodings, every capacity, each error of an encoding, null with
- * length 0, the test vectors, whose file is the first argument, and drawn inputs. Valid C11 and C++17. Exits with
+ * length 0, messages, the test vectors, whose file is the first argument, and drawn inputs. Valid C11 and C++17. Exits with
  * status 1 at the first error.
  *
  *   test VECTORS SEED COUNT          runs all cases
@@ -146,6 +146,7 @@ static const struct {
     {"large", check_large},
     {"texts", check_texts},
     {"version", check_version},
+    {"messages", check_messages},
     {"vectors", check_vectors},
     {"draws", check_draws},
 };
