@@ -1,8 +1,8 @@
 -- What encoding known pairs returns to a C caller and writes to a buffer, that it is one outcome, the sign of an
 -- order, and the texts of statuses.
-use Rattle.std.proofs.Common.{◌≡◌, ◌-◌, ℕ, List, [], ◌∷◌, length, get_or, inl, inr, sym, ap, ◌∙◌, arith, refl}
+use Rattle.std.proofs.Common.{◌≡◌, ◌-◌, ℕ, List, [], ◌∷◌, length, get_or, inl, inr, sym, ap, ◌∙◌, arith}
 use Rattle.std.proofs.lemmas.Bool.{cases_lt}
-use Rattle.multihash.specs.Varint.{varint_limit, insufficient, overflow, not_minimal}
+use Rattle.multihash.specs.Varint.{varint_limit}
 use Rattle.multihash.specs.Pair.{Pair}
 use Rattle.multihash.specs.Encoding.{IsEncoding}
 use Rattle.multihash_c.specs.declared.encode.Encoded.{Encoded}
@@ -12,7 +12,7 @@ use Rattle.std.specs.Prelude.{ℤ}
 use Rattle.std.specs.declared.cmp.Ordering.{Ordering}
 use Rattle.std.specs.declared.cmp.Ordering.TheVariants.{Less, Equal, Greater}
 use Rattle.multihash_c.specs.Compared.{IsSign}
-use Rattle.multihash_c.specs.Status.{IsStatusText}
+use Rattle.multihash_c.specs.Status.{IsStatusText, status_no_room}
 
 abbrev outcome : ℕ → ℕ → ℕ → Encoded
 outcome status size length = record { status = status; size = size; length = length }
@@ -88,19 +88,8 @@ one_sign Greater a b h k = h ∙ sym k
 -- ---- statuses
 
 -- a status has one text
-abbrev HasOneText : ℕ → Type 0
-HasOneText status = (a b : List ℕ) → IsStatusText status a → IsStatusText status b → a ≡ b
-
-one_text : HasOneText 0 × HasOneText 1 × HasOneText 2 × HasOneText 3 × HasOneText 4 × HasOneText 5
-    × HasOneText 6 × HasOneText 7 × HasOneText 8
-one_text = (
-  (λ a b h k. h.ok refl ∙ sym (k.ok refl)),
-  (λ a b h k. h.error insufficient refl ∙ sym (k.error insufficient refl)),
-  (λ a b h k. h.error overflow refl ∙ sym (k.error overflow refl)),
-  (λ a b h k. h.error not_minimal refl ∙ sym (k.error not_minimal refl)),
-  (λ a b h k. h.size refl ∙ sym (k.size refl)),
-  (λ a b h k. h.code refl ∙ sym (k.code refl)),
-  (λ a b h k. h.eof refl ∙ sym (k.eof refl)),
-  (λ a b h k. h.no_room refl ∙ sym (k.no_room refl)),
-  λ a b h k. h.unknown (omega arith) ∙ sym (k.unknown (omega arith)),
-)
+one_text : (status : ℕ) (a b : List ℕ) → IsStatusText status a → IsStatusText status b → a ≡ b
+one_text status a b h k = elim (cases_lt status_no_room status) [
+  | inl over ↦ h.unknown over ∙ sym (k.unknown over)
+  | inr within ↦ h.known within ∙ sym (k.known within)
+]

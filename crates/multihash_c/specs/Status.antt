@@ -1,5 +1,5 @@
 -- The statuses that a C caller gets.
-use Rattle.std.specs.Prelude.{◌≡◌, ◌<◌, ℕ, List, codes}
+use Rattle.std.specs.Prelude.{◌≡◌, ◌<◌, ◌≤◌, ℕ, List, [], ◌∷◌, codes, get_or}
 use Rattle.multihash.specs.Varint.{VarintError, insufficient, overflow, not_minimal}
 
 -- success
@@ -28,18 +28,19 @@ status_unexpected_eof = 6
 abbrev pub status_no_room : ℕ
 status_no_room = 7
 
--- the text of a malformed varint
-abbrev pub text_of_error : VarintError → List ℕ
-text_of_error insufficient = codes "the input ends before or inside a varint"
-text_of_error overflow = codes "a varint has more than nine bytes"
-text_of_error not_minimal = codes "a varint is not minimal: it ends in a zero byte"
+-- the texts of the statuses, in the order of their numbers. Each is true of every call that returns its status
+abbrev pub status_texts : List (List ℕ)
+status_texts = codes "ok"
+    ∷ codes "the input ends before or inside a varint"
+    ∷ codes "a varint has more than nine bytes"
+    ∷ codes "a varint is not minimal: it ends in a zero byte"
+    ∷ codes "the digest is too long, or bytes follow the multihash"
+    ∷ codes "the code is 2^63 or more"
+    ∷ codes "the input ends before the end of the digest"
+    ∷ codes "the buffer is too small"
+    ∷ []
 
--- the text of a status, in words that are true of each call that returns it
+-- the text of a status
 pub record IsStatusText (status : ℕ) (text : List ℕ) : Type 0 where
-  pub ok : status ≡ status_ok → text ≡ codes "ok"
-  pub error : (error : VarintError) → status ≡ status_of_error error → text ≡ text_of_error error
-  pub size : status ≡ status_invalid_size → text ≡ codes "the digest is too long, or bytes follow the multihash"
-  pub code : status ≡ status_invalid_code → text ≡ codes "the code is 2^63 or more"
-  pub eof : status ≡ status_unexpected_eof → text ≡ codes "the input ends before the end of the digest"
-  pub no_room : status ≡ status_no_room → text ≡ codes "the buffer is too small"
+  pub known : status ≤ status_no_room → text ≡ get_or status_texts status []
   pub unknown : status_no_room < status → text ≡ codes "unknown status"
