@@ -1,4 +1,4 @@
-/* What the tests in C share. */
+/* What the files of the tests share: the macro CHECK, and functions. */
 #ifndef CHECK_H
 #define CHECK_H
 

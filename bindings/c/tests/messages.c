@@ -6,6 +6,9 @@
 #define BYTES(text) (const uint8_t *)(text), sizeof(text) - 1
 #define ANY MULTIHASH_DIGEST_MAX
 
+/* Both varints have nine bytes. */
+#define LONGEST_HEAD "\xff\xff\xff\xff\xff\xff\xff\xff\x7f\xff\xff\xff\xff\xff\xff\xff\xff\x7f"
+
 static char message[MULTIHASH_MESSAGE_SIZE];
 
 /* Compares the message that was written, whose length was returned. */
@@ -25,7 +28,7 @@ typedef struct rejected {
 
 static const rejected inputs[] = {
     {BYTES(""), ANY, MULTIHASH_INSUFFICIENT, "the input is empty"},
-    {BYTES("\x92"), ANY, MULTIHASH_INSUFFICIENT, "the input ends inside the code"},
+    {BYTES("\x80"), ANY, MULTIHASH_INSUFFICIENT, "the input ends inside the code"},
     {BYTES("\x12"), ANY, MULTIHASH_INSUFFICIENT, "the input ends before the digest's length"},
     {BYTES("\x92\x01"), ANY, MULTIHASH_INSUFFICIENT, "the input ends before the digest's length"},
     {BYTES("\x12\x80"), ANY, MULTIHASH_INSUFFICIENT, "the input ends inside the digest's length"},
@@ -40,10 +43,11 @@ static const rejected inputs[] = {
     {BYTES("\x12\x81\x00\x07"), ANY, MULTIHASH_NOT_MINIMAL,
      "the varint of the digest's length is not minimal: it ends in a zero byte"},
     {BYTES("\x12\xac\x02"), ANY, MULTIHASH_INVALID_SIZE, "the digest has 300 bytes, and the limit is 255"},
-    {BYTES("\x12\xff\xff\xff\xff\xff\xff\xff\xff\x7f\x07"), ANY, MULTIHASH_INVALID_SIZE,
+    {BYTES(LONGEST_HEAD), ANY, MULTIHASH_INVALID_SIZE,
      "the digest has 9223372036854775807 bytes, and the limit is 255"},
     {BYTES("\x12\x20\x01\x02\x03"), ANY, MULTIHASH_UNEXPECTED_EOF, "the input ends inside the digest (3 of 32 bytes)"},
     {BYTES("\x12\x01"), ANY, MULTIHASH_UNEXPECTED_EOF, "the input ends inside the digest (0 of 1 bytes)"},
+    {BYTES("\x12\xff\x01\x07"), ANY, MULTIHASH_UNEXPECTED_EOF, "the input ends inside the digest (1 of 255 bytes)"},
     {BYTES("\x12\x01\x07\x07"), ANY, MULTIHASH_INVALID_SIZE, "1 byte follows the multihash"},
     {BYTES("\x00\x00\x07\x07"), ANY, MULTIHASH_INVALID_SIZE, "2 bytes follow the multihash"},
     {BYTES("\x12\x03\x07\x07\x07"), 2, MULTIHASH_INVALID_SIZE, "the digest has 3 bytes, and the limit is 2"},
@@ -112,10 +116,12 @@ void check_messages(void)
     CHECK(batch.status == MULTIHASH_UNEXPECTED_EOF && batch.taken == 3);
     check_message_is(multihash_message(message, sizeof message, (const uint8_t *)"\x12\x20\7", 6 - batch.taken, ANY),
                      "the input ends inside the digest (1 of 32 bytes)");
-    uint8_t *front = copy_of(digest, MULTIHASH_HEAD_MAX);
-    CHECK(multihash_from_prefix(front, MULTIHASH_HEAD_MAX, 1000).size == 998);
-    check_message_is(multihash_message(message, sizeof message, front, 1000, ANY), "998 bytes follow the multihash");
+    uint8_t *front = copy_of((const uint8_t *)LONGEST_HEAD, MULTIHASH_HEAD_MAX);
+    CHECK(multihash_from_prefix(front, MULTIHASH_HEAD_MAX, 1000).size == INT64_MAX);
+    check_message_is(multihash_message(message, sizeof message, front, 1000, ANY),
+                     "the digest has 9223372036854775807 bytes, and the limit is 255");
     release(front);
+    check_message_is(multihash_message(message, sizeof message, digest, 1000, ANY), "998 bytes follow the multihash");
 
     /* a truncated message, as of snprintf, and what is no error */
     CHECK(multihash_message(message, short_size, ok, 0, ANY) == 18 && strcmp(message, "the") == 0);

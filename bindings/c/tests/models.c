@@ -1,5 +1,6 @@
-/* The results of each call by docs/FORMAT.md, stated apart from the library, with which it is compared: each field,
- * and each byte of a buffer. What was decoded is encoded to the same bytes, and what was encoded is decoded again. */
+/* Models: functions that compute the result of each call from docs/FORMAT.md, independently of the library. The checks
+ * compare each field, and each byte of a buffer. What was decoded is encoded to the same bytes, and what was encoded is
+ * decoded again. */
 #include "check.h"
 
 /* The value of each byte that a call must not write. */

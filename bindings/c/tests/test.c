@@ -1,6 +1,6 @@
-/* Compares each export with the models: prefixes of encodings, every capacity, each error of an encoding, null with
- * length 0, messages, the test vectors, whose file is the first argument, and drawn inputs. Valid C11 and C++17. Exits with
- * status 1 at the first error.
+/* The tests of the library: each function is compared with the models, over prefixes of encodings, every capacity, null
+ * with length 0, the test vectors and random inputs, and messages with a table. C11 and C++17. Exits with status 1 at
+ * the first error.
  *
  *   test VECTORS SEED COUNT          runs all cases
  *   test VECTORS SEED COUNT CASE     runs one of them */
