@@ -21,7 +21,7 @@ debug_build() {
     -DCMAKE_INSTALL_PREFIX="$work/debug.prefix"
   cmake --install "$work/debug"
   [ -e "$work/debug.prefix/lib/libmultihash_cd.a" ]
-  installed_test "$work/debug.prefix"
+  "$work/debug.prefix/$document/examples/test.sh" "$work/debug.prefix"
 }
 
 # The package works where it was unpacked, also with other folders of each kind and another program.

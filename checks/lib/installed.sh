@@ -75,11 +75,8 @@ is_installed() {
   has_shared_library "$1/$2/libmultihash_c.so"
 }
 
-# The installed test over what is installed in a folder.
-installed_test() { "$1/$document/examples/test.sh" "$1"; }
-
 # An installation has what it should, and its test passes.
 works() {
   is_installed "$@"
-  installed_test "$1"
+  "$1/$document/examples/test.sh" "$1"
 }
