@@ -461,7 +461,7 @@ MH_COLD mh_head_or_error_at mh_head_read_counted(const uint8_t *bytes, size_t by
 }
 
 /* ---- multihash_c/src/lib.rt
- * The library for C: what `include/multihash.h` declares. */
+ * The library for C: the functions that `multihash.h` declares. */
 
 /* The maximum length of a digest: `MULTIHASH_DIGEST_MAX` in the header. */
 #define MH_DIGEST_MAX ((size_t)255)

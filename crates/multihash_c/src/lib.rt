@@ -1,4 +1,4 @@
-//! The library for C: the functions that `multihash.h` of `bindings/c` declares.
+//! The library for C: the functions that `multihash.h` declares.
 //!
 //! Each export meets a contract over the definitions that the library has.
 #![tactic(auto)]
