@@ -3,8 +3,7 @@
 # shellcheck disable=SC2034,SC2154 # what others use, or have set
 # shellcheck source=checks/lib/c.sh
 . checks/lib/c.sh
-header=$c/include/multihash.h
-version=$(sed -n 's/^#define MULTIHASH_VERSION "\([0-9.]*\)"$/\1/p' "$header")
+version=$(sed -n 's/^#define MULTIHASH_VERSION "\([0-9.]*\)"$/\1/p' "$c/include/multihash.h")
 major=${version%%.*}
 expected=$top/crates/mh_show/stdout
 # The folders of an installation but that for libraries, which another one may have elsewhere.
