@@ -774,7 +774,7 @@ MH_INLINE void mh_put_digest(const uint8_t *digest, size_t digest_length, uint8_
 }
 
 /* The result for an encoding or a text of that length and a buffer that has room for that many bytes. */
-static inline multihash_encoded mh_encode_count(size_t length, size_t room)
+static inline multihash_encoded mh_count(size_t length, size_t room)
 {
     const uint32_t status = length <= room ? MULTIHASH_OK : MULTIHASH_NO_ROOM;
     return (multihash_encoded){.status = status, .size = 0, .length = length};
@@ -791,7 +791,7 @@ MH_INLINE multihash_encoded mh_encode_usual(uint64_t code, const uint8_t *digest
         out[1] = (uint8_t)MH_USUAL_DIGEST;
         mh_put_digest(digest, digest_length, out + 2);
     }
-    return mh_encode_count(MH_USUAL_ENCODING, out_length);
+    return mh_count(MH_USUAL_ENCODING, out_length);
 }
 
 /* The result for a digest that is too long. */
@@ -893,7 +893,7 @@ MH_NOT_INLINE multihash_encoded mh_encode_any(uint64_t code, const uint8_t *dige
     /* This is at most 266: nine bytes of the code's varint, two of the length's, and 255. */
     const size_t encoding_length = code_length + mh_sized_len(digest_length);
     if (encoding_length <= out_length) mh_put_encoding(code, digest, digest_length, out);
-    return mh_encode_count(encoding_length, out_length);
+    return mh_count(encoding_length, out_length);
 }
 
 /* Writes the encoding of a code and a digest to the front of `out`. */
@@ -925,7 +925,7 @@ MH_INLINE multihash_encoded mh_scale_encode(uint64_t code, const uint8_t *digest
     /* This is at most 264. */
     const size_t form_length = MH_SCALE_HEAD + digest_length;
     if (form_length <= out_length) mh_put_scale_form(code, digest, digest_length, out);
-    return mh_encode_count(form_length, out_length);
+    return mh_count(form_length, out_length);
 }
 
 /* Does what `mh_scale_encode` does, for a digest of another length than the usual one: out of line. In line that
@@ -952,7 +952,7 @@ MH_INLINE multihash_encoded mh_count_parts(size_t code_length, size_t digest_len
 {
     /* This is at most 266: nine bytes of the code's varint, two of the length's, and 255. */
     const size_t length = code_length + mh_sized_len(digest_length);
-    return mh_encode_count(length, length);
+    return mh_count(length, length);
 }
 
 /* Returns the length of the encoding of a code and a digest of that many bytes. */
@@ -967,6 +967,14 @@ multihash_encoded multihash_encoded_len(uint64_t code, size_t digest_length)
         return mh_count_parts(code_length, digest_length);
     }
     return mh_encode_rejected_code();
+}
+
+/* Copies a text to the front of `out`, if it fits. */
+MH_INLINE multihash_encoded mh_encode_put_text(const uint8_t *text, size_t text_length, uint8_t *out,
+    size_t out_length)
+{
+    if (text_length <= out_length) mh_copy(out, text, text_length);
+    return mh_count(text_length, out_length);
 }
 
 /* ---- multihash_c/src/many.rt
@@ -1022,38 +1030,30 @@ multihash_batch multihash_read_many(const uint8_t *bytes, size_t bytes_length, m
 /* ---- multihash_c/src/status.rt
  * The statuses that a C caller gets, and their texts. */
 
-/* Copies a text to the front of `out`, if it fits. */
-MH_INLINE multihash_encoded multihash_put_text(const uint8_t *text, size_t text_length, uint8_t *out,
-    size_t out_length)
-{
-    if (text_length <= out_length) mh_copy(out, text, text_length);
-    return mh_encode_count(text_length, out_length);
-}
-
 /* Writes the text of a status to the front of `out`: ASCII, with no zero byte at its end. */
 multihash_encoded multihash_put_status_text(uint32_t status, uint8_t *out, size_t out_length)
 {
     switch (status) {
     case MULTIHASH_OK:
-        return multihash_put_text(MH_TEXT("ok"), out, out_length);
+        return mh_encode_put_text(MH_TEXT("ok"), out, out_length);
     case MULTIHASH_INSUFFICIENT:
-        return multihash_put_text(MH_TEXT("the input ends before or inside a varint"), out, out_length);
+        return mh_encode_put_text(MH_TEXT("the input ends before or inside a varint"), out, out_length);
     case MULTIHASH_OVERFLOW:
-        return multihash_put_text(MH_TEXT("a varint has more than nine bytes"), out, out_length);
+        return mh_encode_put_text(MH_TEXT("a varint has more than nine bytes"), out, out_length);
     case MULTIHASH_NOT_MINIMAL:
-        return multihash_put_text(MH_TEXT("a varint is not minimal: it ends in a zero byte"), out,
+        return mh_encode_put_text(MH_TEXT("a varint is not minimal: it ends in a zero byte"), out,
             out_length);
     case MULTIHASH_INVALID_SIZE:
-        return multihash_put_text(MH_TEXT("the digest is too long, or bytes follow the multihash"), out,
+        return mh_encode_put_text(MH_TEXT("the digest is too long, or bytes follow the multihash"), out,
             out_length);
     case MULTIHASH_INVALID_CODE:
-        return multihash_put_text(MH_TEXT("the code is 2^63 or more"), out, out_length);
+        return mh_encode_put_text(MH_TEXT("the code is 2^63 or more"), out, out_length);
     case MULTIHASH_UNEXPECTED_EOF:
-        return multihash_put_text(MH_TEXT("the input ends before the end of the digest"), out, out_length);
+        return mh_encode_put_text(MH_TEXT("the input ends before the end of the digest"), out, out_length);
     case MULTIHASH_NO_ROOM:
-        return multihash_put_text(MH_TEXT("the buffer is too small"), out, out_length);
+        return mh_encode_put_text(MH_TEXT("the buffer is too small"), out, out_length);
     default:
-        return multihash_put_text(MH_TEXT("unknown status"), out, out_length);
+        return mh_encode_put_text(MH_TEXT("unknown status"), out, out_length);
     }
 }
 

@@ -3,7 +3,7 @@ ghost use Rattle.std.specs.Prelude.{◌≡◌, ◌+◌, ◌<◌, ◌≤◌, ℕ,
 ghost use Rattle.multihash.specs.Varint.{IsVarint, varint_limit};
 ghost use Rattle.multihash.specs.Encoding.{IsEncoding};
 ghost use Rattle.multihash.specs.Scale.{IsScale};
-ghost use Rattle.multihash_c.specs.Encoded.{IsTooLong, IsLargeCode, ReportsLength, WritesForm};
+ghost use Rattle.multihash_c.specs.Encoded.{IsTooLong, IsLargeCode, ReportsLength, WritesForm, IsPut};
 ghost use Rattle.multihash_c.specs.Status.{status_ok, status_no_room};
 
 use crate::{CODE_LEN, DIGEST_MAX, SCALE_HEAD, status};
@@ -183,7 +183,7 @@ fn rejected_code() -> Encoded
 }
 
 // The result for an encoding or a text of that length and a buffer that has room for that many bytes.
-pub(crate) fn count(length: usize, room: usize) -> Encoded
+fn count(length: usize, room: usize) -> Encoded
     ensures length { result.length ≡ length }
     ensures no_size { result.size ≡ 0 }
     ensures fits { length ≤ room → result.status ≡ status_ok }
@@ -199,6 +199,17 @@ pub(crate) fn count(length: usize, room: usize) -> Encoded
         size: 0,
         length,
     }
+}
+
+// Copies a text to the front of `out`, if it fits.
+#[inline(always)]
+pub(crate) fn put_text(text: &[u8], out: &mut [u8]) -> Encoded
+    ensures { IsPut text.now result out.old out.new }
+{
+    if text.len() <= out.len() {
+        out[..text.len()].copy_from_slice(text);
+    }
+    count(text.len(), out.len())
 }
 
 // Writes the encoding of a code and a digest to the front of a buffer that is large enough.

@@ -1,8 +1,8 @@
 //! The statuses that a C caller gets, and their texts.
-ghost use Rattle.multihash_c.specs.Encoded.{IsPut, Puts};
+ghost use Rattle.multihash_c.specs.Encoded.{Puts};
 ghost use Rattle.multihash_c.specs.Status.{IsStatusText};
 
-use crate::encode::{Encoded, count};
+use crate::encode::{Encoded, put_text};
 
 /// Success.
 pub const OK: u32 = 0;
@@ -47,15 +47,4 @@ pub extern "C" fn multihash_put_status_text(status: u32, out: &mut [u8]) -> Enco
         NO_ROOM => put_text(b"the buffer is too small", out),
         _ => put_text(b"unknown status", out),
     }
-}
-
-// Copies a text to the front of `out`, if it fits.
-#[inline(always)]
-fn put_text(text: &[u8], out: &mut [u8]) -> Encoded
-    ensures { IsPut text.now result out.old out.new }
-{
-    if text.len() <= out.len() {
-        out[..text.len()].copy_from_slice(text);
-    }
-    count(text.len(), out.len())
 }
