@@ -30,6 +30,7 @@ verify_example() {
     fi
   done < <(sed 1d "$top/crates/vectors/data/hashes.tsv")
   rejects "another content" "$work/verify" 1201ba < <(printf abc)
+  rejects "the input ends inside the digest (1 of 32 bytes)" "$work/verify" 1220ba
   rejects "the content cannot be hashed" "$work/verify" 1201ba < "$work"
 }
 
