@@ -33,7 +33,7 @@ keeps_no_state() {
     /ALLOC/ && !/READONLY/ && size !~ /^0+$/ { print name }' | diff /dev/null -
 }
 
-# The tests as C++, over the object of the C compiler.
+# The tests as C++, over the object of the C compiler. As C they are compiled with the sanitizers.
 as_cxx() {
   build_and_run "$1" "" "$1" -std=c++17 "${warnings[@]}" -O2 -x c++ "${tests[@]}" -x none "$work/$2-2.o"
 }
@@ -44,8 +44,7 @@ test_compilers() {
     [ $cc = cc ] && cxx=c++ there="" || cxx=clang++ there=clang
     needs="$there $cxx" try "$cc, $cxx, headers" headers $cc $cxx
     ONLY='' needs=$there try "$cc" compiles $cc
-    needs=$there try "$cc, tests" build_and_run $cc "" $cc "${c_flags[@]}" -O2 "${tests[@]}" "$source"
-    needs="$there $cxx" try "$cxx, tests" as_cxx $cxx $cc
+    needs="$there $cxx" try "$cc, tests by $cxx" as_cxx $cxx $cc
     [ $cc = cc ] || there="clang $clang_runtime"
     needs=$there try "$cc, address and undefined-behaviour sanitizers" \
       build_and_run $cc-san "" $cc "${c_flags[@]}" "${sanitize[@]}" "${tests[@]}" "$source"
