@@ -243,7 +243,7 @@ void check_input(uint64_t code, const uint8_t *bytes, size_t length, size_t limi
     check_length(code, length);
     check_encodings(code, bytes, length, room);
     check_encodings(code, bytes, length, limit);
-    check_text((multihash_status)code, room % 40);
+    check_text((multihash_status)code, room % 60);
     uint8_t *other = copy_of(bytes, length);
     check_order(code, bytes, length, code ^ (uint64_t)(limit % 2) << limit % 64, other, length);
     if (length == 0) return;

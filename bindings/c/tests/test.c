@@ -104,7 +104,7 @@ static void check_large(void)
 
 static void check_texts(void)
 {
-    for (size_t room = 0; room <= 40; room++) {
+    for (size_t room = 0; room <= 60; room++) {
         for (multihash_status i = 0; i < 300; i++) check_text(i, room);
         for (unsigned bits = 9; bits < 32; bits++) check_text((multihash_status)1 << bits, room);
         check_text(UINT32_MAX, room);
