@@ -82,7 +82,7 @@ class MultihashError(ValueError):
         text: _Text = self.args[4]
         if not text:
             numbers = {Status.INVALID_SIZE: [self.size], Status.INVALID_CODE: [self.code]}.get(self.status, [])
-            text = (_core.status_text(self.status) + " %s." * len(numbers), *numbers)
+            text = (_core.status_text(self.status) + " (%s)" * len(numbers), *numbers)
         return text if isinstance(text, str) else str(text[0]) % tuple(map(_shown, text[1:]))
 
 
