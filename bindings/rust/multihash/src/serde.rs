@@ -1,9 +1,10 @@
-//! Serializes the encoding as bytes, or as a sequence of numbers in formats without bytes.
+//! The encoding as bytes for serde.
 use crate::Multihash;
 use core::fmt;
 use serde::de::{Error, SeqAccess, Visitor};
 use serde::{Deserialize, Deserializer, Serialize, Serializer};
 
+/// The encoding as bytes. Formats without bytes, such as JSON, have a sequence of numbers.
 impl<const S: usize> Serialize for Multihash<S> {
     fn serialize<T: Serializer>(&self, serializer: T) -> Result<T::Ok, T::Error> {
         let mut bytes = [0; LENGTH_MAX];
@@ -12,6 +13,7 @@ impl<const S: usize> Serialize for Multihash<S> {
     }
 }
 
+/// From bytes, or a sequence of numbers, that are an encoding.
 impl<'de, const S: usize> Deserialize<'de> for Multihash<S> {
     fn deserialize<D: Deserializer<'de>>(deserializer: D) -> Result<Self, D::Error> {
         deserializer.deserialize_bytes(Bytes)
