@@ -87,7 +87,7 @@ pub fn check<const S: usize>(input: &[u8], [read, taken, whole, ..]: [&str; 5]) 
     }
 }
 
-/// Each writer writes the encoding, and the value is that of its parts.
+/// Each writer writes the encoding, and the value is that of its parts, and no other.
 fn check_found<const S: usize>(multihash: &Multihash<S>, encoding: &[u8]) {
     let (length, mut out) = (encoding.len(), [0xa5; 267]);
     assert!(multihash.write(&mut &mut out[..length - 1]).is_err());
@@ -106,6 +106,12 @@ fn check_found<const S: usize>(multihash: &Multihash<S>, encoding: &[u8]) {
     assert_eq!(digest[size.into()..], [0; S][size.into()..]);
     assert!(multihash.resize::<32>().map_or(size > 32, |small| super::same(&small, multihash)));
     assert!(super::same(&multihash.resize::<255>().expect("it fits"), multihash));
+    for at in 0..size.into() {
+        let mut other = digest;
+        other[at] ^= 1;
+        let unlike = Multihash::<S>::wrap(code, &other[..size.into()]).expect("it fits");
+        assert_eq!((unlike == *multihash, unlike.cmp(multihash)), (false, other.cmp(&digest)));
+    }
 }
 
 /// A code and a digest: the encoding, or the error. Returns the value, if they are one.
