@@ -6,7 +6,7 @@ import collections.abc
 import copy
 import ctypes
 import doctest
-import importlib.util
+import importlib
 import inspect
 import io
 import itertools
@@ -14,7 +14,6 @@ import mmap
 import os
 import pickle
 import resource
-import subprocess
 import sys
 import tempfile
 import typing
@@ -84,10 +83,11 @@ TEXTS = [
     (Multihash, [18, "abc"], "digest must be a bytes-like object, not str"),
     (Multihash, ["sha2-256", b"abc"], "code must be an int (hashes.CODES has the codes of names), not str"),
     (vm.encode, [1.5, b""], "code must be an int, not float"),
+    (vm.encode, [-(10**5000), b""], "code must be 0 or more, not %s" % shown(-(10**5000))),
     (vm.encoded_len, [18, b""], "digest_length must be an int, not bytes"),
     (vm.read, [b"\0\0", "9"], "limit must be an int, not str"),
     (vm.MultihashReader, ["path"], "file or stream must be an object with a method read, not str"),
-    (vm.read_from, [io.StringIO("1220")], "the result of read must be a bytes-like object, not str"),
+    (vm.read_from, [io.StringIO("1220")], "the result of read must be bytes (open the file in binary mode), not str"),
     (hashes.digest, [b"", "sha256"], "name must be in hashes.CODES, such as 'sha2-256', not 'sha256'"),
     (hashes.digest, [b"", "blake3"], "hashlib does not have blake3 here"),
     (hashes.verify, [Multihash(1, b""), b""], "the code 0x1 has no name in hashes.NAMES"),
@@ -103,7 +103,7 @@ def parameters_of(call):
 
 
 def attributes_of(error):
-    return [getattr(error, name) for name in (*MultihashError.__slots__, "args", "__dict__")]
+    return [getattr(error, name) for name in (*MultihashError.__slots__, "args", "__dict__")] + [str(error)]
 
 
 def copies(value):
@@ -174,7 +174,7 @@ class Arguments(unittest.TestCase):
             for wrong in (18.0, "18", None, b"\x12"):
                 self.assertRaises(TypeError, call, wrong, b"")
             for code in NEGATIVE:
-                self.assertRaisesRegex(ValueError, "^code must not be negative$", call, code, b"")
+                self.assertRaisesRegex(ValueError, "^code must be 0 or more, not %d$" % code, call, code, b"")
             for code in (1 << 63, (1 << 64) - 1, 1 << 64, (1 << 64) + 18, 1 << 700, 10**5000):
                 text = "the code is %s, and the largest is 2**63 - 1" % shown(code)
                 self.assertEqual(self.error_of(call, code, bytes(255)), (Status.INVALID_CODE, 0, code, text))
@@ -186,7 +186,7 @@ class Arguments(unittest.TestCase):
         for length in (256, 1 << 63, 1 << 64, (1 << 64) + 5, 1 << 700):
             self.assertEqual(self.error_of(vm.encoded_len, 18, length)[:3], (Status.INVALID_SIZE, length, 0))
         for length in NEGATIVE:
-            self.assertRaisesRegex(ValueError, "^digest_length must not be negative$", vm.encoded_len, 18, length)
+            self.assertRaisesRegex(ValueError, "^digest_length must be 0 or more, not ", vm.encoded_len, 18, length)
         self.assertRaises(TypeError, vm.encoded_len, 18, 2.0)
 
     def test_limits(self):
@@ -204,7 +204,7 @@ class Arguments(unittest.TestCase):
             self.assertEqual(self.error_of(call, data[3], 2)[:2], (Status.INVALID_SIZE, 3))
             self.assertEqual(self.error_of(call, b"\x01\x80\x02" + bytes(256), 1 << 64)[:2], (Status.INVALID_SIZE, 256))
             for limit in NEGATIVE:
-                self.assertRaisesRegex(ValueError, "^limit must not be negative$", call, b"", limit)
+                self.assertRaisesRegex(ValueError, "^limit must be 0 or more, not ", call, b"", limit)
             for wrong in (3.0, "3"):
                 self.assertRaises(TypeError, call, data[3], wrong)
 
@@ -274,18 +274,15 @@ class Values(unittest.TestCase):
                     self.assertRaises(AttributeError, call, value, name, 2)
                 self.assertRaises(AttributeError, delattr, value, name)
 
-    def test_modules(self):
-        """A subclass that has another module than Multihash makes no error and no reader."""
-        for module in (sys, None, 3):
-            for kind, *arguments in ((Multihash, 1, bytes(256)), (vm.MultihashReader, io.BytesIO())):
-                own = type("Own", (kind,), {"_core": module})
-                self.assertRaisesRegex(TypeError, "not the module of", own, *arguments)
-
     def test_copies(self):
         """They keep all attributes, those of subclasses and errors too, which may have other parameters."""
-        value, error = Sha256(b"abc"), MultihashError(Status.INVALID_CODE, 2, 1 << 64, 8, ("no %s", 3))
+        value = Sha256(b"abc")
+        with self.assertRaises(MultihashError) as raised:
+            vm.decode(b"\1\2a")
+        error = raised.exception
         value.more, value.slot, error.more = "kept", 3, "kept"
-        self.assertEqual(repr(error), "MultihashError(%r, 2, %d, 8, 'no %d')" % (Status.INVALID_CODE, 1 << 64, 3))
+        text = "the input ends inside the digest (1 of 2 bytes)"
+        self.assertEqual(repr(error), "MultihashError(%r, 0, 0, 3, '%s')" % (Status.UNEXPECTED_EOF, text))
         self.assertEqual(copies(VALUE), [VALUE] * 8)
         for again in copies(value):
             self.assertEqual((type(again), again, again.more, again.slot), (Sha256, Multihash(18, b"abc"), "kept", 3))
@@ -331,16 +328,6 @@ class Values(unittest.TestCase):
         values += [Multihash(1, (1 << bit).to_bytes(32, "big")) for bit in range(256)]
         self.assertGreater(len({hash(value) & 0xFFFFFF for value in values}), len(values) - 5)
 
-    def test_hash_of_errors(self):
-        """The hash that stands for an error in CPython, -1, is another one: here for codes that are mixed to -1."""
-        mixed = (1 << 64) - 1
-        for factor in (0xC4CEB9FE1A85EC53, 0xFF51AFD7ED558CCD):
-            mixed = (mixed ^ mixed >> 33) * pow(factor, -1, 1 << 64) % (1 << 64)
-        for digest in (bytes([n]) for n in range(256)):
-            code = mixed ^ mixed >> 33 ^ hash(digest) & (1 << 64) - 1
-            if code < 1 << 63:
-                self.assertEqual(hash(Multihash(code, digest)), -2)
-
 
 class Module(unittest.TestCase):
     def test_interpreters(self):
@@ -358,35 +345,6 @@ class Module(unittest.TestCase):
 
         with ThreadPoolExecutor(2) as threads:
             self.assertEqual(list(threads.map(run, range(2))), [None, None])
-
-    def test_versions(self):
-        """From CPython 3.12 on the module asks for locks of its own, by a slot that an earlier one does not know."""
-        program = "import sys; sys.path[:] = %r; sys.hexversion = %d; import verified_multihash"
-        for version in (0x3080000, 0x3090000, 0x30A0000, 0x30B0FF0, 0x30C0000, 0x30D0000, 0x3100000, 0x4000000):
-            words = [sys.executable, "-c", program % (sys.path, version)]
-            ended = subprocess.run(words, stderr=subprocess.PIPE, check=False)
-            found = ended.returncode, b"unknown slot ID 3" in ended.stderr
-            self.assertEqual(found, (version >= 0x30C0000 > sys.hexversion,) * 2, version)
-
-    def test_another_module(self):
-        """A module that the package has not imported knows no error, or another one."""
-        again = importlib.util.module_from_spec(vm._core.__spec__)
-        vm._core.__loader__.exec_module(again)
-        for call, arguments in ((again.decode, [b""]), (again.head, [b""]), (again.encode, [1 << 63, b""])):
-            self.assertRaisesRegex(RuntimeError, "^verified_multihash was not imported$", call, *arguments)
-        generator = type(each for each in ())  # which has no instances
-        names = MultihashError.__slots__
-        for kind, *wrong in (
-            (MultihashError, [1], names),
-            ("Own", (), names),
-            (generator, (), names),
-            (int, (), names[1:]),
-        ):
-            self.assertRaises(TypeError, again.set_error, kind, *wrong)
-        own = type("Own", (ValueError,), {"__slots__": names})
-        for statuses, names, error in (((1,), names, IndexError), ((1, 2), (1,) * 5, TypeError), ((1, 2), names, own)):
-            again.set_error(own, statuses, names)
-            self.assertRaises(error, again.decode, b"")
 
     def test_abstract_classes(self):
         """An abstract class may be a base too: CPython 3.8 has the flag in its own headers, later ones do not."""
