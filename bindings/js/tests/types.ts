@@ -120,6 +120,7 @@ is<0x13>()(sha512.code);
 is<Multihash<0x12>>()(await sha256.digest(bytes));
 is<Multihash<0x12>>()(await sha256.digest(stream, { truncate: 20 }));
 is<boolean>()((await hashers['blake2b-512']?.digest(bytes))?.equals(found) ?? false);
+is<Multihash<0x11>>()(await hashers.sha1.digest(bytes));
 export const contents = [bytes, stream, reader.rest] as Content[];
 // @ts-expect-error a text has to be encoded before
 sha256.digest('abc');
@@ -132,7 +133,8 @@ verify('1200', bytes);
 // @ts-expect-error nor is a content
 verify(bytes, '');
 is<string | undefined>()(NAMES[18]);
-is<number | undefined>()(CODES['sha2-256']);
+is<0x12>()(CODES['sha2-256']);
+is<number | undefined>()(CODES['blake2b-128']);
 // @ts-expect-error a list is not changed
 CODES['sha2-256'] = 3;
 // @ts-expect-error nor is the other one
