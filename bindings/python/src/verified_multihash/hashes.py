@@ -95,8 +95,11 @@ def _parts(file: _Readable) -> Iterator[bytes]:
             raise BlockingIOError("the file has no bytes now")
         if not part:
             return
-        if isinstance(part, str):
-            raise TypeError("the result of read must be bytes (open the file in binary mode), not str")
+        try:
+            memoryview(part)
+        except TypeError:
+            expected = "the result of read must be bytes (open the file in binary mode), not %s"
+            raise TypeError(expected % type(part).__name__) from None
         yield part
 
 
