@@ -2,6 +2,7 @@
 
 import abc
 import array
+import ast
 import collections.abc
 import copy
 import ctypes
@@ -364,6 +365,18 @@ class Module(unittest.TestCase):
             for call in filter(inspect.isfunction, public + methods):
                 tried += "return" in typing.get_type_hints(call)
         self.assertGreater(tried, 9)
+
+    def test_stub(self):
+        """Editors show the texts of the stub, help those of the module."""
+
+        def compare(node, found):
+            for part in node.body:
+                if isinstance(part, (ast.ClassDef, ast.FunctionDef)):
+                    text, own = ast.get_docstring(part), getattr(found, part.name)
+                    self.assertIn(text, (None, inspect.getdoc(own)), part.name)
+                    compare(part, own)
+
+        compare(ast.parse(Path(vm.__file__).with_name("_core.pyi").read_text("utf-8")), vm._core)
 
     def test_exports(self):
         module = ctypes.CDLL(vm._core.__file__)

@@ -3,6 +3,11 @@
 Functions that take bytes accept any object that supports the buffer protocol, and raise TypeError for anything else.
 Invalid input, and a code or digest that is too large, raise MultihashError, a subclass of ValueError. The module
 verified_multihash.hashes has the names of codes, and makes and verifies multihashes with hashlib.
+
+    from verified_multihash import decode, hashes
+
+    multihash = hashes.digest(b"hello", "sha2-256")
+    assert decode(bytes(multihash)) == multihash and hashes.verify(multihash, b"hello")
 """
 
 from __future__ import annotations
@@ -36,17 +41,26 @@ SCALE_LENGTH_MAX = 264
 
 
 class Status(enum.IntEnum):
-    """The result of a call, with the numbers of the C library."""
+    """Why a call failed, with the numbers of the C library.
+
+    INSUFFICIENT: the input ends before or inside a varint.
+    OVERFLOW: a varint has more than nine bytes; numbers of 2^63 and above do.
+    NOT_MINIMAL: a varint of more than one byte ends in a zero byte.
+    INVALID_SIZE: the digest is too long, and `size` is its length; or bytes follow the multihash, and `size` is their
+    number.
+    INVALID_CODE: `code` is 2^63 or more.
+    UNEXPECTED_EOF: the input ends inside the digest or, in SCALE, before it.
+    OK and NO_ROOM, a buffer of C that is too small, are not raised.
+    """
 
     OK = 0
-    INSUFFICIENT = 1  # the input ends before or inside a varint
-    OVERFLOW = 2  # a varint has more than nine bytes; numbers of 2^63 and above do
-    NOT_MINIMAL = 3  # a varint of more than one byte ends in a zero byte
-    # the digest is too long, and `size` is its length; or bytes follow the multihash, and `size` is their number
+    INSUFFICIENT = 1
+    OVERFLOW = 2
+    NOT_MINIMAL = 3
     INVALID_SIZE = 4
-    INVALID_CODE = 5  # `code` is 2^63 or more
-    UNEXPECTED_EOF = 6  # the input ends inside the digest or, in SCALE, before it
-    NO_ROOM = 7  # not raised: a buffer of C is too small
+    INVALID_CODE = 5
+    UNEXPECTED_EOF = 6
+    NO_ROOM = 7
 
 
 # A text, or what it depends on: nothing for a code and a digest; for an input its length, its start, and a limit of
@@ -135,7 +149,7 @@ def _shown(number: int) -> str:
 
 
 class Head(NamedTuple):
-    """The code and the digest's length at the start of an encoding, and the number of bytes of both varints."""
+    """The two varints at the start of an encoding: the code, the digest's length, and the `length` of both in bytes."""
 
     code: int
     digest_length: int
