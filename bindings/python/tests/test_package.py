@@ -1,14 +1,8 @@
-"""Wrong arguments, errors, values, costs, the names of the package, README.md's examples."""
+"""Arguments, errors and values."""
 
-import abc
 import array
-import ast
-import collections.abc
 import copy
 import ctypes
-import doctest
-import importlib
-import inspect
 import io
 import itertools
 import mmap
@@ -17,18 +11,13 @@ import pickle
 import resource
 import sys
 import tempfile
-import typing
 import unittest
 import weakref
-from concurrent.futures import ThreadPoolExecutor
-from pathlib import Path
-from unittest.mock import MagicMock
 
 import verified_multihash as vm
 from test_readers import Awaited
 from verified_multihash import Multihash, MultihashError, Status, hashes
 
-README = Path(__file__).resolve().parents[1] / "README.md"
 BYTES_CALLS = [
     vm.decode, vm.read, vm.head, vm.scale_decode,
     lambda data: vm.encode(1, data), lambda data: vm.scale_encode(1, data), lambda data: Multihash(1, data),
@@ -97,12 +86,6 @@ TEXTS = [
 ]
 
 
-def parameters_of(call):
-    """The parameters that a function shows; CPython 3.8 and 3.9 find none of a class in C."""
-    is_found = call is not Multihash or sys.version_info > (3, 10)
-    return inspect.signature(call).parameters if is_found else dict.fromkeys(Multihash.__match_args__)
-
-
 def attributes_of(error):
     return [getattr(error, name) for name in (*MultihashError.__slots__, "args", "__dict__")] + [str(error)]
 
@@ -110,11 +93,6 @@ def attributes_of(error):
 def copies(value):
     """Copies, and what each protocol of pickle makes of a value."""
     return [copy.copy(value), copy.deepcopy(value), *(pickle.loads(pickle.dumps(value, n)) for n in range(6))]
-
-
-def once(number):
-    """A number that can be asked for once."""
-    return MagicMock(**{"__index__.side_effect": [number]})
 
 
 class Named(Multihash):
@@ -181,8 +159,6 @@ class Arguments(unittest.TestCase):
                 self.assertEqual(self.error_of(call, code, bytes(255)), (Status.INVALID_CODE, 0, code, text))
                 text = "the digest has 256 bytes, and the limit is 255"
                 self.assertEqual(self.error_of(call, code, bytes(256)), (Status.INVALID_SIZE, 256, 0, text))
-            self.assertEqual(self.error_of(call, once(code), b"")[2], code)
-        self.assertEqual(self.error_of(vm.encoded_len, 1, once(256))[1], 256)
         self.assertEqual(self.error_of(vm.scale_decode, bytes(7) + b"\x80\0")[2], 1 << 63)
         for length in (256, 1 << 63, 1 << 64, (1 << 64) + 5, 1 << 700):
             self.assertEqual(self.error_of(vm.encoded_len, 18, length)[:3], (Status.INVALID_SIZE, length, 0))
@@ -328,87 +304,3 @@ class Values(unittest.TestCase):
         values = [Multihash(1 << bit, b"") for bit in range(63)]
         values += [Multihash(1, (1 << bit).to_bytes(32, "big")) for bit in range(256)]
         self.assertGreater(len({hash(value) & 0xFFFFFF for value in values}), len(values) - 5)
-
-
-class Module(unittest.TestCase):
-    def test_interpreters(self):
-        """Two at once, from CPython 3.12 on with locks of their own."""
-        interpreters = importlib.import_module("_interpreters" if sys.version_info > (3, 13) else "_xxsubinterpreters")
-        program = "import sys; sys.path[:] = %r\nimport verified_multihash as vm\n" % (sys.path,)
-        program += "for n in range(20000): assert vm.decode(vm.encode(n, b'abc')) == vm.Multihash(n, b'abc')\n"
-        program += "try: vm.decode(b'')\nexcept vm.MultihashError as error: assert error.is_incomplete\n"
-
-        def run(_):
-            number = interpreters.create()
-            result = interpreters.run_string(number, program)
-            interpreters.destroy(number)
-            return result
-
-        with ThreadPoolExecutor(2) as threads:
-            self.assertEqual(list(threads.map(run, range(2))), [None, None])
-
-    def test_abstract_classes(self):
-        """An abstract class may be a base too: CPython 3.8 has the flag in its own headers, later ones do not."""
-        for kind in (Multihash, vm._core.Reader):
-            self.assertTrue(kind.__flags__ & 1 << 18, "Py_TPFLAGS_HAVE_VERSION_TAG")
-        for kind in (Multihash, vm.MultihashReader, vm.AsyncMultihashReader):
-            own = type("Own", (kind, collections.abc.Sized), {"__len__": id})
-            self.assertTrue(issubclass(own, collections.abc.Sized))
-            self.assertFalse(issubclass(abc.ABCMeta("Other", (), {}), own))
-
-    def test_hints(self):
-        """Tools that evaluate annotations find what they name."""
-        tried = 0
-        for module in (vm, hashes):
-            public = [vars(module)[name] for name in module.__all__]
-            methods = [it for each in public if isinstance(each, type) for it in vars(each).values()]
-            for call in filter(inspect.isfunction, public + methods):
-                tried += "return" in typing.get_type_hints(call)
-        self.assertGreater(tried, 9)
-
-    def test_stub(self):
-        """Editors show the texts of the stub, help those of the module."""
-
-        def compare(node, found):
-            for part in node.body:
-                if isinstance(part, (ast.ClassDef, ast.FunctionDef)):
-                    text, own = ast.get_docstring(part), getattr(found, part.name)
-                    self.assertIn(text, (None, inspect.getdoc(own)), part.name)
-                    compare(part, own)
-
-        compare(ast.parse(Path(vm.__file__).with_name("_core.pyi").read_text("utf-8")), vm._core)
-
-    def test_exports(self):
-        module = ctypes.CDLL(vm._core.__file__)
-        names = "PyInit__core", "multihash_read", "get_input"
-        self.assertEqual([hasattr(module, name) for name in names], [True, False, False])
-
-    def test_names(self):
-        """All that is public is exported, and each parameter has the name that it shows."""
-        own = {name for name, it in vars(vm).items() if getattr(it, "__module__", "").startswith(vm.__name__)}
-        public = {name for name in own if not name.startswith("_")}
-        constants = {name for name in vars(vm) if name.endswith("_MAX")} | {"__version__"}
-        self.assertEqual(sorted(vm.__all__), sorted(public | constants))
-        classes = [each for each in map(vars(vm).get, public) if isinstance(each, type)]
-        self.assertEqual({each.__module__ for each in classes}, {vm.__name__})  # that pickled values name
-        self.assertEqual(Multihash.__match_args__, tuple(parameters_of(Multihash)))
-        for call in (*NAMED_CALLS, vm.MultihashReader, vm.AsyncMultihashReader):
-            limit = parameters_of(call).get("limit")
-            self.assertIn(limit and limit.default, (None, vm.DIGEST_MAX))
-        for call, arguments in NAMED_CALLS.items():
-            names = list(parameters_of(call))
-            by_name, by_position = call(**dict(zip(names, arguments))), call(*arguments)
-            self.assertEqual((str(by_name), len(names)), (str(by_position), len(arguments)))
-            required = [name for name, it in parameters_of(call).items() if not it or it.default is it.empty]
-            for wrong in ([*arguments, 1], arguments[: len(required) - 1]):
-                with self.assertRaises(TypeError):  # by itself, as assertRaises would pass keywords on
-                    call(*wrong)
-            for lacking in required if call is not MultihashError else ():
-                others = {name: it for name, it in zip(names, arguments) if name != lacking}
-                self.assertRaisesRegex(TypeError, r"^%s\(\)" % call.__name__, call, **others)
-
-    def test_examples(self):
-        text = "\n".join("" if line.startswith("```") else line for line in README.read_text("utf-8").splitlines())
-        test = doctest.DocTestParser().get_doctest(text, {}, "README.md", str(README), 0)
-        failed, tried = doctest.DocTestRunner().run(test)
-        self.assertEqual((failed, tried > 0), (0, True))

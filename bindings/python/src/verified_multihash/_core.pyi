@@ -1,5 +1,5 @@
 # The functions and types in C. Editors show these texts, and help() those of the module, which are the same.
-from typing import Any, Optional, Tuple, Type
+from typing import Any, ClassVar, Literal, Optional, Tuple, Type
 
 from _typeshed import ReadableBuffer as Buffer
 from typing_extensions import Self
@@ -11,6 +11,7 @@ class Multihash:
     byte that differs. `bytes(multihash)` returns the encoding, and `str(multihash)` the same in hexadecimal.
     """
 
+    __match_args__: ClassVar[Tuple[Literal["code"], Literal["digest"]]]
     def __new__(cls, code: int, digest: Buffer) -> Self: ...
     @property
     def code(self) -> int:
