@@ -6,19 +6,22 @@ export function received(value) {
   return ['string', 'symbol', 'function'].includes(typeof value) ? typeof value : String(value);
 }
 
-// What makes the argument of a text, by its name.
-const HINTS = {
-  __proto__: null,
-  bytes: 'Multihash.fromHex(text) decodes hexadecimal',
+const ENCODE = 'new TextEncoder().encode(text) makes bytes';
+const DECODE = 'Multihash.fromHex(text) decodes hexadecimal';
+// What makes an argument of a text, by the name of the argument, and of other values.
+const OF_TEXTS = {
+  __proto__: null, bytes: DECODE, multihash: DECODE, content: ENCODE, digest: ENCODE,
   code: 'CODES has the codes of names',
-  content: 'new TextEncoder().encode(text) makes bytes',
-  digest: 'new TextEncoder().encode(text) makes bytes',
+};
+const OF_OTHERS = {
+  __proto__: null, ArrayBuffer: 'new Uint8Array(buffer) makes one', Response: 'its body is one',
+  Blob: 'its stream() is one', File: 'its stream() is one',
 };
 
 /** The error of an argument of another type. */
 export function wrongType(name, expected, value) {
   const got = received(value);
-  const hint = got === 'string' ? HINTS[name] : got === 'ArrayBuffer' && 'new Uint8Array(buffer) makes one';
+  const hint = got === 'string' ? OF_TEXTS[name] : OF_OTHERS[got];
   return new TypeError(`${name} must be ${expected}, got ${got}${hint ? `: ${hint}` : ''}`);
 }
 

@@ -112,7 +112,7 @@ function unhex(text) {
   if (typeof text !== 'string') throw wrongType('text', 'a string', text);
   const at = text.search(/[^0-9a-f]/i);
   if (at >= 0 || text.length % 2 !== 0) {
-    const what = at < 0 ? `${text.length} digits, an odd number` :
+    const what = at < 0 ? `an odd number of digits, ${text.length}` :
       `${JSON.stringify(text[at])} at index ${at}, which is no hexadecimal digit`;
     throw new MultihashError(`the text has ${what}`, { status: 'not_hexadecimal' });
   }
@@ -218,7 +218,7 @@ export class Multihash {
 
   /** This multihash, whose code is a number: a RangeError if it is a bigint. */
   narrow() {
-    if (typeof this.code !== 'number') throw new RangeError(`the code ${this.code} is 2^53 or more`);
+    if (typeof this.code !== 'number') throw new RangeError(`the code ${this.code} is 2^53 or more, so no number`);
     return this;
   }
 }

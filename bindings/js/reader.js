@@ -98,8 +98,8 @@ export class MultihashReader {
   }
 
   /**
-   * Unlocks a `ReadableStream` for another reader: `rest` has the bytes received. From then on `read` rejects. The source
-   * is not cancelled.
+   * Unlocks a `ReadableStream` for another reader: `rest` has the bytes received. From then on `read` rejects. The
+   * source is not cancelled.
    */
   release() {
     this.#end ??= () => {

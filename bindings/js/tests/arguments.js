@@ -146,7 +146,7 @@ export function multihashes(module) {
   for (const text of [`${multihash}`, `${multihash}`.toUpperCase()])
     same(Multihash.fromHex(text).equals(multihash), true, 'from text');
   const no = 'which is no hexadecimal digit';
-  for (const [text, message] of [['162', '3 digits, an odd number'], ['1g01', `"g" at index 1, ${no}`],
+  for (const [text, message] of [['162', 'an odd number of digits, 3'], ['1g01', `"g" at index 1, ${no}`],
     ['0x1600', `"x" at index 1, ${no}`], [' 1600', `" " at index 0, ${no}`]]) {
     const error = fails(MultihashError, () => Multihash.fromHex(text), text, `the text has ${message}`);
     same(`${error.status} ${error.isIncomplete}`, 'not_hexadecimal false', text);
@@ -160,7 +160,7 @@ export function multihashes(module) {
   same(`${shown}`, `Multihash(0x16, ${hex(EXAMPLE.subarray(2))}),Multihash(0x12, empty)`, 'console.log');
   same(multihash.narrow(), multihash, 'a code that is a number');
   fails(RangeError, () => Multihash.of(2n ** 53n, EXAMPLE).narrow(), 'narrow',
-    'the code 9007199254740992 is 2^53 or more');
+    'the code 9007199254740992 is 2^53 or more, so no number');
   fails(TypeError, () => new Multihash(Symbol('making'), 22, EXAMPLE), 'constructor',
     'Multihash.of(code, digest) makes a multihash');
   same(Object.is(Multihash.of(-0, EXAMPLE).code, 0), true, 'code -0');

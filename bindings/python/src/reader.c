@@ -18,7 +18,7 @@ static PyObject *read_of(PyObject *file)
     PyObject *read = attribute_of(file, "read");
     if (read != NULL || !PyErr_ExceptionMatches(PyExc_AttributeError)) return read;
     PyErr_Clear();
-    return wrong_type("file or stream", "an object with a method read", file);
+    return wrong_type("file or stream", "an object with a method read, such as open(path, 'rb')", file);
 }
 
 /* Raises an error if a call of the file has not returned. */

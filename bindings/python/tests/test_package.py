@@ -76,13 +76,21 @@ TEXTS = [
     (vm.encode, [-(10**5000), b""], "code must be 0 or more, not %s" % shown(-(10**5000))),
     (vm.encoded_len, [18, b""], "digest_length must be an int, not bytes"),
     (vm.read, [b"\0\0", "9"], "limit must be an int, not str"),
-    (vm.MultihashReader, ["path"], "file or stream must be an object with a method read, not str"),
+    (
+        vm.MultihashReader,
+        ["path"],
+        "file or stream must be an object with a method read, such as open(path, 'rb'), not str",
+    ),
     (vm.read_from, [io.StringIO("1220")], "the result of read must be bytes (open the file in binary mode), not str"),
     (hashes.digest, [b"", "sha256"], "name must be in hashes.CODES, such as 'sha2-256', not 'sha256'"),
     (hashes.digest, [b"", "blake3"], "hashlib does not have blake3 here"),
     (hashes.verify, [Multihash(1, b""), b""], "the code 0x1 has no name in hashes.NAMES"),
     (hashes.verify, ["1220", b""], "multihash must be a Multihash or its encoding, not str"),
-    (hashes.digest_file, ["path", "sha1"], "file must be an object with a method read, not str"),
+    (
+        hashes.digest_file,
+        ["path", "sha1"],
+        "file must be an object with a method read, such as open(path, 'rb'), not str",
+    ),
 ]
 
 

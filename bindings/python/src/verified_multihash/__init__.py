@@ -217,7 +217,10 @@ class AsyncMultihashReader(_core.Reader):
         """Returns the next multihash, or None at the end of the stream."""
         while wanted := self._begin():
             try:
-                chunk = await self._read(wanted)
+                called = self._read(wanted)
+                if isinstance(called, bytes):
+                    raise TypeError("read of the stream must be awaited: a MultihashReader reads from a file")
+                chunk = await called
             except BaseException as error:
                 self._fail(error)
                 raise

@@ -88,7 +88,8 @@ class Hasher:
 
 def _parts(file: _Readable) -> Iterator[bytes]:
     if not hasattr(file, "read"):
-        raise TypeError("file must be an object with a method read, not %s" % type(file).__name__)
+        expected = "file must be an object with a method read, such as open(path, 'rb'), not %s"
+        raise TypeError(expected % type(file).__name__)
     while True:
         part = file.read(1 << 18)
         if part is None:
