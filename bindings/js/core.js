@@ -205,7 +205,7 @@ export class Multihash {
 
   /** Whether the other value has the same code and the same digest. */
   equals(other) {
-    if (other instanceof Multihash) return compare(this, other) === 0;
+    if (other instanceof Multihash) return order(this, other) === 0;
     const [left, right, code] = [this.digest, other?.digest, other?.code];
     if (!isBytes(left) || !isBytes(right)) return false;
     // a number and a bigint of the same value are the same code
@@ -350,18 +350,13 @@ export function encodedLength(code, digestLength) {
 // ---- comparing
 
 /** The digest of a Multihash, whose memory was not moved elsewhere. */
-function digestOf(multihash, name) {
-  if (!(multihash instanceof Multihash)) throw wrongType(name, 'a Multihash', multihash);
-  const { digest, size } = multihash;
+function digestOf({ digest, size }, name) {
   if (digest.length !== size) throw new TypeError(`the digest of ${name} is detached or was replaced`);
   return digest;
 }
 
-/**
- * Compares by code, then by digest length, then by the first digest byte that differs: -1, 0 or 1. A call of the
- * library takes several times as long, since it copies both digests.
- */
-export function compare(left, right) {
+/** How two multihashes compare. A call of the library takes several times as long, since it copies both digests. */
+function order(left, right) {
   const leftDigest = digestOf(left, 'left');
   const rightDigest = digestOf(right, 'right');
   if (left.code !== right.code) return left.code < right.code ? -1 : 1;
@@ -370,4 +365,11 @@ export function compare(left, right) {
   for (let index = 0; index < length; index++)
     if (leftDigest[index] !== rightDigest[index]) return leftDigest[index] < rightDigest[index] ? -1 : 1;
   return 0;
+}
+
+/** Compares by code, then by digest length, then by the first digest byte that differs: -1, 0 or 1. */
+export function compare(left, right) {
+  if (!(left instanceof Multihash)) throw wrongType('left', 'a Multihash', left);
+  if (!(right instanceof Multihash)) throw wrongType('right', 'a Multihash', right);
+  return order(left, right);
 }
