@@ -75,6 +75,16 @@ under_sanitizers() {
     ASAN_OPTIONS=detect_leaks=0:allocator_may_return_null=1 PYTHONMALLOC=malloc
 }
 
+# A folder that was installed before is installed as it is now, also if a file is older than its build.
+built_before() {
+  local module=$work/sdist/src/verified_multihash/__init__.py
+  installs "$work/sdist"
+  echo 'later = True' >> "$module"
+  touch -d @315532800 "$module"
+  imports "$work/sdist"
+  "$python" -c 'from verified_multihash import later'
+}
+
 # The package is typed, and the module has the names of its stub. mypy accepts typed.py and the examples of README.md,
 # and rejects an example that shows a TypeError.
 types() {
@@ -104,4 +114,5 @@ needs="mypy stubtest" try "types" types
 try "the results of plain Python, in less CPU time" "$python" -I "$here/beside_plain.py"
 ONLY='' try "the sdist, installed" sdist
 try "sanitizers" under_sanitizers "$work/sdist"
+try "a folder that was built before" built_before
 finish
