@@ -72,6 +72,7 @@ _VARINT = re.compile(b"[\x80-\xff]{1,8}[\1-\x7f]|[\0-\x7f]")
 class MultihashError(ValueError):
     """The error of invalid input, or of a code or digest that is too large. Its text says what is wrong.
 
+    `status` is the kind of the error, a Status.
     `size` is, at INVALID_SIZE, the length of the digest or the number of trailing bytes, otherwise 0.
     `code` is, at INVALID_CODE, the code, otherwise 0.
     `taken` is the number of bytes that were consumed.
