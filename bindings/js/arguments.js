@@ -6,12 +6,11 @@ export function received(value) {
   return ['string', 'symbol', 'function'].includes(typeof value) ? typeof value : String(value);
 }
 
-const ENCODE = 'new TextEncoder().encode(text) makes bytes';
 const DECODE = 'Multihash.fromHex(text) decodes hexadecimal';
 // What makes an argument of a text, by the name of the argument, and of other values.
 const OF_TEXTS = {
-  __proto__: null, bytes: DECODE, multihash: DECODE, content: ENCODE, digest: ENCODE,
-  code: 'CODES has the codes of names',
+  __proto__: null, bytes: DECODE, multihash: DECODE, code: 'CODES has the codes of names',
+  content: 'new TextEncoder().encode(text) makes bytes',
 };
 const OF_OTHERS = {
   __proto__: null, ArrayBuffer: 'new Uint8Array(buffer) makes one', Response: 'its body is one',

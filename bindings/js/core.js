@@ -218,7 +218,7 @@ export class Multihash {
 
   /** This multihash, whose code is a number: a RangeError if it is a bigint. */
   narrow() {
-    if (typeof this.code !== 'number') throw new RangeError(`the code ${this.code} is 2^53 or more, so no number`);
+    if (typeof this.code !== 'number') throw new RangeError(`the code ${this.code} is 2^53 or more, so it is a bigint`);
     return this;
   }
 }

@@ -160,7 +160,7 @@ export function multihashes(module) {
   same(`${shown}`, `Multihash(0x16, ${hex(EXAMPLE.subarray(2))}),Multihash(0x12, empty)`, 'console.log');
   same(multihash.narrow(), multihash, 'a code that is a number');
   fails(RangeError, () => Multihash.of(2n ** 53n, EXAMPLE).narrow(), 'narrow',
-    'the code 9007199254740992 is 2^53 or more, so no number');
+    'the code 9007199254740992 is 2^53 or more, so it is a bigint');
   fails(TypeError, () => new Multihash(Symbol('making'), 22, EXAMPLE), 'constructor',
     'Multihash.of(code, digest) makes a multihash');
   same(Object.is(Multihash.of(-0, EXAMPLE).code, 0), true, 'code -0');

@@ -30,6 +30,7 @@ static void rename_error(const char *name, const char *expected, PyObject *argum
 {
     static const char *hints[][2] = {
         {"data", "bytes (Multihash.fromhex takes text)"},
+        {"digest", "bytes (bytes.fromhex takes hexadecimal)"},
         {"code", "an int (hashes.CODES has the codes of names)"},
         {RESULT_OF_READ, "bytes (open the file in binary mode)"},
     };

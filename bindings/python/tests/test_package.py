@@ -70,7 +70,7 @@ TEXTS = [
     (vm.decode, ["1220"], "data must be bytes (Multihash.fromhex takes text), not str"),
     (vm.read, [3], "data must be a bytes-like object, not int"),
     (Multihash.fromhex, [b"1220"], "text must be a str (decode takes bytes), not bytes"),
-    (Multihash, [18, "abc"], "digest must be a bytes-like object, not str"),
+    (Multihash, [18, "abc"], "digest must be bytes (bytes.fromhex takes hexadecimal), not str"),
     (Multihash, ["sha2-256", b"abc"], "code must be an int (hashes.CODES has the codes of names), not str"),
     (vm.encode, [1.5, b""], "code must be an int, not float"),
     (vm.encode, [-(10**5000), b""], "code must be 0 or more, not %s" % shown(-(10**5000))),
