@@ -182,6 +182,7 @@ const CASES = [
   ['1280', "the input ends inside the digest's length", 'insufficient'],
   ['8000', 'the varint of the code is not minimal: it ends in a zero byte', 'not_minimal'],
   ['01808000', "the varint of the digest's length is not minimal: it ends in a zero byte", 'not_minimal'],
+  [`${'ff'.repeat(8)}7f8100`, "the varint of the digest's length is not minimal: it ends in a zero byte", 'not_minimal'],
   ['ff'.repeat(9), 'the varint of the code has more than nine bytes', 'overflow'],
   [`01${'ff'.repeat(9)}`, "the varint of the digest's length has more than nine bytes", 'overflow'],
   ['010200', 'the input ends inside the digest (1 of 2 bytes)', 'unexpected_eof'],
@@ -199,7 +200,7 @@ export function errors({ MultihashError, decode, encode, head, read, scaleDecode
   const cases = [
     ...[decode, read].flatMap((call) => CASES.map(([input, message, status, size]) =>
       [() => call(unhex(input)), message, `"${status}"${size ? `,"size":${size}` : ''}`])),
-    ...CASES.slice(0, 8).map(([input, message, status]) => [() => head(unhex(input)), message, `"${status}"`]),
+    ...CASES.slice(0, 9).map(([input, message, status]) => [() => head(unhex(input)), message, `"${status}"`]),
     ...DECODED.map(([input, message, size]) => sized(() => decode(unhex(input)), message, size)),
     sized(() => read(EXAMPLE, 31), 'the digest has 32 bytes, and the limit is 31', 32),
     sized(() => read(unhex('018002'), 2n ** 60n), 'the digest has 256 bytes, and the limit is 255', 256),

@@ -43,6 +43,7 @@ def shown(number):
         return hex(number)
 
 
+LONGEST = b"\xff" * 8 + b"\x7f"  # varint
 # What each wrong call says: its text alone has to be enough.
 TEXTS = [
     (vm.decode, [b""], "the input is empty"),
@@ -53,6 +54,8 @@ TEXTS = [
     (vm.head, [b"\x12" + b"\xff" * 9], "the varint of the digest's length has more than nine bytes"),
     (vm.head, [b"\x92\0\1"], "the varint of the code is not minimal: its last byte is zero"),
     (vm.decode, [b"\x12\x81\0a"], "the varint of the digest's length is not minimal: its last byte is zero"),
+    (vm.decode, [LONGEST + b"\x81\0"], "the varint of the digest's length is not minimal: its last byte is zero"),
+    (vm.decode, [LONGEST * 2], "the digest has 9223372036854775807 bytes, and the limit is 255"),
     (vm.decode, [b"\x12\xac\2"], "the digest has 300 bytes, and the limit is 255"),
     (vm.decode, [b"\x12\3ab"], "the input ends inside the digest (2 of 3 bytes)"),
     (vm.decode, [b"\x12\1ab"], "1 byte follows the multihash"),
@@ -149,9 +152,8 @@ class Arguments(unittest.TestCase):
         self.assertEqual([vm.encode(0, empty) for empty in (b"", bytearray(), array.array("I"))], [b"\0\0"] * 3)
         for kind in (ctypes.c_uint8, ctypes.c_uint16, ctypes.c_uint64):  # buffers of no dimension
             self.assertEqual(vm.encode(0, kind(7)), vm.encode(0, bytes(kind(7))))
-        longest = b"\xff" * 8 + b"\x7f"
         for kind in "HIQ":  # what a call reads ends within an item
-            for call, front in ((vm.head, longest * 2), (vm.read, longest + b"\xff\1" + bytes(255))):
+            for call, front in ((vm.head, LONGEST * 2), (vm.read, LONGEST + b"\xff\1" + bytes(255))):
                 self.assertEqual(call(array.array(kind, front + bytes(6))), call(front))
         for call in BYTES_CALLS[:3]:
             self.assertEqual(self.error_of(call, memoryview(b""))[0], Status.INSUFFICIENT)
