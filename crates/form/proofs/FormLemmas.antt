@@ -24,7 +24,7 @@ use Rattle.frame.specs.declared.error.FrameError.{FrameError}
 use Rattle.form.specs.Form.{Then}
 use Rattle.form.specs.FormError.{IsFailed, IsTruncated, IsErrorOfFrame}
 use Rattle.form.specs.RejectLaws.{malformed_kept}
-use Rattle.form.specs.Rejecting.{ShowsMalformed, ShowsError, RejectsNumber, RejectsMultihash, RejectsFrom, IsTooLong, IsUndecided, StopsAt, ReadStops}
+use Rattle.form.specs.Rejecting.{ShowsMalformed, ShowsError, RejectsNumber, RejectsMultihash, RejectsNumberThen, RejectsTooLong, IsUndecided, StopsAt, ReadStops}
 use Rattle.form.specs.declared.error.FormError.{FormError}
 use Rattle.form.specs.declared.error.FormError.TheVariants.{Failed, TooLong}
 use Rattle.form.proofs.StopLemmas.{first_stops, next_rejected, from_stops}
@@ -172,28 +172,28 @@ module _ {A : Type 0} (IsForm : A → List ℕ → Type 0) (framed : (x : A) (by
       let (block, f) = framed x bytes is in
       (length block, 0, record { first = f.len; second = block; is_first = f.is_len; is_second = refl; parts = f.parts })
 
-  undecided : (n : ℕ) → n ≤ limit → (x : List ℕ) → length x < n → IsUndecided (HasLength n) (IsTooLong limit n) x
+  undecided : (n : ℕ) → n ≤ limit → (x : List ℕ) → length x < n → IsUndecided (HasLength n) (RejectsTooLong limit n) x
   undecided n within x few = record {
     no_form = λ z front rest cut long. omega (arith, few, long, ap length cut, length-append front rest);
     no_error = λ e front rest cut rejects. omega (arith, within, rejects.0);
   }
 
   pub frame_stops : (before after : ℕ) (f : FrameError) (e : FormError) (old new : Option (List ℕ)) → IsErrorOfFrame f e
-      → FrameFails limit before after f old new → ReadStops IsForm (RejectsFrom (IsTooLong limit)) before after e old new
+      → FrameFails limit before after f old new → ReadStops IsForm (RejectsNumberThen (RejectsTooLong limit)) before after e old new
   frame_stops before after f e old new passed (inl (r, is, fails)) =
       rw (subst (λ (x : FrameError). IsErrorOfFrame x e) is passed)
-      (first_stops IsVarint RejectsNumber (IsTooLong limit) HasLength IsForm split before after (Failed r) old new
+      (first_stops IsVarint RejectsNumber (RejectsTooLong limit) HasLength IsForm split before after (Failed r) old new
       (varint_stops before after r old new fails.cause fails.consumed))
   frame_stops before after f e old new passed (inr (n, mid, number, inl (is, over, same, kept))) =
-      next_rejected IsVarint RejectsNumber (IsTooLong limit) HasLength IsForm split n before after e old new
+      next_rejected IsVarint RejectsNumber (RejectsTooLong limit) HasLength IsForm split n before after e old new
       (subst (λ (o : Option (List ℕ)). ConsumesVarint n old o) (sym kept) number)
       (over, subst (λ (x : FrameError). IsErrorOfFrame x e) is passed, refl)
   frame_stops before after f e old new passed (inr (n, mid, number, inr (within, inl (memory, _, _)))) =
       inl (frame_failure IsOutOfMemory f e passed memory)
   frame_stops before after f e old new passed (inr (n, mid, number, inr (within, inr (r, is, fails)))) =
-      from_stops (IsTooLong limit) HasLength IsForm split n before before after e old mid new refl number
+      from_stops (RejectsTooLong limit) HasLength IsForm split n before before after e old mid new refl number
       (rw (subst (λ (x : FrameError). IsErrorOfFrame x e) is passed)
-      (exact_stops (HasLength n) (IsTooLong limit n) n before after r mid new (undecided n within) fails))
+      (exact_stops (HasLength n) (RejectsTooLong limit n) n before after r mid new (undecided n within) fails))
 
 -- the clause `faults` of `frame::read`, as that of `read` of a block
 pub block_faults : (limit before after : ℕ) (f : FrameError) (e : FormError) → IsErrorOfFrame f e

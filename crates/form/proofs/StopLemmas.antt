@@ -10,7 +10,7 @@ use Rattle.multihash.proofs.ReadingLemmas.{Consumes-known, Consumes-none, Consum
 use Rattle.form.specs.Form.{Then}
 use Rattle.form.specs.PartLaws.{number_unique}
 use Rattle.form.specs.RejectLaws.{number_not_both}
-use Rattle.form.specs.Rejecting.{RejectsNumber, RejectsInTurn, RejectsFrom, AreItems, RejectsItem, IsUndecided, StopsAt, ReadStops}
+use Rattle.form.specs.Rejecting.{RejectsNumber, RejectsInTurn, RejectsNumberThen, AreItems, RejectsItem, IsUndecided, StopsAt, ReadStops}
 use Rattle.form.specs.declared.error.FormError.{FormError}
 
 -- reading failed: the same in other words
@@ -128,7 +128,7 @@ module _ {A B C : Type 0} (IsFirst : A → List ℕ → Type 0) (RejectsFirst : 
 pub from_stops : {B C : Type 0} (RejectsNext : ℕ → FormError → List ℕ → Type 0) (IsNext : ℕ → C → List ℕ → Type 0) (IsForm : B → List ℕ → Type 0)
     → ((y : B) (bytes : List ℕ) → IsForm y bytes → (n : ℕ) × (z : C) × Then (IsVarint n) (IsNext n z) bytes)
     → (n before middle after : ℕ) (e : FormError) (old mid new : Option (List ℕ)) → middle ≡ before → ConsumesSome (IsVarint n) old mid
-    → ReadStops (IsNext n) (RejectsNext n) middle after e mid new → ReadStops IsForm (RejectsFrom RejectsNext) before after e old new
+    → ReadStops (IsNext n) (RejectsNext n) middle after e mid new → ReadStops IsForm (RejectsNumberThen RejectsNext) before after e old new
 from_stops RejectsNext IsNext IsForm split =
     next_stops IsVarint RejectsNumber RejectsNext IsNext IsForm split (λ (m n : ℕ). m ≡ n) number_unique number_not_both
     (λ m n bytes same. subst (λ (k : ℕ). IsUndecided (IsNext k) (RejectsNext k) bytes) same)

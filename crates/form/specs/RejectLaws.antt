@@ -19,7 +19,7 @@ use Rattle.form.specs.FormError.{IsFailed}
 use Rattle.form.specs.FormLaws.{then_unique, then_some}
 use Rattle.form.specs.PartLaws.{number_unique, number_some}
 use Rattle.form.specs.OneOf.{IsOneOf}
-use Rattle.form.specs.Rejecting.{IsShortest, ShowsMalformed, ShowsError, RejectsNumber, RejectsMultihash, RejectsInTurn, RejectsFrom, RejectsItem, IsOtherTag, IsTooLong, RejectsItems, RejectsCase}
+use Rattle.form.specs.Rejecting.{IsShortest, ShowsMalformed, ShowsError, RejectsNumber, RejectsMultihash, RejectsInTurn, RejectsNumberThen, RejectsItem, RejectsOtherTag, RejectsTooLong, RejectsCounted, RejectsCase}
 use Rattle.form.specs.declared.error.FormError.{FormError}
 use Rattle.form.specs.declared.error.FormError.TheVariants.{Failed, TooMany, TooLong, OtherTag}
 use Rattle.form.specs.declared.one_of.OneOf.{OneOf}
@@ -143,21 +143,21 @@ module _ {A E : Type 0} (IsFirst : A → List ℕ → Type 0) (RejectsFirst : E 
 
 -- ---- a number, and what follows it
 
-pub from_rejects_some : (RejectsNext : ℕ → FormError → List ℕ → Type 0) (e : FormError) (bytes : List ℕ) → RejectsFrom RejectsNext e bytes
+pub from_rejects_some : (RejectsNext : ℕ → FormError → List ℕ → Type 0) (e : FormError) (bytes : List ℕ) → RejectsNumberThen RejectsNext e bytes
     → 0 < length bytes
 from_rejects_some RejectsNext e bytes (inl rejects) = number_rejects_some e bytes rejects
 from_rejects_some RejectsNext e bytes (inr (n, t)) = then_some (number_some n) bytes t
 
 pub from_not_both : (RejectsNext : ℕ → FormError → List ℕ → Type 0) (IsNext : List ℕ → Type 0) (n : ℕ) (e : FormError)
     → ((a b r s : List ℕ) → IsNext a → RejectsNext n e b → a ++ r ≡ b ++ s → ⊥)
-    → (a b r s : List ℕ) → Then (IsVarint n) IsNext a → RejectsFrom RejectsNext e b → a ++ r ≡ b ++ s → ⊥
+    → (a b r s : List ℕ) → Then (IsVarint n) IsNext a → RejectsNumberThen RejectsNext e b → a ++ r ≡ b ++ s → ⊥
 from_not_both RejectsNext IsNext n e next =
     turn_not_both IsVarint RejectsNumber RejectsNext (λ (m k : ℕ). m ≡ k) number_unique number_not_both IsNext n e
     (λ m same a b r s is rejects. next a b r s is (subst (λ (k : ℕ). RejectsNext k e b) (sym same) rejects))
 
 pub from_unique : (RejectsNext : ℕ → FormError → List ℕ → Type 0) (e f : FormError)
     → ((n : ℕ) (a b r s : List ℕ) → RejectsNext n e a → RejectsNext n f b → a ++ r ≡ b ++ s → (e ≡ f) × (r ≡ s))
-    → (a b r s : List ℕ) → RejectsFrom RejectsNext e a → RejectsFrom RejectsNext f b → a ++ r ≡ b ++ s → (e ≡ f) × (r ≡ s)
+    → (a b r s : List ℕ) → RejectsNumberThen RejectsNext e a → RejectsNumberThen RejectsNext f b → a ++ r ≡ b ++ s → (e ≡ f) × (r ≡ s)
 from_unique RejectsNext e f next =
     turn_unique IsVarint RejectsNumber RejectsNext (λ (m k : ℕ). m ≡ k) number_unique number_not_both e f (number_rejects_unique e f)
     (λ m n same a b r s x y. next n a b r s (subst (λ (k : ℕ). RejectsNext k e a) same x) y)
@@ -188,44 +188,44 @@ here_unique : (g e f : FormError) (a b r s : List ℕ) → e ≡ g → f ≡ g �
 here_unique g e f a b r s is also none empty cut =
     (is ∙ sym also, sym (ap (λ (l : List ℕ). l ++ r) none) ∙ cut ∙ ap (λ (l : List ℕ). l ++ s) empty)
 
-pub tag_not_both : (N : ℕ) (e : FormError) (a b r s : List ℕ) → IsVarint N a → RejectsFrom (IsOtherTag N) e b → a ++ r ≡ b ++ s → ⊥
+pub tag_not_both : (N : ℕ) (e : FormError) (a b r s : List ℕ) → IsVarint N a → RejectsNumberThen (RejectsOtherTag N) e b → a ++ r ≡ b ++ s → ⊥
 tag_not_both N e a b r s is =
-    from_not_both (IsOtherTag N) (λ c. c ≡ []) N e (λ c d p q _ rejects _. rejects.0 refl) a b r s
+    from_not_both (RejectsOtherTag N) (λ c. c ≡ []) N e (λ c d p q _ rejects _. rejects.0 refl) a b r s
     (record { first = a; second = []; is_first = is; is_second = refl; parts = sym (append-nil a) })
 
-pub tag_rejects_unique : (N : ℕ) (e f : FormError) (a b r s : List ℕ) → RejectsFrom (IsOtherTag N) e a → RejectsFrom (IsOtherTag N) f b
+pub tag_rejects_unique : (N : ℕ) (e f : FormError) (a b r s : List ℕ) → RejectsNumberThen (RejectsOtherTag N) e a → RejectsNumberThen (RejectsOtherTag N) f b
     → a ++ r ≡ b ++ s → (e ≡ f) × (r ≡ s)
-tag_rejects_unique N e f = from_unique (IsOtherTag N) e f
+tag_rejects_unique N e f = from_unique (RejectsOtherTag N) e f
     (λ n a b r s x y. here_unique (OtherTag n) e f a b r s x.1 y.1 x.2 y.2)
 
 pub block_not_both : (MAX n : ℕ) (block : List ℕ) → n ≡ length block → n ≤ MAX → (e : FormError) (a b r s : List ℕ) → IsFramed block a
-    → RejectsFrom (IsTooLong MAX) e b → a ++ r ≡ b ++ s → ⊥
+    → RejectsNumberThen (RejectsTooLong MAX) e b → a ++ r ≡ b ++ s → ⊥
 block_not_both MAX n block long within e a b r s is =
-    from_not_both (IsTooLong MAX) (λ c. c ≡ block) (length block) e (λ c d p q _ rejects _. omega (arith, rejects.0, long, within)) a b r s
+    from_not_both (RejectsTooLong MAX) (λ c. c ≡ block) (length block) e (λ c d p q _ rejects _. omega (arith, rejects.0, long, within)) a b r s
     (record { first = is.len; second = block; is_first = is.is_len; is_second = refl; parts = is.parts })
 
-pub block_rejects_unique : (MAX : ℕ) (e f : FormError) (a b r s : List ℕ) → RejectsFrom (IsTooLong MAX) e a → RejectsFrom (IsTooLong MAX) f b
+pub block_rejects_unique : (MAX : ℕ) (e f : FormError) (a b r s : List ℕ) → RejectsNumberThen (RejectsTooLong MAX) e a → RejectsNumberThen (RejectsTooLong MAX) f b
     → a ++ r ≡ b ++ s → (e ≡ f) × (r ≡ s)
-block_rejects_unique MAX e f = from_unique (IsTooLong MAX) e f
+block_rejects_unique MAX e f = from_unique (RejectsTooLong MAX) e f
     (λ n a b r s x y. here_unique (TooLong n) e f a b r s x.1 y.1 x.2 y.2)
 
 module _ {A : Type 0} (IsPart : A → List ℕ → Type 0) (Rejects : FormError → List ℕ → Type 0) (Same : A → A → Type 0)
     (unique : (x y : A) (a b r s : List ℕ) → IsPart x a → IsPart y b → a ++ r ≡ b ++ s → Same x y × (r ≡ s))
     (not_both : (x : A) (e : FormError) (a b r s : List ℕ) → IsPart x a → Rejects e b → a ++ r ≡ b ++ s → ⊥) (MAX : ℕ) where
   pub counted_not_both : (xs : List A) (n : ℕ) → n ≡ length xs → n ≤ MAX → (e : FormError) (a b r s : List ℕ)
-      → Then (IsVarint (length xs)) (AreParts IsPart xs) a → RejectsFrom (RejectsItems IsPart Rejects MAX) e b → a ++ r ≡ b ++ s → ⊥
-  counted_not_both xs n long within e = from_not_both (RejectsItems IsPart Rejects MAX) (AreParts IsPart xs) (length xs) e next
+      → Then (IsVarint (length xs)) (AreParts IsPart xs) a → RejectsNumberThen (RejectsCounted IsPart Rejects MAX) e b → a ++ r ≡ b ++ s → ⊥
+  counted_not_both xs n long within e = from_not_both (RejectsCounted IsPart Rejects MAX) (AreParts IsPart xs) (length xs) e next
     where
-      next : (a b r s : List ℕ) → AreParts IsPart xs a → RejectsItems IsPart Rejects MAX (length xs) e b → a ++ r ≡ b ++ s → ⊥
+      next : (a b r s : List ℕ) → AreParts IsPart xs a → RejectsCounted IsPart Rejects MAX (length xs) e b → a ++ r ≡ b ++ s → ⊥
       next a b r s are (inl over) cut = omega (arith, over.0, long, within)
       next a b r s are (inr item) cut = items_not_both IsPart Rejects Same unique not_both xs e a b r s are item.1 cut
 
   pub counted_rejects_unique : ((e f : FormError) (a b r s : List ℕ) → Rejects e a → Rejects f b → a ++ r ≡ b ++ s → (e ≡ f) × (r ≡ s))
-      → (e f : FormError) (a b r s : List ℕ) → RejectsFrom (RejectsItems IsPart Rejects MAX) e a
-      → RejectsFrom (RejectsItems IsPart Rejects MAX) f b → a ++ r ≡ b ++ s → (e ≡ f) × (r ≡ s)
-  counted_rejects_unique one e f = from_unique (RejectsItems IsPart Rejects MAX) e f next
+      → (e f : FormError) (a b r s : List ℕ) → RejectsNumberThen (RejectsCounted IsPart Rejects MAX) e a
+      → RejectsNumberThen (RejectsCounted IsPart Rejects MAX) f b → a ++ r ≡ b ++ s → (e ≡ f) × (r ≡ s)
+  counted_rejects_unique one e f = from_unique (RejectsCounted IsPart Rejects MAX) e f next
     where
-      next : (n : ℕ) (a b r s : List ℕ) → RejectsItems IsPart Rejects MAX n e a → RejectsItems IsPart Rejects MAX n f b → a ++ r ≡ b ++ s
+      next : (n : ℕ) (a b r s : List ℕ) → RejectsCounted IsPart Rejects MAX n e a → RejectsCounted IsPart Rejects MAX n f b → a ++ r ≡ b ++ s
           → (e ≡ f) × (r ≡ s)
       next n a b r s (inl x) (inl y) cut = here_unique (TooMany n) e f a b r s x.1 y.1 x.2 y.2 cut
       next n a b r s (inl x) (inr y) cut = absurd (omega (arith, x.0, y.0))
@@ -235,7 +235,7 @@ module _ {A : Type 0} (IsPart : A → List ℕ → Type 0) (Rejects : FormError 
 module _ {A B : Type 0} {M N : ℕ} (IsA : A → List ℕ → Type 0) (IsB : B → List ℕ → Type 0) (RejectsA RejectsB : FormError → List ℕ → Type 0) where
   pub one_of_not_both : ((x : A) (e : FormError) (a b r s : List ℕ) → IsA x a → RejectsA e b → a ++ r ≡ b ++ s → ⊥)
       → ((x : B) (e : FormError) (a b r s : List ℕ) → IsB x a → RejectsB e b → a ++ r ≡ b ++ s → ⊥)
-      → (x : OneOf A B M N) (e : FormError) (a b r s : List ℕ) → IsOneOf IsA IsB x a → RejectsFrom (RejectsCase RejectsA RejectsB M N) e b
+      → (x : OneOf A B M N) (e : FormError) (a b r s : List ℕ) → IsOneOf IsA IsB x a → RejectsNumberThen (RejectsCase RejectsA RejectsB M N) e b
       → a ++ r ≡ b ++ s → ⊥
   one_of_not_both one two (First x) e = from_not_both (RejectsCase RejectsA RejectsB M N) (IsA x.value) M e next
     where
@@ -253,8 +253,8 @@ module _ {A B : Type 0} {M N : ℕ} (IsA : A → List ℕ → Type 0) (IsB : B �
 pub one_of_rejects_unique : (M N : ℕ) (RejectsA RejectsB : FormError → List ℕ → Type 0)
     → ((e f : FormError) (a b r s : List ℕ) → RejectsA e a → RejectsA f b → a ++ r ≡ b ++ s → (e ≡ f) × (r ≡ s))
     → ((e f : FormError) (a b r s : List ℕ) → RejectsB e a → RejectsB f b → a ++ r ≡ b ++ s → (e ≡ f) × (r ≡ s))
-    → (e f : FormError) (a b r s : List ℕ) → RejectsFrom (RejectsCase RejectsA RejectsB M N) e a
-    → RejectsFrom (RejectsCase RejectsA RejectsB M N) f b → a ++ r ≡ b ++ s → (e ≡ f) × (r ≡ s)
+    → (e f : FormError) (a b r s : List ℕ) → RejectsNumberThen (RejectsCase RejectsA RejectsB M N) e a
+    → RejectsNumberThen (RejectsCase RejectsA RejectsB M N) f b → a ++ r ≡ b ++ s → (e ≡ f) × (r ≡ s)
 one_of_rejects_unique M N RejectsA RejectsB one two e f = from_unique (RejectsCase RejectsA RejectsB M N) e f next
   where
     next : (n : ℕ) (a b r s : List ℕ) → RejectsCase RejectsA RejectsB M N n e a → RejectsCase RejectsA RejectsB M N n f b → a ++ r ≡ b ++ s

@@ -12,6 +12,8 @@ use Rattle.form.specs.FormError.{IsFailed, IsTruncated}
 use Rattle.form.specs.declared.error.FormError.{FormError}
 use Rattle.form.specs.declared.error.FormError.TheVariants.{TooMany, TooLong, OtherTag, Trailing}
 
+-- ---- what is rejected
+
 -- P holds of the bytes, and of no strict prefix of them
 pub record IsShortest (P : List ℕ → Type 0) (bytes : List ℕ) : Type 0 where
   pub holds : P bytes
@@ -41,37 +43,45 @@ RejectsInTurn {A = A} IsFirst RejectsFirst RejectsNext e bytes =
     RejectsFirst e bytes ⊎ ((x : A) × Then (IsFirst x) (RejectsNext x e) bytes)
 
 -- a number is rejected, or what follows it, which may depend on it
-abbrev pub RejectsFrom : (ℕ → FormError → List ℕ → Type 0) → FormError → List ℕ → Type 0
-RejectsFrom = RejectsInTurn IsVarint RejectsNumber
+abbrev pub RejectsNumberThen : (ℕ → FormError → List ℕ → Type 0) → FormError → List ℕ → Type 0
+RejectsNumberThen = RejectsInTurn IsVarint RejectsNumber
+
+-- ---- items
 
 -- the bytes are parts of n items, one after another
 abbrev pub AreItems : {A : Type 0} → (A → List ℕ → Type 0) → ℕ → List A → List ℕ → Type 0
 AreItems IsPart n items bytes = (length items ≡ n) × AreParts IsPart items bytes
 
 -- one of n items is rejected: the first, or, after it, one of the others
-abbrev pub RejectsItem : {A E : Type 0} → (A → List ℕ → Type 0) → (E → List ℕ → Type 0) → ℕ → E → List ℕ → Type 0
+abbrev pub RejectsItem : {A E : Type 0} → (A → List ℕ → Type 0) → (E → List ℕ → Type 0) → ℕ → E → List ℕ
+    → Type 0
 RejectsItem IsPart Rejects zero e bytes = ⊥
 RejectsItem IsPart Rejects (suc n) e bytes =
     RejectsInTurn IsPart Rejects (λ _. RejectsItem IsPart Rejects n) e bytes
 
--- a number other than N is rejected as soon as it was read
-abbrev pub IsOtherTag : ℕ → ℕ → FormError → List ℕ → Type 0
-IsOtherTag N n e rest = (n ≢ N) × (e ≡ OtherTag n) × (rest ≡ [])
+-- ---- what is rejected after the varint of a number n: the error, and the bytes that follow the varint
 
--- a length above the limit is rejected as soon as it was read
-abbrev pub IsTooLong : ℕ → ℕ → FormError → List ℕ → Type 0
-IsTooLong MAX n e rest = (MAX < n) × (e ≡ TooLong n) × (rest ≡ [])
+-- a number other than N, which itself shows the error
+abbrev pub RejectsOtherTag : ℕ → ℕ → FormError → List ℕ → Type 0
+RejectsOtherTag N n e rest = (n ≢ N) × (e ≡ OtherTag n) × (rest ≡ [])
 
--- a number of items above the limit is rejected as soon as it was read, or one of the items is
-abbrev pub RejectsItems : {A : Type 0} → (A → List ℕ → Type 0) → (FormError → List ℕ → Type 0) → ℕ → ℕ → FormError
-    → List ℕ → Type 0
-RejectsItems IsPart Rejects MAX n e rest =
+-- a length above the limit, which itself shows the error
+abbrev pub RejectsTooLong : ℕ → ℕ → FormError → List ℕ → Type 0
+RejectsTooLong MAX n e rest = (MAX < n) × (e ≡ TooLong n) × (rest ≡ [])
+
+-- a number of items above the limit, which itself shows the error; otherwise one of the items
+abbrev pub RejectsCounted : {A : Type 0} → (A → List ℕ → Type 0) → (FormError → List ℕ → Type 0) → ℕ → ℕ
+    → FormError → List ℕ → Type 0
+RejectsCounted IsPart Rejects MAX n e rest =
     ((MAX < n) × (e ≡ TooMany n) × (rest ≡ [])) ⊎ ((n ≤ MAX) × RejectsItem IsPart Rejects n e rest)
 
--- a number that is neither tag is rejected as soon as it was read, or what follows the tag is
-abbrev pub RejectsCase : (First Second : FormError → List ℕ → Type 0) → (M N n : ℕ) → FormError → List ℕ → Type 0
+-- a number that is neither tag, which itself shows the error; otherwise what follows the tag
+abbrev pub RejectsCase : (First Second : FormError → List ℕ → Type 0) → (M N n : ℕ) → FormError → List ℕ
+    → Type 0
 RejectsCase First Second M N n e rest = ((n ≢ M) × (n ≢ N) × (e ≡ OtherTag n) × (rest ≡ []))
     ⊎ ((n ≡ M) × First e rest) ⊎ ((n ≢ M) × (n ≡ N) × Second e rest)
+
+-- ---- what reading consumed
 
 -- no prefix of the bytes is an encoding, and none is rejected
 pub record IsUndecided {A E : Type 0} (IsForm : A → List ℕ → Type 0) (Rejects : E → List ℕ → Type 0)
@@ -90,15 +100,15 @@ pub record StopsAt {A : Type 0} (IsForm : A → List ℕ → Type 0) (Rejects : 
       ⊎ (IsFailed IsTruncated e × IsUndecided IsForm Rejects input)
 
 -- reading failed with `e`: it is out of memory, or, if the input is known, `StopsAt` holds
-abbrev pub ReadStops : {A : Type 0} → (A → List ℕ → Type 0) → (FormError → List ℕ → Type 0) → ℕ → ℕ → FormError
-    → Option (List ℕ) → Option (List ℕ) → Type 0
+abbrev pub ReadStops : {A : Type 0} → (A → List ℕ → Type 0) → (FormError → List ℕ → Type 0) → ℕ → ℕ
+    → FormError → Option (List ℕ) → Option (List ℕ) → Type 0
 ReadStops IsForm Rejects before after e old new =
     IsFailed IsOutOfMemory e ⊎ IfSome old (λ input. StopsAt IsForm Rejects (before < after) e input new)
 
 -- The input shows `e`; or it is truncated; or an encoding that has bytes after it is at its front.
 -- The error of reading a value that is the whole of the input: out of memory, or one of these
-abbrev pub IsWholeError : {A : Type 0} → (A → List ℕ → Type 0) → (FormError → List ℕ → Type 0) → FormError → List ℕ
-    → Type 0
+abbrev pub IsWholeError : {A : Type 0} → (A → List ℕ → Type 0) → (FormError → List ℕ → Type 0) → FormError
+    → List ℕ → Type 0
 IsWholeError {A = A} IsForm Rejects e input = IsFailed IsOutOfMemory e
     ⊎ ((front : List ℕ) × (rest : List ℕ) × Rejects e front × (input ≡ front ++ rest))
     ⊎ (IsFailed IsTruncated e × IsUndecided IsForm Rejects input)

@@ -21,7 +21,8 @@ pub record AppendsValues {A : Type 0} (IsForm : A → List ℕ → Type 0) (befo
 
 -- values that are the same as these were appended to a list
 abbrev pub AppendsSame : {A : Type 0} → (A → A → Type 0) → List A → List A → List A → Type 0
-AppendsSame {A = A} Same xs before after = (values : List A) × (after ≡ before ++ values) × AreSame Same values xs
+AppendsSame {A = A} Same xs before after =
+    (values : List A) × (after ≡ before ++ values) × AreSame Same values xs
 
 -- n values were read and appended, or all that come before the end of the input, which are fewer
 pub record AppendsUpTo {A : Type 0} (IsForm : A → List ℕ → Type 0) (n : ℕ) (before after : List A)
@@ -31,8 +32,8 @@ pub record AppendsUpTo {A : Type 0} (IsForm : A → List ℕ → Type 0) (n : �
 
 -- fewer than n values were read and appended, and then reading failed with `e`
 pub record AppendsThenStops {A : Type 0} (IsForm : A → List ℕ → Type 0) (Rejects : FormError → List ℕ → Type 0)
-    (n : ℕ) (before after : List A) (failures_before failures_after : ℕ) (old new : Option (List ℕ)) (e : FormError)
-    : Type 0 where
+    (n : ℕ) (before after : List A) (failures_before failures_after : ℕ) (old new : Option (List ℕ))
+    (e : FormError) : Type 0 where
   pub following : Option (List ℕ)
   pub reads : AppendsValues IsForm before after old following
   pub fewer : length reads.values < n

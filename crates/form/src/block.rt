@@ -22,7 +22,7 @@ impl<const MAX: usize> Form for Block<MAX> {
     ghost use Rattle.frame.specs.Frame.{IsFramed};
     ghost use Rattle.form.specs.FormError.{IsFailed};
     ghost use Rattle.form.specs.declared.error.FormError.TheVariants.{TooLong};
-    ghost use Rattle.form.specs.Rejecting.{RejectsFrom, IsTooLong};
+    ghost use Rattle.form.specs.Rejecting.{RejectsNumberThen, RejectsTooLong};
     ghost use Rattle.form.specs.PartLaws.{block_exists, block_unique, block_one, block_some};
     ghost use Rattle.form.specs.RejectLaws.{block_not_both, block_rejects_unique, from_rejects_some};
 
@@ -33,7 +33,7 @@ impl<const MAX: usize> Form for Block<MAX> {
     ghost rejects_with = { λ e. IsFailed (λ r. IsAnyVarintError r ⊎ IsEof r ⊎ IsOutOfMemory r) e
         ⊎ ((n : ℕ) × (e ≡ TooLong n) × (MAX < n)) };
 
-    ghost rejects = { RejectsFrom (IsTooLong MAX) };
+    ghost rejects = { RejectsNumberThen (RejectsTooLong MAX) };
 
     fn write<W: Write>(&self, w: &mut W) -> Result<(), FormError> {
         frame::write(&self.bytes, w)?;
@@ -53,7 +53,7 @@ impl<const MAX: usize> Form for Block<MAX> {
 
     ghost rejects_unique = { block_rejects_unique MAX };
 
-    ghost rejects_some = { from_rejects_some (IsTooLong MAX) };
+    ghost rejects_some = { from_rejects_some (RejectsTooLong MAX) };
 
     ghost one = { λ x y. block_one x.bytes.items y.bytes.items };
 

@@ -31,7 +31,7 @@ impl<T: Form + Drop, const MAX: usize> Form for Counted<T, MAX> {
     ghost use Rattle.multihash.specs.Varint.{IsVarint};
     ghost use Rattle.multihash.specs.Refusal.{IsAnyVarintError};
     ghost use Rattle.form.specs.declared.error.FormError.TheVariants.{TooMany};
-    ghost use Rattle.form.specs.Rejecting.{RejectsFrom, RejectsItems};
+    ghost use Rattle.form.specs.Rejecting.{RejectsNumberThen, RejectsCounted};
     ghost use Rattle.form.specs.RejectLaws.{counted_not_both, counted_rejects_unique, from_rejects_some};
     ghost use Rattle.form.specs.PartLaws.{counted_exists, counted_unique, counted_one, counted_some};
 
@@ -42,7 +42,7 @@ impl<T: Form + Drop, const MAX: usize> Form for Counted<T, MAX> {
     ghost rejects_with = { λ e. T.rejects_with e ⊎ IsFailed (λ r. IsAnyVarintError r ⊎ IsOutOfMemory r) e
         ⊎ ((n : ℕ) × (e ≡ TooMany n) × (MAX < n)) };
 
-    ghost rejects = { RejectsFrom (RejectsItems T.is_form T.rejects MAX) };
+    ghost rejects = { RejectsNumberThen (RejectsCounted T.is_form T.rejects MAX) };
 
     fn write<W: Write>(&self, w: &mut W) -> Result<(), FormError> {
         varint::write(self.items.len() as u64, w)?;
@@ -68,7 +68,7 @@ impl<T: Form + Drop, const MAX: usize> Form for Counted<T, MAX> {
     ghost rejects_unique = { counted_rejects_unique T.is_form T.rejects T.same T.unique T.not_both MAX
         T.rejects_unique };
 
-    ghost rejects_some = { from_rejects_some (RejectsItems T.is_form T.rejects MAX) };
+    ghost rejects_some = { from_rejects_some (RejectsCounted T.is_form T.rejects MAX) };
 
     ghost one = { λ x y. counted_one T.is_form T.same T.one x.items.items y.items.items };
 

@@ -28,7 +28,7 @@ pub trait Form {
     // The errors of `read` if the reader does not fail.
     ghost rejects_with: { ReadError → Type 0 };
 
-    // The bytes, and no fewer, show that an input which starts with them has this error.
+    // An input that starts with the bytes has this error, and the last of them shows it.
     ghost rejects: { ReadError → List ℕ → Type 0 };
 
     /// Appends the encoding to `w`.
@@ -46,9 +46,11 @@ pub trait Form {
     ///
     /// # Errors
     ///
-    /// The reader's own error, or one of those in the description of the type. Exactly the bytes that show the error
-    /// were consumed then. If the input ends before that, the error is [`FormError::is_incomplete`], and some of the
-    /// bytes were consumed. If the encoding of a value comes next, out of memory is the only error.
+    /// The reader's own error, or one of those in the description of the type:
+    ///
+    /// - If the encoding of a value comes next, out of memory is the only one.
+    /// - If the input is malformed, it was consumed up to the byte that shows the error.
+    /// - If the input ends before that, [`FormError::is_incomplete`] or out of memory.
     fn read<R: Read>(alloc: Global, r: &mut R) -> Result<Self, FormError>
         ensures ok { IfOk result (λ x. ConsumesSome (is_form x) (R.rest r.old) (R.rest r.new)) }
         ensures faults { CountsReaderFailures (IsFailed IsReaderError) rejects_with
@@ -68,8 +70,8 @@ pub trait Form {
         a ++ r ≡ b ++ s → ⊥ };
 
     // An input has one error, shown at one place.
-    ghost rejects_unique: { (e f : ReadError) (a b r s : List ℕ) → rejects e a → rejects f b → a ++ r ≡ b ++ s →
-        (e ≡ f) × (r ≡ s) };
+    ghost rejects_unique: { (e f : ReadError) (a b r s : List ℕ) → rejects e a → rejects f b →
+        a ++ r ≡ b ++ s → (e ≡ f) × (r ≡ s) };
 
     // An input is not rejected before its first byte.
     ghost rejects_some: { (e : ReadError) (bytes : List ℕ) → rejects e bytes → 0 < length bytes };

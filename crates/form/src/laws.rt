@@ -20,8 +20,8 @@ pub fn prefix_free<T: Form>()
     ensures prefix { (x y : T) (a b : List ℕ) → T.is_form x a → T.is_form y b → ¬ (IsStrictPrefix a b) }
     ensures not_both { (x : T) (e : FormError) (a b r s : List ℕ) → T.is_form x a → T.rejects e b →
         a ++ r ≡ b ++ s → ⊥ }
-    ensures one_error { (e f : FormError) (a b r s : List ℕ) → T.rejects e a → T.rejects f b → a ++ r ≡ b ++ s →
-        (e ≡ f) × (r ≡ s) }
+    ensures one_error { (e f : FormError) (a b r s : List ℕ) → T.rejects e a → T.rejects f b →
+        a ++ r ≡ b ++ s → (e ≡ f) × (r ≡ s) }
     ensures some { (x : T) (bytes : List ℕ) → T.is_form x bytes → 0 < length bytes }
 {}
 

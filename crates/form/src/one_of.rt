@@ -23,7 +23,7 @@ impl<A: Form + Drop, B: Form + Drop, const M: u64, const N: u64> Form for OneOf<
     ghost use Rattle.multihash.specs.Refusal.{IsAnyVarintError};
     ghost use Rattle.form.specs.FormError.{IsFailed};
     ghost use Rattle.form.specs.declared.error.FormError.TheVariants.{OtherTag};
-    ghost use Rattle.form.specs.Rejecting.{RejectsFrom, RejectsCase};
+    ghost use Rattle.form.specs.Rejecting.{RejectsNumberThen, RejectsCase};
     ghost use Rattle.form.specs.RejectLaws.{one_of_not_both, one_of_rejects_unique, from_rejects_some};
     ghost use Rattle.form.specs.OneOf.{IsOneOf, AreSameCase, one_of_exists, one_of_unique, one_of_one, one_of_some};
 
@@ -34,7 +34,7 @@ impl<A: Form + Drop, B: Form + Drop, const M: u64, const N: u64> Form for OneOf<
     ghost rejects_with = { λ e. A.rejects_with e ⊎ B.rejects_with e ⊎ IsFailed IsAnyVarintError e
         ⊎ ((n : ℕ) × (e ≡ OtherTag n) × (n ≢ M) × (n ≢ N)) };
 
-    ghost rejects = { RejectsFrom (RejectsCase A.rejects B.rejects M N) };
+    ghost rejects = { RejectsNumberThen (RejectsCase A.rejects B.rejects M N) };
 
     fn write<W: Write>(&self, w: &mut W) -> Result<(), FormError> {
         match self {

@@ -10,7 +10,7 @@ ghost use Rattle.multihash.specs.Refusal.{IsAnyVarintError, IsEof, IsOutOfMemory
 ghost use Rattle.frame.specs.Frame.{IsFramed};
 ghost use Rattle.form.specs.Form.{Then, AreSame};
 ghost use Rattle.form.specs.FormError.{IsFailed};
-ghost use Rattle.form.specs.Rejecting.{RejectsNumber, RejectsMultihash, RejectsInTurn, RejectsFrom, IsOtherTag, IsTooLong, RejectsItems, RejectsCase};
+ghost use Rattle.form.specs.Rejecting.{RejectsNumber, RejectsMultihash, RejectsInTurn, RejectsNumberThen, RejectsOtherTag, RejectsTooLong, RejectsCounted, RejectsCase};
 ghost use Rattle.form.specs.declared.error.FormError.TheVariants.{TooMany, TooLong, OtherTag};
 ghost use Rattle.form.specs.declared.one_of.OneOf.TheVariants.{First, Second};
 
@@ -39,7 +39,7 @@ fn tags<const N: u64>(x: &Tag<N>, e: &FormError)
     ensures rejects_with { ⟦<Tag<N> as Form>⟧.rejects_with e.now → IsFailed IsAnyVarintError e.now
         ⊎ ((n : ℕ) × (e.now ≡ OtherTag n) × (n ≢ N)) }
     ensures rejects { (bytes : List ℕ) →
-        ⟦<Tag<N> as Form>⟧.rejects e.now bytes ↔ RejectsFrom (IsOtherTag N) e.now bytes }
+        ⟦<Tag<N> as Form>⟧.rejects e.now bytes ↔ RejectsNumberThen (RejectsOtherTag N) e.now bytes }
 {}
 
 fn arrays<const N: usize>(x: &Bytes<N>, y: &Bytes<N>, e: &FormError)
@@ -57,7 +57,7 @@ fn blocks<const MAX: usize>(x: &Block<MAX>, y: &Block<MAX>, e: &FormError)
         IsFailed (λ r. IsAnyVarintError r ⊎ IsEof r ⊎ IsOutOfMemory r) e.now
         ⊎ ((n : ℕ) × (e.now ≡ TooLong n) × (MAX < n)) }
     ensures rejects { (bytes : List ℕ) →
-        ⟦<Block<MAX> as Form>⟧.rejects e.now bytes ↔ RejectsFrom (IsTooLong MAX) e.now bytes }
+        ⟦<Block<MAX> as Form>⟧.rejects e.now bytes ↔ RejectsNumberThen (RejectsTooLong MAX) e.now bytes }
 {}
 
 fn lists<T: Form + Drop, const MAX: usize>(x: &Counted<T, MAX>, y: &Counted<T, MAX>, e: &FormError)
@@ -69,7 +69,7 @@ fn lists<T: Form + Drop, const MAX: usize>(x: &Counted<T, MAX>, y: &Counted<T, M
         ⊎ IsFailed (λ r. IsAnyVarintError r ⊎ IsOutOfMemory r) e.now
         ⊎ ((n : ℕ) × (e.now ≡ TooMany n) × (MAX < n)) }
     ensures rejects { (bytes : List ℕ) → ⟦<Counted<T, MAX> as Form>⟧.rejects e.now bytes
-        ↔ RejectsFrom (RejectsItems T.is_form T.rejects MAX) e.now bytes }
+        ↔ RejectsNumberThen (RejectsCounted T.is_form T.rejects MAX) e.now bytes }
 {}
 
 fn pairs<A: Form + Drop, B: Form>(x: &Both<A, B>, y: &Both<A, B>, e: &FormError)
@@ -100,5 +100,5 @@ fn choices<A: Form + Drop, B: Form + Drop, const M: u64, const N: u64>(
         A.rejects_with e.now ⊎ B.rejects_with e.now ⊎ IsFailed IsAnyVarintError e.now
         ⊎ ((n : ℕ) × (e.now ≡ OtherTag n) × (n ≢ M) × (n ≢ N)) }
     ensures rejects { (bytes : List ℕ) → ⟦<OneOf<A, B, M, N> as Form>⟧.rejects e.now bytes
-        ↔ RejectsFrom (RejectsCase A.rejects B.rejects M N) e.now bytes }
+        ↔ RejectsNumberThen (RejectsCase A.rejects B.rejects M N) e.now bytes }
 {}

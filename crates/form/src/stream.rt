@@ -74,7 +74,8 @@ impl<R: Read> Stream<R> {
             (R.failures self.old.inner) (R.failures self.new.inner) result }
         ensures err { IfErr result (λ e. ReadStops T.is_form T.rejects
             (R.failures self.old.inner) (R.failures self.new.inner) e
-            (rest_from self.old.ahead (R.rest self.old.inner)) (rest_from self.new.ahead (R.rest self.new.inner))) }
+            (rest_from self.old.ahead (R.rest self.old.inner))
+            (rest_from self.new.ahead (R.rest self.new.inner))) }
 
         // A value that comes next is found, and what follows it is left.
         ensures found { (x : T) (bytes more : List ℕ) → T.is_form x bytes →
@@ -109,10 +110,12 @@ impl<R: Read> Stream<R> {
         list: &mut Vec<T>,
     ) -> Result<(), FormError>
         ensures ok { OnOk result (AppendsUpTo T.is_form n list.old.items list.new.items
-            (rest_from self.old.ahead (R.rest self.old.inner)) (rest_from self.new.ahead (R.rest self.new.inner))) }
+            (rest_from self.old.ahead (R.rest self.old.inner))
+            (rest_from self.new.ahead (R.rest self.new.inner))) }
         ensures err { IfErr result (AppendsThenStops T.is_form T.rejects n list.old.items list.new.items
             (R.failures self.old.inner) (R.failures self.new.inner)
-            (rest_from self.old.ahead (R.rest self.old.inner)) (rest_from self.new.ahead (R.rest self.new.inner))) }
+            (rest_from self.old.ahead (R.rest self.old.inner))
+            (rest_from self.new.ahead (R.rest self.new.inner))) }
         ensures faults { CountsReaderFailures (IsFailed IsReaderError)
             (λ e. T.rejects_with e ⊎ IsFailed IsOutOfMemory e)
             (R.failures self.old.inner) (R.failures self.new.inner) result }
@@ -120,7 +123,8 @@ impl<R: Read> Stream<R> {
         // `n` values that come next, or fewer that are the rest of the input, are found, and what follows them is left.
         ensures found { (xs : List T) (bytes more : List ℕ) → AreParts T.is_form xs bytes →
             rest_from self.old.ahead (R.rest self.old.inner) ≡ Some (bytes ++ more) →
-            (length xs ≡ n) ⊎ ((length xs < n) × (more ≡ [])) → R.failures self.new.inner ≡ R.failures self.old.inner →
+            (length xs ≡ n) ⊎ ((length xs < n) × (more ≡ [])) →
+            R.failures self.new.inner ≡ R.failures self.old.inner →
             MatchResult result (λ _. AppendsSame T.same xs list.old.items list.new.items
             × (rest_from self.new.ahead (R.rest self.new.inner) ≡ Some more)) (IsFailed IsOutOfMemory) }
     {

@@ -32,8 +32,8 @@ pub fn read<T: Form, R: Read>(alloc: Global, r: &mut R) -> Result<T, FormError>
         R.rest r.old ≡ Some part → R.failures r.new ≡ R.failures r.old →
         IsErrAnd result (λ e. IsFailed IsTruncated e ⊎ IsFailed IsOutOfMemory e) }
     // If the input is rejected, the error is the one that it shows, and exactly the bytes that show it are consumed.
-    ensures rejected { (e : FormError) (front more : List ℕ) → T.rejects e front → R.rest r.old ≡ Some (front ++ more) →
-        R.failures r.new ≡ R.failures r.old →
+    ensures rejected { (e : FormError) (front more : List ℕ) → T.rejects e front →
+        R.rest r.old ≡ Some (front ++ more) → R.failures r.new ≡ R.failures r.old →
         IsErrAnd result (λ f. ((f ≡ e) × (R.rest r.new ≡ Some more)) ⊎ IsFailed IsOutOfMemory f) }
 {
     T::read(alloc, r)

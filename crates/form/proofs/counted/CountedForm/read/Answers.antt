@@ -3,7 +3,7 @@ use Rattle.multihash.specs.Varint.{IsVarint}
 use Rattle.multihash.specs.Streams.{AreParts}
 use Rattle.multihash.proofs.OutcomeLemmas.{passed_on}
 use Rattle.form.specs.Form.{Then}
-use Rattle.form.specs.Rejecting.{RejectsNumber, RejectsItem, RejectsItems, AreItems}
+use Rattle.form.specs.Rejecting.{RejectsNumber, RejectsItem, RejectsCounted, AreItems}
 use Rattle.form.specs.declared.error.FormError.{FormError}
 use Rattle.form.proofs.BothLemmas.{then_read}
 use Rattle.form.proofs.FormLemmas.{varint_stops}
@@ -19,7 +19,7 @@ split IsPart items x bytes t =
 
 -- a count within the limit is not rejected
 only_item : {A : Type 0} (IsPart : A → List ℕ → Type 0) (Rejects : FormError → List ℕ → Type 0) (MAX n : ℕ) → n ≤ MAX
-    → (e : FormError) (bytes : List ℕ) → RejectsItems IsPart Rejects MAX n e bytes → RejectsItem IsPart Rejects n e bytes
+    → (e : FormError) (bytes : List ℕ) → RejectsCounted IsPart Rejects MAX n e bytes → RejectsItem IsPart Rejects n e bytes
 only_item IsPart Rejects MAX n within e bytes (inl over) = absurd (omega (arith, over.0, within))
 only_item IsPart Rejects MAX n within e bytes (inr item) = item.1
 
@@ -27,12 +27,12 @@ pub returns-in_err-count-clause-err : goal.returns-in_err-count-clause-err
 returns-in_err-count-clause-err g c =
     let met = c.in_err-count.ensures in
     passed_on c.from_residual.result _ _ _ c.from_residual.ensures.1
-    (first_stops IsVarint RejectsNumber (RejectsItems g.T.Form.is_form g.T.Form.rejects g.row.MAX) (AreItems g.T.Form.is_form) _
+    (first_stops IsVarint RejectsNumber (RejectsCounted g.T.Form.is_form g.T.Form.rejects g.row.MAX) (AreItems g.T.Form.is_form) _
     (split g.T.Form.is_form (λ x. x.items.items)) _ _ _ _ _ (varint_stops _ _ _ _ _ met.faults met.err))
 
 pub returns-then-count-clause-err : goal.returns-then-count-clause-err
 returns-then-count-clause-err g c =
-    next_rejected IsVarint RejectsNumber (RejectsItems g.T.Form.is_form g.T.Form.rejects g.row.MAX) (AreItems g.T.Form.is_form) _
+    next_rejected IsVarint RejectsNumber (RejectsCounted g.T.Form.is_form g.T.Form.rejects g.row.MAX) (AreItems g.T.Form.is_form) _
     (split g.T.Form.is_form (λ x. x.items.items)) c.in_ok-count.count _ _ _ _ _ c.in_ok-count.ensures.ok
     (inl (omega (arith, c.if-count.true), refl, refl))
 
@@ -48,7 +48,7 @@ returns-in_err-items-clause-faults g c =
 pub returns-in_err-items-clause-err : goal.returns-in_err-items-clause-err
 returns-in_err-items-clause-err g c =
     passed_on c.from_residual-in_err-items.result _ _ _ c.from_residual-in_err-items.ensures.1
-    (from_stops (RejectsItems g.T.Form.is_form g.T.Form.rejects g.row.MAX) (AreItems g.T.Form.is_form) _
+    (from_stops (RejectsCounted g.T.Form.is_form g.T.Form.rejects g.row.MAX) (AreItems g.T.Form.is_form) _
     (split g.T.Form.is_form (λ x. x.items.items)) c.in_ok-count.count _ _ _ _ _ _ _ c.in_ok-count.ensures.faults c.in_ok-count.ensures.ok
     (stops_as _ _ _ _ (λ xs bytes are. (xs, are)) (λ e bytes item. inr (omega (arith, c.if-count.false), item))
     (only_item g.T.Form.is_form g.T.Form.rejects g.row.MAX c.in_ok-count.count (omega (arith, c.if-count.false))) _ _ _ _ _

@@ -2,7 +2,7 @@ use Rattle.std.proofs.Common.{◌≡◌, ℕ, List, [], refl, sym, append-nil, a
 use Rattle.multihash.specs.Varint.{IsVarint}
 use Rattle.multihash.proofs.OutcomeLemmas.{passed_on}
 use Rattle.form.specs.Form.{Then}
-use Rattle.form.specs.Rejecting.{RejectsNumber, IsOtherTag}
+use Rattle.form.specs.Rejecting.{RejectsNumber, RejectsOtherTag}
 use Rattle.form.proofs.FormLemmas.{varint_stops}
 use Rattle.form.proofs.StopLemmas.{first_stops, next_rejected}
 use Rattle.form.proofs.tag.TagForm.read.Goals as goal
@@ -18,10 +18,10 @@ pub returns-in_err-number-clause-err : goal.returns-in_err-number-clause-err
 returns-in_err-number-clause-err g c =
     let met = c.in_err-number.ensures in
     passed_on c.from_residual.result _ _ _ c.from_residual.ensures.1
-    (first_stops IsVarint RejectsNumber (IsOtherTag g.row.N) Nothing (λ _. IsVarint g.row.N) (split g.row.N) _ _ _ _ _
+    (first_stops IsVarint RejectsNumber (RejectsOtherTag g.row.N) Nothing (λ _. IsVarint g.row.N) (split g.row.N) _ _ _ _ _
     (varint_stops _ _ _ _ _ met.faults met.err))
 
 pub returns-then-number-clause-err : goal.returns-then-number-clause-err
 returns-then-number-clause-err g c =
-    next_rejected IsVarint RejectsNumber (IsOtherTag g.row.N) Nothing (λ _. IsVarint g.row.N) (split g.row.N) c.in_ok-number.number _ _ _ _ _
+    next_rejected IsVarint RejectsNumber (RejectsOtherTag g.row.N) Nothing (λ _. IsVarint g.row.N) (split g.row.N) c.in_ok-number.number _ _ _ _ _
     c.in_ok-number.ensures.ok (c.if-number.true, refl, refl)
