@@ -1,5 +1,6 @@
 #!/usr/bin/env python3
-"""Prints the names of hash functions, of hashes.tsv and codes.tsv of crates/vectors/data, as a file of a package.
+"""For `tools/generate names`: prints the names of hash functions, of hashes.tsv and codes.tsv of crates/vectors/data, as
+a file of a package.
 
     tools/hash_names.py codes.js | codes.d.ts | _codes.py
 """
