@@ -92,41 +92,35 @@ pub mod simd {
     }
 
     /// Whether all bytes of vectors that were compared are equal.
-    pub trait Mask {
-        fn all(self) -> bool;
-    }
-
-    impl Mask for bool {
+    pub trait Mask: Sized + Into<bool> {
         #[inline(always)]
         fn all(self) -> bool {
-            self
+            self.into()
         }
     }
+
+    impl Mask for bool {}
 }
 
 /// What slices have in newer Rust: `first_chunk` from 1.77 on, `as_array` from 1.93 on.
-pub trait Arrays {
-    fn as_array<const N: usize>(&self) -> Option<&[u8; N]>;
-    fn first_chunk<const N: usize>(&self) -> Option<&[u8; N]>;
-    fn first_chunk_mut<const N: usize>(&mut self) -> Option<&mut [u8; N]>;
-}
-
-impl Arrays for [u8] {
+pub trait Arrays: AsRef<[u8]> + AsMut<[u8]> {
     #[inline(always)]
     fn as_array<const N: usize>(&self) -> Option<&[u8; N]> {
-        self.try_into().ok()
+        self.as_ref().try_into().ok()
     }
 
     #[inline(always)]
     fn first_chunk<const N: usize>(&self) -> Option<&[u8; N]> {
-        self.get(..N)?.try_into().ok()
+        self.as_ref().get(..N)?.try_into().ok()
     }
 
     #[inline(always)]
     fn first_chunk_mut<const N: usize>(&mut self) -> Option<&mut [u8; N]> {
-        self.get_mut(..N)?.try_into().ok()
+        self.as_mut().get_mut(..N)?.try_into().ok()
     }
 }
+
+impl Arrays for [u8] {}
 
 pub mod itoa {
     pub struct Buffer([u8; 20]);
@@ -138,14 +132,12 @@ pub mod itoa {
 
         pub fn format(&mut self, mut number: u64) -> &str {
             let mut at = self.0.len();
-            loop {
+            while number > 0 || at == self.0.len() {
                 at -= 1;
                 self.0[at] = b'0' + (number % 10) as u8;
                 number /= 10;
-                if number == 0 {
-                    return core::str::from_utf8(&self.0[at..]).unwrap();
-                }
             }
+            core::str::from_utf8(&self.0[at..]).unwrap()
         }
     }
 }
