@@ -1,8 +1,7 @@
 #!/usr/bin/env bash
-# The source of the library for C, and the names of hash functions, are what tools/generate writes.
+# The generated files that need no kit are what tools/generate writes. The WebAssembly is compared by js.t.
 # shellcheck source=checks/lib/tap.sh
 . "$(dirname "$0")/lib/tap.sh"
 
-try "the C source" tools/generate --check c
-try "the names" tools/generate --check names
+for what in c rust contracts vectors names; do try "$what" tools/generate "$what" --check; done
 finish

@@ -86,8 +86,8 @@ test_browser() {
   needs=$tools try "the packed package's page in $name" packed_page "$name"
 }
 
-# shellcheck source=tools/makers
-. tools/makers
+# shellcheck source=tools/tool_versions
+. tools/tool_versions
 needs="rt wasm-opt=$binaryen wasm2wat=$wabt" try "the WebAssembly built anew" "$here/build.sh" --check
 needs=wasm-validate try "the WebAssembly for old engines" old_module
 needs="$node npm" try "in Node.js" npm_test "$here"

@@ -216,10 +216,11 @@ class Arguments(unittest.TestCase):
         for wrong, text in ((0, "^OK is the status of no error$"), (8, ""), (-1, "")):
             self.assertRaisesRegex(ValueError, text, MultihashError, wrong)
         large = MultihashError(5, 0, 10**4300)
-        text = "Invalid multihash code %s." % shown(large.code)  # of the C library
+        text = "the code is 2^63 or more (%s)" % shown(large.code)  # of the C library
         self.assertEqual(repr(large), "MultihashError(%r, 0, %s, 0, %r)" % (large.status, shown(large.code), text))
         made = [str(MultihashError(*numbers)) for numbers in ((1,), (4, 3), (4, 3, 0, 2, "own"))]
-        self.assertEqual(made, [vm._core.status_text(1), "Invalid multihash size 3.", "own"])
+        size = "the digest is too long, or bytes follow the multihash (3)"
+        self.assertEqual(made, [vm._core.status_text(1), size, "own"])
 
     def test_texts(self):
         for call, arguments, text in TEXTS:

@@ -1,84 +1,153 @@
 -- What `err` and `faults` of `read` state, from the contracts of the library's calls: for `read` of each part.
-use Rattle.std.proofs.Common.{◌≡◌, ℕ, ◌<◌, ◌≤◌, ◌⊎◌, inl, inr, List, [], ◌++◌, length, take, drop, Option, Some, refl, sym, ap, subst, ◌∙◌, append_assoc, append-nil, arith}
-use Rattle.std.specs.Prelude.{IfSome}
-use Rattle.std.proofs.lemmas.Bool.Decides.{leb_tells}
-use Rattle.std.proofs.lemmas.List.{take-append-drop, length-take-le}
+use Rattle.std.proofs.Common.{◌≡◌, ℕ, ◌<◌, ◌≤◌, ◌⊎◌, inl, inr, List, [], ◌++◌, length, length-append, Option, Some, refl, sym, ap, subst, ◌∙◌, append-nil, arith}
+use Rattle.std.specs.Prelude.{None, IfSome, Err}
+use Rattle.multihash.specs.Bytes.{IsPrefix, IsStrictPrefix}
 use Rattle.multihash.specs.Pair.{Pair, FitsBuffer}
-use Rattle.multihash.specs.Varint.{IsVarint}
+use Rattle.multihash.specs.Varint.{VarintError, insufficient, overflow, not_minimal, IsVarint, IsInsufficient, BeginsMalformed}
 use Rattle.multihash.specs.Encoding.{IsEncoding}
-use Rattle.multihash.specs.Verdict.{Verdict, HasVerdict}
+use Rattle.multihash.specs.Verdict.{Verdict, accepted, HasVerdict, IsIncomplete}
+use Rattle.multihash.specs.Settling.{Settles, IsShortestSettling}
 use Rattle.multihash.specs.Outcome.{IsErrorOf}
-use Rattle.multihash.specs.Refusal.{Refusal, IsReaderError, IsAnyVarintError, IsEof, IsOutOfMemory}
-use Rattle.multihash.proofs.EncodingLemmas.{same_cut}
-use Rattle.multihash.proofs.CallingLemmas.{encoding_no_error, encoding_truncated, number_found, number_truncated, exact_found, exact_truncated}
-use Rattle.multihash.specs.Consuming.{VarintFails, ExactFails, ConsumesSome}
-use Rattle.multihash.specs.Reading.{Consumes}
-use Rattle.multihash.proofs.ReadingLemmas.{Consumes-known}
-use Rattle.frame.specs.Frame.{IsFramed, FrameFails, MayFailWith, IsTruncatedOrMemory}
+use Rattle.multihash.specs.Refusal.{Refusal, of_varint, IsReaderError, IsAnyVarintError, IsVarintError, IsEof, IsOutOfMemory}
+use Rattle.multihash.specs.Multihash.{Fields, pair_of}
+use Rattle.multihash.proofs.EncodingLemmas.{digest_fits}
+use Rattle.multihash.proofs.VerdictLemmas.{verdict_unique}
+use Rattle.multihash.proofs.VarintLemmas.{number_no_error}
+use Rattle.multihash.proofs.SettlingLemmas.{late_settles, none_settles, incomplete_not_settles, verdict_kept}
+use Rattle.multihash.proofs.ReadConsumingLemmas.{incomplete_error}
+use Rattle.multihash.proofs.CallingLemmas.{front_error_unique, incomplete_or_not}
+use Rattle.multihash.specs.Consuming.{FailsBy, ExactFails, ReadFails, ConsumesAtVarintError, ConsumesVarint, ConsumesShortestSettling, ConsumesNothingSettling, EndsOrFails}
+use Rattle.multihash.proofs.ReadingLemmas.{all_read, Consumes-none}
+use Rattle.frame.specs.Frame.{IsFramed, FrameFails, BlockFails, MayFailWith}
 use Rattle.frame.specs.Frame.{IsFailed as IsFrameFailed}
 use Rattle.frame.specs.declared.error.FrameError.{FrameError}
-use Rattle.frame.proofs.FrameLemmas.{frame_found, frame_truncated}
-use Rattle.form.specs.Form.{FailsAt}
+use Rattle.form.specs.Form.{Then}
 use Rattle.form.specs.FormError.{IsFailed, IsTruncated, IsErrorOfFrame}
+use Rattle.form.specs.RejectLaws.{malformed_kept}
+use Rattle.form.specs.Rejecting.{ShowsMalformed, ShowsError, RejectsNumber, RejectsMultihash, RejectsNumberThen, RejectsTooLong, IsUndecided, StopsAt, ReadStops}
 use Rattle.form.specs.declared.error.FormError.{FormError}
 use Rattle.form.specs.declared.error.FormError.TheVariants.{Failed, TooLong}
+use Rattle.form.proofs.StopLemmas.{first_stops, next_rejected, from_stops}
 
--- one of two numbers is smaller, or not
-shorter : (m n : ℕ) → (m < n) ⊎ (n ≤ m)
-shorter m n = elim (leb_tells n m) [ inl t ↦ inr t.1 | inr f ↦ inl f.1 ]
+-- ---- numbers
 
--- the shorter of two lists at the start of one input is a prefix of the other
-front : (a b x y : List ℕ) → a ++ x ≡ b ++ y → length a ≤ length b → b ≡ a ++ drop (length a) b
-front a b x y cut long =
-    let head : List ℕ = take (length a) b in
-    let back : List ℕ = drop (length a) b in
-    let split : head ++ back ≡ b = take-append-drop (length a) b in
-    let joined : a ++ x ≡ head ++ (back ++ y) =
-    cut ∙ ap (λ (l : List ℕ). l ++ y) (sym split) ∙ append_assoc head back y in
-    let as_long : length a ≡ length head = sym (length-take-le (length a) b long) in
-    let is : a ≡ head = (same_cut a head x (back ++ y) as_long joined).0 in
-    sym split ∙ ap (λ (l : List ℕ). l ++ back) (sym is)
+-- an input that ends within a varint shows no error
+not_shown : (x : List ℕ) → IsInsufficient x → (e : Refusal) → ShowsMalformed e x → ⊥
+not_shown x ends e (error, named, whole, bad) =
+    let same : of_varint insufficient ≡ e = front_error_unique x (of_varint insufficient) e (insufficient, refl, ends) (error, named, bad) in
+    let both : of_varint insufficient ≡ of_varint error = same ∙ named in
+    whole (cc)
 
--- reading failed: from a lemma such as `number_found`, and one such as `number_truncated`
-pub fails_of : (IsForm : List ℕ → Type 0) (U M S : Type 0) (old : Option (List ℕ))
-    → ((bytes more : List ℕ) → U → IsForm bytes → old ≡ Some (bytes ++ more) → M)
-    → ((bytes part more : List ℕ) → U → IsForm bytes → bytes ≡ part ++ more → old ≡ Some part → M ⊎ S)
-    → FailsAt IsForm U M S old
-fails_of IsForm U M S old found truncated = record {
-  ends = λ bytes rest part more unfailed is cut at.
-      elim (shorter (length part) (length bytes)) [
-        | inl few ↦ short M S (length part < length bytes) few (truncated bytes part (drop (length part) bytes)
-            unfailed is (front part bytes more rest (sym cut) (omega (arith, few))) at)
-        | inr long ↦ inl (found bytes (drop (length bytes) part) unfailed is
-            (at ∙ ap Some (front bytes part rest more cut long)))
-      ];
-}
-  where
-    short : (M S L : Type 0) → L → M ⊎ S → M ⊎ (S × L)
-    short M S L few (inl memory) = inl memory
-    short M S L few (inr says) = inr (says, few)
-
--- another part was read than the one that is expected
-pub other_fails : (P R : List ℕ → Type 0) (U M S : Type 0) (old mid : Option (List ℕ))
-    → ((a b r s : List ℕ) → P a → R b → a ++ r ≡ b ++ s → ⊥) → ConsumesSome R old mid → FailsAt P U M S old
-other_fails P R U M S old mid other (c, is_c, consumes) = record {
-  ends = λ bytes rest part more unfailed is cut at.
-      let (left, _, split) = Consumes-known part c mid (subst (λ (o : Option (List ℕ)). Consumes o c mid) at consumes) in
-      absurd (other bytes c rest (left ++ more) is is_c
-      (cut ∙ ap (λ (l : List ℕ). l ++ more) split ∙ append_assoc c left more));
+insufficient_undecided : (x : List ℕ) → IsInsufficient x → IsUndecided IsVarint RejectsNumber x
+insufficient_undecided x ends = record {
+  no_form = λ n front rest cut is. number_no_error x n rest insufficient (front, is, cut) ends;
+  no_error = λ e front rest cut rejects. let (cause, _, shown) = rejects in
+      not_shown x ends cause (subst (ShowsMalformed cause) (sym cut) (malformed_kept cause front rest shown.holds));
 }
 
--- reading failed: the same of weaker facts
-pub fails_as : (IsForm : List ℕ → Type 0) (U V M N S T : Type 0) (old : Option (List ℕ)) → (V → U) → (M → N) → (S → T)
-    → FailsAt IsForm U M S old → FailsAt IsForm V N T old
-fails_as IsForm U V M N S T old u m t fails = record {
-  ends = λ bytes rest part more unfailed is cut at.
-      mapped M N S T (length part < length bytes) m t (fails.ends bytes rest part more (u unfailed) is cut at);
-}
-  where
-    mapped : (M N S T L : Type 0) → (M → N) → (S → T) → M ⊎ (S × L) → N ⊎ (T × L)
-    mapped M N S T L m t (inl memory) = inl (m memory)
-    mapped M N S T L m t (inr (short, few)) = inr (t short, few)
+-- a varint is malformed, and not only truncated
+rejects_malformed : (error : VarintError) (e : Refusal) (old new : Option (List ℕ)) (c : ConsumesAtVarintError e old new)
+    → IsVarintError error e → (error ≡ insufficient → ⊥) → RejectsNumber (Failed e) c.consumed
+rejects_malformed error e old new c named whole = (e, refl, record {
+  holds = (error, named, whole, c.shows error named);
+  shortest = λ shorter strict shown. not_shown shorter (c.no_sooner shorter strict) e shown;
+})
+
+-- `varint::read` failed
+pub varint_stops : (before after : ℕ) (e : Refusal) (old new : Option (List ℕ)) → FailsBy before after IsAnyVarintError e
+    → ConsumesAtVarintError e old new → ReadStops IsVarint RejectsNumber before after (Failed e) old new
+varint_stops before after e None new cause c = inr tt
+varint_stops before after e (Some input) new cause c = inr (record {
+  consumed = c.consumed;
+  consumes = c.consumes;
+  cause = elim cause [
+    | inl (up, own) ↦ inr (inl (up, insufficient_undecided c.consumed (c.failed own)))
+    | inr (same, (insufficient, named)) ↦ inr (inr ((e, refl, inl named),
+        insufficient_undecided input (subst IsInsufficient (sym (all_read input c.consumed new c.consumes (c.all named))) (c.shows insufficient named))))
+    | inr (same, (overflow, named)) ↦ inl (rejects_malformed overflow e (Some input) new c named (λ is. cc))
+    | inr (same, (not_minimal, named)) ↦ inl (rejects_malformed not_minimal e (Some input) new c named (λ is. cc))
+  ];
+})
+
+-- ---- multihashes
+
+module _ (S : ℕ) where
+  -- if no prefix settles a verdict, none decides
+  unsettled_undecided : (x : List ℕ) → ((front : List ℕ) → IsPrefix front x → ¬ (Settles S front))
+      → IsUndecided (λ (m : Fields S). IsEncoding (pair_of m)) (RejectsMultihash S) x
+  unsettled_undecided x none = record {
+    no_form = λ m front rest cut is. none front (rest, cut) (late_settles S front (accepted (pair_of m)) (λ h. h)
+        ([], record { encoding = front; encodes = is; cut = sym (append-nil front) }, digest_fits m));
+    no_error = λ e front rest cut rejects. let (_, _, shown) = rejects in
+        let (v, has, late, _) = shown.holds in none front (rest, cut) (late_settles S front v late has);
+  }
+
+  -- the shortest prefix that settles an error shows it
+  settled_shows : (input front : List ℕ) (e : Refusal) (v : Verdict) → HasVerdict S input v → ¬ (IsIncomplete v) → IsErrorOf e v
+      → IsShortestSettling S input front → RejectsMultihash S (Failed e) front
+  settled_shows input front e v has late names x =
+      let (rest, cut) = x.begins in
+      let own = subst (λ (z : List ℕ). HasVerdict S z x.settles.verdict) (append-nil front) (x.settles.always [] (λ k d few. absurd (omega (arith, few)))) in
+      let stays : ¬ (IsIncomplete x.settles.verdict) = λ soon. incomplete_not_settles S front x.settles.verdict soon own x.settles in
+      let same : x.settles.verdict ≡ v = verdict_unique S input x.settles.verdict v
+      (subst (λ (z : List ℕ). HasVerdict S z x.settles.verdict) (sym cut) (verdict_kept S front rest x.settles.verdict stays own)) has in
+      (e, refl, record {
+        holds = (v, subst (HasVerdict S front) same own, late, names);
+        shortest = λ shorter strict shown. let (w, also, whole, _) = shown in x.shortest shorter strict (late_settles S shorter w whole also);
+      })
+
+  -- `Multihash::read` failed
+  pub multihash_stops : (before after : ℕ) (e : Refusal) (old new : Option (List ℕ)) → ReadFails S before after e old new
+      → ReadStops (λ (m : Fields S). IsEncoding (pair_of m)) (RejectsMultihash S) before after (Failed e) old new
+  multihash_stops before after e None new r = inr tt
+  multihash_stops before after e (Some input) new r = inr (elim r.faults [
+    | inl (up, own) ↦ let none = r.unsettled (inl up) in record {
+        consumed = none.consumed;
+        consumes = none.consumes;
+        cause = inr (inl (up, unsettled_undecided none.consumed none.unsettled));
+      }
+    | inr (same, _) ↦ by_verdict (r.verdict same).0 (r.verdict same).1 (r.verdict same).2 (incomplete_or_not (r.verdict same).0) (r.settled same) r.unsettled
+  ])
+    where
+      by_verdict : (v : Verdict) → HasVerdict S input v → IsErrorOf e v → IsIncomplete v ⊎ (¬ (IsIncomplete v))
+          → ((w : Verdict) → HasVerdict S input w → ¬ (IsIncomplete w) → ConsumesShortestSettling S input new)
+          → (EndsOrFails S input before after → ConsumesNothingSettling S input new)
+          → StopsAt (λ (m : Fields S). IsEncoding (pair_of m)) (RejectsMultihash S) (before < after) (Failed e) input new
+      by_verdict v has names (inl ends) settled unsettled = let none = unsettled (inr (v, has, ends)) in record {
+        consumed = none.consumed;
+        consumes = none.consumes;
+        cause = inr (inr ((e, refl, incomplete_error e v names ends), unsettled_undecided input (none_settles S input v has ends)));
+      }
+      by_verdict v has names (inr late) settled unsettled = let found = settled v has late in record {
+        consumed = found.front;
+        consumes = found.consumes;
+        cause = inl (settled_shows input found.front e v has late names found.shortest);
+      }
+
+-- ---- bytes
+
+-- `read_exact` of `n` bytes failed, of a form that no fewer bytes decide
+pub exact_stops : {A : Type 0} (IsForm : A → List ℕ → Type 0) (Rejects : FormError → List ℕ → Type 0) (n before after : ℕ) (e : Refusal)
+    (old new : Option (List ℕ)) → ((x : List ℕ) → length x < n → IsUndecided IsForm Rejects x) → ExactFails n before after e old new
+    → ReadStops IsForm Rejects before after (Failed e) old new
+exact_stops IsForm Rejects n before after e None new undecided f = inr tt
+exact_stops IsForm Rejects n before after e (Some input) new undecided f = inr (record {
+  consumed = f.consumed.consumed;
+  consumes = f.consumed.consumes;
+  cause = elim f.cause [
+    | inl (up, own) ↦ inr (inl (up, undecided f.consumed.consumed f.consumed.fewer))
+    | inr (same, ends) ↦ inr (inr ((e, refl, inr ends), undecided input (f.short same)))
+  ];
+})
+
+-- no input decides
+pub undecided_stops : {A : Type 0} (IsForm : A → List ℕ → Type 0) (Rejects : FormError → List ℕ → Type 0) (before : ℕ) (e : FormError)
+    (old : Option (List ℕ)) → ((x : List ℕ) → IsUndecided IsForm Rejects x) → IsFailed IsTruncated e → ReadStops IsForm Rejects before before e old old
+undecided_stops IsForm Rejects before e None undecided ends = inr tt
+undecided_stops IsForm Rejects before e (Some input) undecided ends =
+    inr (record { consumed = []; consumes = Consumes-none (Some input); cause = inr (inr (ends, undecided input)) })
+
+-- ---- frames and faults
 
 -- the clause `faults`, of an error that `?` converts
 pub faults_as : (before after : ℕ) (Listed : Refusal → Type 0) (e : Refusal)
@@ -87,36 +156,6 @@ pub faults_as : (before after : ℕ) (Listed : Refusal → Type 0) (e : Refusal)
 faults_as before after Listed e (inl (up, own)) = inl (up, (e, refl, own))
 faults_as before after Listed e (inr (same, listed)) = inr (same, (e, refl, listed))
 
--- `Multihash::read` failed
-pub multihash_fails : (S : ℕ) (p : Pair) (U : Type 0) (e : Refusal) (old : Option (List ℕ)) → FitsBuffer S p
-    → IfSome old (λ rest. U → (v : Verdict) × HasVerdict S rest v × IsErrorOf e v)
-    → FailsAt (IsEncoding p) U ⊥ (IsTruncated e) old
-multihash_fails S p U e old fits verdict =
-    fails_of (IsEncoding p) U ⊥ (IsTruncated e) old
-    (λ bytes more same is at.
-    let (v, has, names) = (rw at at verdict) same in
-    encoding_no_error S p bytes more (bytes ++ more) v e is fits refl has names)
-    (λ bytes part more same is cut at.
-    let (v, has, names) = (rw at at verdict) same in
-    inr (encoding_truncated S p bytes [] part more v e is fits (sym cut ∙ sym (append-nil bytes)) has names))
-
--- `varint::read` failed
-pub varint_fails_at : (n before after : ℕ) (e : Refusal) (old new : Option (List ℕ)) → VarintFails before after e old new
-    → FailsAt (IsVarint n) (after ≡ before) ⊥ (IsTruncated e) old
-varint_fails_at n before after e old new fails =
-    fails_of (IsVarint n) (after ≡ before) ⊥ (IsTruncated e) old
-    (λ bytes more same is at. number_found before after same e n bytes more old new is at fails)
-    (λ bytes part more same is cut at. inr (inl (number_truncated before after same e n bytes [] part more new is
-    (append-nil bytes ∙ cut) (subst (λ (o : Option (List ℕ)). VarintFails before after e o new) at fails))))
-
--- `read_exact` failed
-pub exact_fails_at : (n before after : ℕ) (block : List ℕ) (e : Refusal) (old new : Option (List ℕ))
-    → ExactFails n before after e old new → length block ≡ n → FailsAt (λ bytes. bytes ≡ block) (after ≡ before) ⊥ (IsTruncated e) old
-exact_fails_at n before after block e old new fails long =
-    fails_of (λ bytes. bytes ≡ block) (after ≡ before) ⊥ (IsTruncated e) old
-    (λ bytes more same is at. exact_found before after same e n bytes more old new (omega (arith, ap length is, long)) at fails)
-    (λ bytes part more same is cut at. inr (inr (exact_truncated before after same e n old new fails)))
-
 -- the error of a frame, converted by `?`
 frame_failure : (P : Refusal → Type 0) (f : FrameError) (e : FormError) → IsErrorOfFrame f e → IsFrameFailed P f
     → IsFailed P e
@@ -124,21 +163,37 @@ frame_failure P f e passed (cause, is, holds) =
     (cause, subst (λ (x : FrameError). IsErrorOfFrame x e) is passed, holds)
 
 -- `frame::read` failed
-pub frame_fails_at : (block : List ℕ) (limit before after : ℕ) (f : FrameError) (e : FormError) (old new : Option (List ℕ))
-    → length block ≤ limit → IsErrorOfFrame f e → FrameFails limit before after f old new
-    → FailsAt (IsFramed block) (after ≡ before) (IsFailed IsOutOfMemory e) (IsFailed IsTruncated e) old
-frame_fails_at block limit before after f e old new within passed fails =
-    fails_of (IsFramed block) (after ≡ before) (IsFailed IsOutOfMemory e) (IsFailed IsTruncated e) old
-    (λ bytes more same is at. frame_failure IsOutOfMemory f e passed
-    (frame_found limit before after same f block bytes is within more old new at fails))
-    (λ bytes part more same is cut at. sorted e (frame_failure IsTruncatedOrMemory f e passed
-    (frame_truncated limit before after same f block bytes is within part more new cut
-    (subst (λ (o : Option (List ℕ)). FrameFails limit before after f o new) at fails))))
-  where
-    sorted : (e : FormError) → IsFailed IsTruncatedOrMemory e → IsFailed IsOutOfMemory e ⊎ IsFailed IsTruncated e
-    sorted e (cause, is, inl ends) = inr (cause, is, inl ends)
-    sorted e (cause, is, inr (inl eof)) = inr (cause, is, inr eof)
-    sorted e (cause, is, inr (inr memory)) = inl (cause, is, memory)
+module _ {A : Type 0} (IsForm : A → List ℕ → Type 0) (framed : (x : A) (bytes : List ℕ) → IsForm x bytes → (block : List ℕ) × IsFramed block bytes) (limit : ℕ) where
+  abbrev HasLength : ℕ → ℕ → List ℕ → Type 0
+  HasLength n z bytes = length bytes ≡ n
+
+  split : (x : A) (bytes : List ℕ) → IsForm x bytes → (n : ℕ) × (z : ℕ) × Then (IsVarint n) (HasLength n z) bytes
+  split x bytes is =
+      let (block, f) = framed x bytes is in
+      (length block, 0, record { first = f.len; second = block; is_first = f.is_len; is_second = refl; parts = f.parts })
+
+  undecided : (n : ℕ) → n ≤ limit → (x : List ℕ) → length x < n → IsUndecided (HasLength n) (RejectsTooLong limit n) x
+  undecided n within x few = record {
+    no_form = λ z front rest cut long. omega (arith, few, long, ap length cut, length-append front rest);
+    no_error = λ e front rest cut rejects. omega (arith, within, rejects.0);
+  }
+
+  pub frame_stops : (before after : ℕ) (f : FrameError) (e : FormError) (old new : Option (List ℕ)) → IsErrorOfFrame f e
+      → FrameFails limit before after f old new → ReadStops IsForm (RejectsNumberThen (RejectsTooLong limit)) before after e old new
+  frame_stops before after f e old new passed (inl (r, is, fails)) =
+      rw (subst (λ (x : FrameError). IsErrorOfFrame x e) is passed)
+      (first_stops IsVarint RejectsNumber (RejectsTooLong limit) HasLength IsForm split before after (Failed r) old new
+      (varint_stops before after r old new fails.cause fails.consumed))
+  frame_stops before after f e old new passed (inr (n, mid, number, inl (is, over, same, kept))) =
+      next_rejected IsVarint RejectsNumber (RejectsTooLong limit) HasLength IsForm split n before after e old new
+      (subst (λ (o : Option (List ℕ)). ConsumesVarint n old o) (sym kept) number)
+      (over, subst (λ (x : FrameError). IsErrorOfFrame x e) is passed, refl)
+  frame_stops before after f e old new passed (inr (n, mid, number, inr (within, inl (memory, _, _)))) =
+      inl (frame_failure IsOutOfMemory f e passed memory)
+  frame_stops before after f e old new passed (inr (n, mid, number, inr (within, inr (r, is, fails)))) =
+      from_stops (RejectsTooLong limit) HasLength IsForm split n before before after e old mid new refl number
+      (rw (subst (λ (x : FrameError). IsErrorOfFrame x e) is passed)
+      (exact_stops (HasLength n) (RejectsTooLong limit n) n before after r mid new (undecided n within) fails))
 
 -- the clause `faults` of `frame::read`, as that of `read` of a block
 pub block_faults : (limit before after : ℕ) (f : FrameError) (e : FormError) → IsErrorOfFrame f e

@@ -1,19 +1,22 @@
 -- What the definitions exclude.
-use Rattle.std.proofs.Common.{◌≡◌, ℕ, List, [], ◌∷◌, ◌++◌, Some, inl, inr, refl, ap, ◌∙◌, arith}
+use Rattle.std.proofs.Common.{◌≡◌, ℕ, List, [], ◌∷◌, ◌++◌, length, length-append, Some, inl, inr, refl, sym, ap, ◌∙◌, arith}
 use Rattle.std.specs.Prelude.{⊤, codes}
 use Rattle.std.specs.Fmt.{digits}
-use Rattle.multihash.specs.Refusal.{of_varint}
-use Rattle.multihash.specs.Varint.{overflow}
+use Rattle.multihash.specs.Refusal.{of_varint, of_size}
+use Rattle.multihash.specs.Varint.{insufficient, overflow, not_minimal}
+use Rattle.multihash.specs.Verdict.{accepted, invalid_size, invalid_code, malformed, unexpected_eof}
+use Rattle.multihash.proofs.ReadingLemmas.{all_read}
 use Rattle.frame.specs.declared.error.FrameError.TheVariants.{TooLong as FrameTooLong}
 use Rattle.form.specs.ByteCount.{HasCounted}
-use Rattle.form.specs.Form.{Then, AreSame, FailsAt}
+use Rattle.form.specs.Form.{Then, AreSame}
 use Rattle.form.specs.FormError.{IsFailed, IsTruncated, IsErrorOfFrame, form_error_text}
 use Rattle.form.specs.OneOf.{AreSameCase}
+use Rattle.form.specs.Rejecting.{IsShortest, ShowsMalformed, ShowsError, IsUndecided, StopsAt, IsWholeError}
 use Rattle.form.specs.Stream.{rest_from}
 use Rattle.form.specs.declared.byte_count.ByteCount.{ByteCount}
 use Rattle.form.specs.declared.case.Case.{Case}
 use Rattle.form.specs.declared.case.OtherCase.{OtherCase}
-use Rattle.form.specs.declared.error.FormError.TheVariants.{TooMany, TooLong, OtherTag, Trailing}
+use Rattle.form.specs.declared.error.FormError.TheVariants.{Failed, TooMany, TooLong, OtherTag, Trailing}
 use Rattle.form.specs.declared.one_of.OneOf.TheVariants.{First, Second}
 
 -- ---- parts
@@ -37,15 +40,57 @@ other_case M N x y same = same
 
 -- ---- errors
 
--- an encoding that comes next is read, or out of memory
-whole_is_read : (Truncated : Type 0) → ¬ (FailsAt (λ a. a ≡ 1 ∷ []) ⊤ ⊥ Truncated (Some (1 ∷ [])))
-whole_is_read Truncated fails =
-    elim (fails.ends (1 ∷ []) [] (1 ∷ []) [] tt refl refl refl) [ inl memory ↦ memory | inr few ↦ omega (arith, few.1) ]
+-- the empty list shows as much as one byte
+more_than_shortest : ¬ (IsShortest (λ _. ⊤) (1 ∷ []))
+more_than_shortest x = x.shortest [] (1 ∷ [], (λ none. cc), refl) tt
 
--- an input that ends within an encoding has no other error
-part_is_truncated : ¬ (FailsAt (λ a. a ≡ 1 ∷ 2 ∷ []) ⊤ ⊥ ⊥ (Some (1 ∷ [])))
-part_is_truncated fails =
-    elim (fails.ends (1 ∷ 2 ∷ []) [] (1 ∷ []) (2 ∷ []) tt refl refl refl) [ inl memory ↦ memory | inr few ↦ few.0 ]
+does_not_hold : ¬ (IsShortest (λ _. ⊥) [])
+does_not_hold x = x.holds
+
+-- a truncated varint shows no error
+truncated_number : ¬ (ShowsMalformed (of_varint insufficient) [])
+truncated_number (error, named, whole, _) = whole (cc)
+
+other_error : ¬ (ShowsMalformed (of_size 7) [])
+other_error (error, named, _, _) = cc
+
+not_malformed : ¬ (ShowsMalformed (of_varint overflow) [])
+not_malformed (insufficient, named, whole, bad) = whole refl
+not_malformed (overflow, named, whole, bad) = omega (arith, ap length bad.cut, length-append bad.front (bad.byte ∷ bad.rest))
+not_malformed (not_minimal, named, whole, bad) = cc
+
+-- nor does a truncated multihash
+truncated_multihash : (S : ℕ) → ¬ (ShowsError S (of_varint insufficient) [])
+truncated_multihash S (accepted p, has, late, names) = names
+truncated_multihash S (invalid_size size, has, late, names) = cc
+truncated_multihash S (invalid_code code, has, late, names) = has
+truncated_multihash S (malformed insufficient, has, late, names) = late tt
+truncated_multihash S (malformed overflow, has, late, names) = cc
+truncated_multihash S (malformed not_minimal, has, late, names) = cc
+truncated_multihash S (unexpected_eof, has, late, names) = late tt
+
+-- an encoding at the front decides
+starts_with_form : ¬ (IsUndecided (λ (x : ℕ) b. b ≡ 1 ∷ []) (λ (e : ℕ) b. ⊥) (1 ∷ 2 ∷ []))
+starts_with_form u = u.no_form 0 (1 ∷ []) (2 ∷ []) refl refl
+
+starts_with_rejected : ¬ (IsUndecided (λ (x : ℕ) b. ⊥) (λ (e : ℕ) b. b ≡ 1 ∷ []) (1 ∷ 2 ∷ []))
+starts_with_rejected u = u.no_error 0 (1 ∷ []) (2 ∷ []) refl refl
+
+-- the reader fails only before anything was decided
+failed_later : ¬ (StopsAt (λ (x : ℕ) b. b ≡ 1 ∷ []) (λ e b. ⊥) ⊤ (TooMany 7) (1 ∷ []) (Some []))
+failed_later s = let cut : 1 ∷ [] ≡ s.consumed = all_read (1 ∷ []) s.consumed (Some []) s.consumes refl in
+    elim s.cause [
+      | inl rejects ↦ rejects
+      | inr (inl (_, u)) ↦ u.no_form 0 (1 ∷ []) [] (sym cut) refl
+      | inr (inr (_, u)) ↦ u.no_form 0 (1 ∷ []) [] refl refl
+    ]
+
+-- an input that starts with an encoding is not truncated
+whole_is_not_truncated : ¬ (IsWholeError (λ (x : ℕ) b. b ≡ 1 ∷ []) (λ e b. ⊥) (Failed (of_varint insufficient)) (1 ∷ []))
+whole_is_not_truncated (inl (cause, is, memory)) = cc
+whole_is_not_truncated (inr (inl rejected)) = rejected.2
+whole_is_not_truncated (inr (inr (inl (_, u)))) = u.no_form 0 (1 ∷ []) [] refl refl
+whole_is_not_truncated (inr (inr (inr more))) = let is = more.6 in cc
 
 too_many_is_not_failed : (n : ℕ) → ¬ (IsFailed (λ _. ⊤) (TooMany n))
 too_many_is_not_failed n (error, is, _) = cc

@@ -2,5 +2,5 @@ pub mod BothLemmas
 pub mod CountedLemmas
 pub mod FormLemmas
 mod FormVectors
-pub mod OneOfLemmas
+pub mod StopLemmas
 pub mod WholeLemmas

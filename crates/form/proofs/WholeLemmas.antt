@@ -6,45 +6,95 @@ use Rattle.multihash.specs.Bytes.{IsStrictPrefix}
 use Rattle.multihash.specs.Reading.{Consumes, CountsReaderFailures}
 use Rattle.multihash.specs.Consuming.{ConsumesSome}
 use Rattle.multihash.proofs.ReadingLemmas.{Consumes-known}
-use Rattle.form.specs.Form.{FailsAt}
+use Rattle.multihash.specs.Refusal.{IsOutOfMemory}
+use Rattle.form.specs.FormError.{IsFailed, IsTruncated}
+use Rattle.form.specs.Rejecting.{StopsAt, ReadStops, IsWholeError}
+use Rattle.form.specs.declared.error.FormError.{FormError}
 
-module _ {A E : Type 0} (IsForm : A → List ℕ → Type 0) (Same : A → A → Type 0) (U : Type 0) (IsMemory IsShort : E → Type 0) where
-  module _ (unique : (x y : A) (a b r s : List ℕ) → IsForm x a → IsForm y b → a ++ r ≡ b ++ s → Same x y × (r ≡ s)) where
-    -- the clause `found`
-    pub form_found : (old new : Option (List ℕ)) (r : Result A E) → IfOk r (λ x. ConsumesSome (IsForm x) old new)
-        → IfErr r (λ e. (x : A) → FailsAt (IsForm x) U (IsMemory e) (IsShort e) old) → (x : A) (bytes more : List ℕ)
-        → IsForm x bytes → old ≡ Some (bytes ++ more) → U → MatchResult r (λ y. Same y x × (new ≡ Some more)) IsMemory
-    form_found old new (Ok y) (c, is_c, consumes) err x bytes more is at unfailed =
-        let (left, is_left, split) = Consumes-known (bytes ++ more) c new
-        (subst (λ (o : Option (List ℕ)). Consumes o c new) at consumes) in
-        let told = unique y x c bytes left more is_c is (sym split) in
-        (told.0, is_left ∙ ap Some told.1)
-    form_found old new (Err e) ok err x bytes more is at unfailed =
-        elim ((err x).ends bytes more (bytes ++ more) [] unfailed is (sym (append-nil (bytes ++ more))) at) [
-          | inl memory ↦ memory
-          | inr short ↦ absurd (omega (arith, short.1, length-append bytes more))
-        ]
+-- a part of some bytes, and what follows it in them
+longer : (part c left bytes more : List ℕ) → part ≡ c ++ left → bytes ≡ part ++ more → c ++ (left ++ more) ≡ bytes ++ []
+longer part c left bytes more split cut =
+    sym (append_assoc c left more) ∙ ap (λ (l : List ℕ). l ++ more) (sym split) ∙ sym cut ∙ sym (append-nil bytes)
 
-    -- the clause `truncated`
-    pub form_truncated : (old new : Option (List ℕ)) (r : Result A E) → IfOk r (λ x. ConsumesSome (IsForm x) old new)
-        → IfErr r (λ e. (x : A) → FailsAt (IsForm x) U (IsMemory e) (IsShort e) old) → (x : A) (bytes part : List ℕ)
-        → IsForm x bytes → IsStrictPrefix part bytes → old ≡ Some part → U → IsErrAnd r (λ e. IsShort e ⊎ IsMemory e)
-    form_truncated old new (Ok y) (c, is_c, consumes) err x bytes part is (more, some, cut) at unfailed =
-        let (left, is_left, split) = Consumes-known part c new
-        (subst (λ (o : Option (List ℕ)). Consumes o c new) at consumes) in
-        let joined : c ++ (left ++ more) ≡ bytes ++ [] =
-        sym (append_assoc c left more) ∙ ap (λ (l : List ℕ). l ++ more) (sym split) ∙ sym cut ∙ sym (append-nil bytes) in
-        let told = unique y x c bytes (left ++ more) [] is_c is joined in
-        absurd (some (no_bytes left more told.1))
-      where
-        no_bytes : (a b : List ℕ) → a ++ b ≡ [] → b ≡ []
-        no_bytes [] b none = none
-        no_bytes (y ∷ a) b none = cc
-    form_truncated old new (Err e) ok err x bytes part is (more, some, cut) at unfailed =
-        elim ((err x).ends bytes [] part more unfailed is (append-nil bytes ∙ cut) at) [
-          | inl memory ↦ inr memory
-          | inr short ↦ inl short.0
-        ]
+module _ {A : Type 0} (IsForm : A → List ℕ → Type 0) (Rejects : FormError → List ℕ → Type 0) (Same : A → A → Type 0)
+    (unique : (x y : A) (a b r s : List ℕ) → IsForm x a → IsForm y b → a ++ r ≡ b ++ s → Same x y × (r ≡ s))
+    (not_both : (x : A) (e : FormError) (a b r s : List ℕ) → IsForm x a → Rejects e b → a ++ r ≡ b ++ s → ⊥)
+    (before after : ℕ) (same : after ≡ before) (old new : Option (List ℕ)) where
+  -- the clause `found`
+  pub form_found : (r : Result A FormError) → IfOk r (λ x. ConsumesSome (IsForm x) old new)
+      → IfErr r (λ e. ReadStops IsForm Rejects before after e old new) → (x : A) (bytes more : List ℕ) → IsForm x bytes
+      → old ≡ Some (bytes ++ more) → MatchResult r (λ y. Same y x × (new ≡ Some more)) (IsFailed IsOutOfMemory)
+  form_found (Ok y) (c, is_c, consumes) err x bytes more is at =
+      let (left, is_left, split) = Consumes-known (bytes ++ more) c new
+      (subst (λ (o : Option (List ℕ)). Consumes o c new) at consumes) in
+      let told = unique y x c bytes left more is_c is (sym split) in
+      (told.0, is_left ∙ ap Some told.1)
+  form_found (Err e) ok (inl memory) x bytes more is at = memory
+  form_found (Err e) ok (inr stops) x bytes more is at =
+      let s : StopsAt IsForm Rejects (before < after) e (bytes ++ more) new = rw at at stops in
+      elim s.cause [
+        | inl rejects ↦
+            let (left, _, split) = Consumes-known (bytes ++ more) s.consumed new s.consumes in
+            absurd (not_both x e bytes s.consumed more left is rejects split)
+        | inr (inl (failed, _)) ↦ absurd (omega (arith, failed, same))
+        | inr (inr (_, u)) ↦ absurd (u.no_form x bytes more refl is)
+      ]
+
+  -- the clause `truncated`
+  pub form_truncated : (r : Result A FormError) → IfOk r (λ x. ConsumesSome (IsForm x) old new)
+      → IfErr r (λ e. ReadStops IsForm Rejects before after e old new) → (x : A) (bytes part : List ℕ) → IsForm x bytes
+      → IsStrictPrefix part bytes → old ≡ Some part → IsErrAnd r (λ e. IsFailed IsTruncated e ⊎ IsFailed IsOutOfMemory e)
+  form_truncated (Ok y) (c, is_c, consumes) err x bytes part is (more, some, cut) at =
+      let (left, is_left, split) = Consumes-known part c new
+      (subst (λ (o : Option (List ℕ)). Consumes o c new) at consumes) in
+      let told = unique y x c bytes (left ++ more) [] is_c is (longer part c left bytes more split cut) in
+      absurd (some (no_bytes left more told.1))
+    where
+      no_bytes : (a b : List ℕ) → a ++ b ≡ [] → b ≡ []
+      no_bytes [] b none = none
+      no_bytes (y ∷ a) b none = cc
+  form_truncated (Err e) ok (inl memory) x bytes part is strict at = inr memory
+  form_truncated (Err e) ok (inr stops) x bytes part is (more, some, cut) at =
+      let s : StopsAt IsForm Rejects (before < after) e part new = rw at at stops in
+      elim s.cause [
+        | inl rejects ↦
+            let (left, _, split) = Consumes-known part s.consumed new s.consumes in
+            absurd (not_both x e bytes s.consumed [] (left ++ more) is rejects (sym (longer part s.consumed left bytes more split cut)))
+        | inr (inl (failed, _)) ↦ absurd (omega (arith, failed, same))
+        | inr (inr (ends, _)) ↦ inl ends
+      ]
+
+  -- the clause `rejected`
+  pub form_rejected : ((e f : FormError) (a b r s : List ℕ) → Rejects e a → Rejects f b → a ++ r ≡ b ++ s → (e ≡ f) × (r ≡ s))
+      → (r : Result A FormError) → IfOk r (λ x. ConsumesSome (IsForm x) old new)
+      → IfErr r (λ e. ReadStops IsForm Rejects before after e old new) → (e : FormError) (front more : List ℕ) → Rejects e front
+      → old ≡ Some (front ++ more) → IsErrAnd r (λ f. ((f ≡ e) × (new ≡ Some more)) ⊎ IsFailed IsOutOfMemory f)
+  form_rejected once (Ok y) (c, is_c, consumes) err e front more rejects at =
+      let (left, _, split) = Consumes-known (front ++ more) c new
+      (subst (λ (o : Option (List ℕ)). Consumes o c new) at consumes) in
+      not_both y e c front left more is_c rejects (sym split)
+  form_rejected once (Err f) ok (inl memory) e front more rejects at = inr memory
+  form_rejected once (Err f) ok (inr stops) e front more rejects at =
+      let s : StopsAt IsForm Rejects (before < after) f (front ++ more) new = rw at at stops in
+      elim s.cause [
+        | inl also ↦
+            let (left, is_left, split) = Consumes-known (front ++ more) s.consumed new s.consumes in
+            let told = once f e s.consumed front left more also rejects (sym split) in
+            inl (told.0, is_left ∙ ap Some told.1)
+        | inr (inl (failed, _)) ↦ absurd (omega (arith, failed, same))
+        | inr (inr (_, u)) ↦ absurd (u.no_error e front more refl rejects)
+      ]
+
+-- the clause `err` of `from_bytes`, from that of `read`
+pub whole_error : {A : Type 0} (IsForm : A → List ℕ → Type 0) (Rejects : FormError → List ℕ → Type 0) (before after : ℕ) → after ≡ before
+    → (e : FormError) (input : List ℕ) (new : Option (List ℕ)) → ReadStops IsForm Rejects before after e (Some input) new
+    → IsWholeError IsForm Rejects e input
+whole_error IsForm Rejects before after same e input new (inl memory) = inl memory
+whole_error IsForm Rejects before after same e input new (inr s) = elim s.cause [
+  | inl rejects ↦ let (left, _, cut) = Consumes-known input s.consumed new s.consumes in inr (inl (s.consumed, left, rejects, cut))
+  | inr (inl (failed, _)) ↦ absurd (omega (arith, failed, same))
+  | inr (inr ends) ↦ inr (inr (inl ends))
+]
 
 -- the clause `back` of `through`, if the value was written: W is how the writer may fail
 pub read_back : {A E : Type 0} (IsMemory Own Listed W : E → Type 0) (Found : A → Type 0) (before after : ℕ) (r : Result A E)

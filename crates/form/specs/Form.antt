@@ -1,5 +1,5 @@
 -- What the clauses of a form state.
-use Rattle.std.specs.Prelude.{◌≡◌, ◌<◌, ◌⊎◌, ⊤, ℕ, List, [], ◌∷◌, ◌++◌, length, Option, Some}
+use Rattle.std.specs.Prelude.{◌≡◌, ⊤, ℕ, List, [], ◌∷◌, ◌++◌}
 use Rattle.multihash.specs.Writing.{AppendsPrefix}
 
 -- the bytes are one part, followed by the other
@@ -24,9 +24,3 @@ AppendsSome appended P old new = (bytes : List ℕ) × P bytes × appended old b
 -- a strict prefix of bytes of which P holds has been appended
 abbrev pub AppendsPrefixOfSome : {W : Type 0} → (W → List ℕ → W → Type 0) → (List ℕ → Type 0) → W → W → Type 0
 AppendsPrefixOfSome appended P old new = (bytes : List ℕ) × P bytes × AppendsPrefix appended old bytes new
-
--- The known input starts with the encoding, or is a prefix of it, and the reader did not fail.
--- Reading failed: it is out of memory, or the error states that the input is truncated, and it is
-pub record FailsAt (IsForm : List ℕ → Type 0) (Unfailed Memory Truncated : Type 0) (old : Option (List ℕ)) : Type 0 where
-  pub ends : (bytes rest part more : List ℕ) → Unfailed → IsForm bytes → bytes ++ rest ≡ part ++ more
-      → old ≡ Some part → Memory ⊎ (Truncated × (length part < length bytes))

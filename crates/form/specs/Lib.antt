@@ -4,4 +4,6 @@ pub mod FormError
 pub mod FormLaws
 pub mod OneOf
 pub mod PartLaws
+pub mod RejectLaws
+pub mod Rejecting
 pub mod Stream

@@ -27,6 +27,8 @@ impl<const N: usize> Form for Bytes<N> {
 
     ghost rejects_with = { IsFailed IsEof };
 
+    ghost rejects = { λ _ _. ⊥ };
+
     fn write<W: Write>(&self, w: &mut W) -> Result<(), FormError> {
         w.write_all(&self.bytes)?;
         Ok(())
@@ -44,6 +46,12 @@ impl<const N: usize> Form for Bytes<N> {
     ghost exists = { λ x. array_exists x.bytes };
 
     ghost unique = { λ x y. array_unique N x.bytes y.bytes x.size y.size };
+
+    ghost not_both = { λ _ _ _ _ _ _ _ rejects _. rejects };
+
+    ghost rejects_unique = { λ _ _ _ _ _ _ rejects _ _. absurd rejects };
+
+    ghost rejects_some = { λ _ _ rejects. absurd rejects };
 
     ghost one = { λ x y. array_one x.bytes y.bytes };
 

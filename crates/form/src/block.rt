@@ -22,7 +22,9 @@ impl<const MAX: usize> Form for Block<MAX> {
     ghost use Rattle.frame.specs.Frame.{IsFramed};
     ghost use Rattle.form.specs.FormError.{IsFailed};
     ghost use Rattle.form.specs.declared.error.FormError.TheVariants.{TooLong};
+    ghost use Rattle.form.specs.Rejecting.{RejectsNumberThen, RejectsTooLong};
     ghost use Rattle.form.specs.PartLaws.{block_exists, block_unique, block_one, block_some};
+    ghost use Rattle.form.specs.RejectLaws.{block_not_both, block_rejects_unique, from_rejects_some};
 
     ghost is_form = { λ x. IsFramed x.bytes.items };
 
@@ -30,6 +32,8 @@ impl<const MAX: usize> Form for Block<MAX> {
 
     ghost rejects_with = { λ e. IsFailed (λ r. IsAnyVarintError r ⊎ IsEof r ⊎ IsOutOfMemory r) e
         ⊎ ((n : ℕ) × (e ≡ TooLong n) × (MAX < n)) };
+
+    ghost rejects = { RejectsNumberThen (RejectsTooLong MAX) };
 
     fn write<W: Write>(&self, w: &mut W) -> Result<(), FormError> {
         frame::write(&self.bytes, w)?;
@@ -44,6 +48,12 @@ impl<const MAX: usize> Form for Block<MAX> {
     ghost exists = { λ x. block_exists x.bytes.items (vec_len x.bytes) x.bytes.ok.0 x.in_range };
 
     ghost unique = { λ x y. block_unique x.bytes.items y.bytes.items };
+
+    ghost not_both = { λ x. block_not_both MAX (vec_len x.bytes) x.bytes.items x.bytes.ok.0 x.within };
+
+    ghost rejects_unique = { block_rejects_unique MAX };
+
+    ghost rejects_some = { from_rejects_some (RejectsTooLong MAX) };
 
     ghost one = { λ x y. block_one x.bytes.items y.bytes.items };
 

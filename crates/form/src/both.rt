@@ -22,12 +22,16 @@ pub struct Both<A, B> {
 
 impl<A: Form + Drop, B: Form> Form for Both<A, B> {
     ghost use Rattle.form.specs.FormLaws.{then_exists, then_unique, then_one, then_some};
+    ghost use Rattle.form.specs.Rejecting.{RejectsInTurn};
+    ghost use Rattle.form.specs.RejectLaws.{turn_not_both, turn_unique, turn_rejects_some};
 
     ghost is_form = { λ x. Then (A.is_form x.first) (B.is_form x.second) };
 
     ghost same = { λ x y. A.same x.first y.first × B.same x.second y.second };
 
     ghost rejects_with = { λ e. A.rejects_with e ⊎ B.rejects_with e };
+
+    ghost rejects = { RejectsInTurn A.is_form A.rejects (λ _. B.rejects) };
 
     fn write<W: Write>(&self, w: &mut W) -> Result<(), FormError> {
         write_two(&self.first, &self.second, w)
@@ -42,6 +46,16 @@ impl<A: Form + Drop, B: Form> Form for Both<A, B> {
     ghost exists = { λ x. then_exists (A.exists x.first) (B.exists x.second) };
 
     ghost unique = { λ x y. then_unique _ _ (A.unique x.first y.first) (λ _. B.unique x.second y.second) };
+
+    ghost not_both = { λ x e. turn_not_both A.is_form A.rejects (λ _. B.rejects) A.same A.unique A.not_both
+        (B.is_form x.second) x.first e (λ _ _. B.not_both x.second e) };
+
+    ghost rejects_unique = { λ e f. turn_unique A.is_form A.rejects (λ _. B.rejects) A.same A.unique A.not_both e f
+        (A.rejects_unique e f) (λ _ _ _. B.rejects_unique e f) };
+
+    ghost rejects_some = {
+        turn_rejects_some A.is_form A.rejects (λ _. B.rejects) A.same A.unique A.not_both A.some A.rejects_some
+    };
 
     ghost one = { λ x y a b same. then_one a b (λ c d. A.one x.first y.first c d same.0)
         (λ c d. B.one x.second y.second c d same.1) };

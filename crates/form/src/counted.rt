@@ -6,8 +6,9 @@ ghost use Rattle.multihash.specs.Consuming.{ConsumesSome};
 ghost use Rattle.multihash.specs.Reading.{CountsReaderFailures};
 ghost use Rattle.multihash.specs.Writing.{CountsWriterFailures};
 ghost use Rattle.multihash.specs.Refusal.{IsIo, IsOutOfMemory, IsReaderError};
-ghost use Rattle.form.specs.Form.{Then, AreSame, AppendsSome, AppendsPrefixOfSome, FailsAt};
-ghost use Rattle.form.specs.FormError.{IsFailed, IsTruncated};
+ghost use Rattle.form.specs.Form.{Then, AreSame, AppendsSome, AppendsPrefixOfSome};
+ghost use Rattle.form.specs.FormError.{IsFailed};
+ghost use Rattle.form.specs.Rejecting.{AreItems, RejectsItem, ReadStops};
 
 use crate::{Form, FormError};
 use multihash::no_std_io::{Read, Write};
@@ -30,6 +31,8 @@ impl<T: Form + Drop, const MAX: usize> Form for Counted<T, MAX> {
     ghost use Rattle.multihash.specs.Varint.{IsVarint};
     ghost use Rattle.multihash.specs.Refusal.{IsAnyVarintError};
     ghost use Rattle.form.specs.declared.error.FormError.TheVariants.{TooMany};
+    ghost use Rattle.form.specs.Rejecting.{RejectsNumberThen, RejectsCounted};
+    ghost use Rattle.form.specs.RejectLaws.{counted_not_both, counted_rejects_unique, from_rejects_some};
     ghost use Rattle.form.specs.PartLaws.{counted_exists, counted_unique, counted_one, counted_some};
 
     ghost is_form = { λ x. Then (IsVarint (length x.items.items)) (AreParts T.is_form x.items.items) };
@@ -38,6 +41,8 @@ impl<T: Form + Drop, const MAX: usize> Form for Counted<T, MAX> {
 
     ghost rejects_with = { λ e. T.rejects_with e ⊎ IsFailed (λ r. IsAnyVarintError r ⊎ IsOutOfMemory r) e
         ⊎ ((n : ℕ) × (e ≡ TooMany n) × (MAX < n)) };
+
+    ghost rejects = { RejectsNumberThen (RejectsCounted T.is_form T.rejects MAX) };
 
     fn write<W: Write>(&self, w: &mut W) -> Result<(), FormError> {
         varint::write(self.items.len() as u64, w)?;
@@ -56,6 +61,14 @@ impl<T: Form + Drop, const MAX: usize> Form for Counted<T, MAX> {
     ghost exists = { λ x. counted_exists T.is_form T.exists x.items.items (vec_len x.items) x.items.ok.0 x.in_range };
 
     ghost unique = { λ x y. counted_unique T.is_form T.same T.unique x.items.items y.items.items };
+
+    ghost not_both = { λ x. counted_not_both T.is_form T.rejects T.same T.unique T.not_both MAX
+        x.items.items (vec_len x.items) x.items.ok.0 x.within };
+
+    ghost rejects_unique = { counted_rejects_unique T.is_form T.rejects T.same T.unique T.not_both MAX
+        T.rejects_unique };
+
+    ghost rejects_some = { from_rejects_some (RejectsCounted T.is_form T.rejects MAX) };
 
     ghost one = { λ x y. counted_one T.is_form T.same T.one x.items.items y.items.items };
 
@@ -91,9 +104,8 @@ pub fn read_items<T: Form + Drop, R: Read>(
         ConsumesSome (AreParts T.is_form list.items) (R.rest r.old) (R.rest r.new)) }
     ensures faults { CountsReaderFailures (IsFailed IsReaderError) (λ e. T.rejects_with e ⊎ IsFailed IsOutOfMemory e)
         (R.failures r.old) (R.failures r.new) result }
-    ensures err { IfErr result (λ e. (xs : List T) → length xs ≡ count →
-        FailsAt (AreParts T.is_form xs) (R.failures r.new ≡ R.failures r.old)
-        (IsFailed IsOutOfMemory e) (IsFailed IsTruncated e) (R.rest r.old)) }
+    ensures err { IfErr result (λ e. ReadStops (AreItems T.is_form count) (RejectsItem T.is_form T.rejects count)
+        (R.failures r.old) (R.failures r.new) e (R.rest r.old) (R.rest r.new)) }
 {
     let mut items = Vec::new(alloc);
     for _ in 0..count {

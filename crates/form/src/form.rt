@@ -3,9 +3,10 @@ ghost use Rattle.std.specs.Prelude.{◌≡◌, ◌++◌, ◌<◌, ℕ, List, len
 ghost use Rattle.multihash.specs.Consuming.{ConsumesSome};
 ghost use Rattle.multihash.specs.Reading.{CountsReaderFailures};
 ghost use Rattle.multihash.specs.Writing.{CountsWriterFailures};
-ghost use Rattle.multihash.specs.Refusal.{IsIo, IsOutOfMemory, IsReaderError};
-ghost use Rattle.form.specs.Form.{AppendsSome, AppendsPrefixOfSome, FailsAt};
-ghost use Rattle.form.specs.FormError.{IsFailed, IsTruncated};
+ghost use Rattle.multihash.specs.Refusal.{IsIo, IsReaderError};
+ghost use Rattle.form.specs.Form.{AppendsSome, AppendsPrefixOfSome};
+ghost use Rattle.form.specs.FormError.{IsFailed};
+ghost use Rattle.form.specs.Rejecting.{ReadStops};
 ghost use Rattle.form.specs.declared.error.FormError.{FormError as ReadError};
 
 use crate::FormError;
@@ -27,6 +28,9 @@ pub trait Form {
     // The errors of `read` if the reader does not fail.
     ghost rejects_with: { ReadError → Type 0 };
 
+    // An input that starts with the bytes has this error, and the last of them shows it.
+    ghost rejects: { ReadError → List ℕ → Type 0 };
+
     /// Appends the encoding to `w`.
     ///
     /// # Errors
@@ -42,15 +46,17 @@ pub trait Form {
     ///
     /// # Errors
     ///
-    /// The reader's own error, or one of those in the description of the type. If the encoding of a value comes next,
-    /// out of memory is the only one; if the input ends within the encoding, the error is
-    /// [`FormError::is_incomplete`] or out of memory.
+    /// The reader's own error, or one of those in the description of the type:
+    ///
+    /// - If the encoding of a value comes next, out of memory is the only one.
+    /// - If the input is malformed, it was consumed up to the byte that shows the error.
+    /// - If the input ends before that, [`FormError::is_incomplete`] or out of memory.
     fn read<R: Read>(alloc: Global, r: &mut R) -> Result<Self, FormError>
         ensures ok { IfOk result (λ x. ConsumesSome (is_form x) (R.rest r.old) (R.rest r.new)) }
         ensures faults { CountsReaderFailures (IsFailed IsReaderError) rejects_with
             (R.failures r.old) (R.failures r.new) result }
-        ensures err { IfErr result (λ e. (x : Self) → FailsAt (is_form x) (R.failures r.new ≡ R.failures r.old)
-            (IsFailed IsOutOfMemory e) (IsFailed IsTruncated e) (R.rest r.old)) };
+        ensures err { IfErr result (λ e. ReadStops is_form rejects (R.failures r.old) (R.failures r.new) e
+            (R.rest r.old) (R.rest r.new)) };
 
     // Each value has an encoding.
     ghost exists: { (x : Self) → (bytes : List ℕ) × is_form x bytes };
@@ -58,6 +64,17 @@ pub trait Form {
     // Two encodings at the start of one input are of the same value, and so is what follows them.
     ghost unique: { (x y : Self) (a b r s : List ℕ) → is_form x a → is_form y b → a ++ r ≡ b ++ s →
         same x y × (r ≡ s) };
+
+    // No input starts with an encoding and with bytes that are rejected.
+    ghost not_both: { (x : Self) (e : ReadError) (a b r s : List ℕ) → is_form x a → rejects e b →
+        a ++ r ≡ b ++ s → ⊥ };
+
+    // An input has one error, shown at one place.
+    ghost rejects_unique: { (e f : ReadError) (a b r s : List ℕ) → rejects e a → rejects f b →
+        a ++ r ≡ b ++ s → (e ≡ f) × (r ≡ s) };
+
+    // An input is not rejected before its first byte.
+    ghost rejects_some: { (e : ReadError) (bytes : List ℕ) → rejects e bytes → 0 < length bytes };
 
     // A value has only one encoding.
     ghost one: { (x y : Self) (a b : List ℕ) → same x y → is_form x a → is_form y b → a ≡ b };

@@ -1,5 +1,6 @@
 //! What holds of each form: facts about its encodings, and the round trip.
 ghost use Rattle.std.specs.Prelude.{◌≡◌, ◌<◌, ◌⊎◌, ℕ, List, ◌++◌, length, Some, MatchResult, IsErr};
+ghost use Rattle.multihash.specs.Bytes.{IsStrictPrefix};
 ghost use Rattle.multihash.specs.Refusal.{IsIo, IsOutOfMemory, IsReaderError};
 ghost use Rattle.multihash.specs.Writing.{AppendsPrefix, IsWriterFaultOrFull};
 ghost use Rattle.form.specs.FormError.{IsFailed};
@@ -9,12 +10,18 @@ use multihash::no_std_io::{Read, Write};
 use std::alloc::Global;
 
 /// States that each value has one encoding, which is not empty, and that two encodings at the start of one input are of
-/// the same value. The function does nothing: a caller uses its contract.
+/// the same value: so none is a strict prefix of another. No input starts with an encoding and is rejected, and one that
+/// is rejected has one error. The function does nothing: a caller uses its contract.
 pub fn prefix_free<T: Form>()
     ensures exists { (x : T) → (bytes : List ℕ) × T.is_form x bytes }
     ensures one { (x y : T) (a b : List ℕ) → T.same x y → T.is_form x a → T.is_form y b → a ≡ b }
     ensures unique { (x y : T) (a b r s : List ℕ) → T.is_form x a → T.is_form y b → a ++ r ≡ b ++ s →
         T.same x y × (r ≡ s) }
+    ensures prefix { (x y : T) (a b : List ℕ) → T.is_form x a → T.is_form y b → ¬ (IsStrictPrefix a b) }
+    ensures not_both { (x : T) (e : FormError) (a b r s : List ℕ) → T.is_form x a → T.rejects e b →
+        a ++ r ≡ b ++ s → ⊥ }
+    ensures one_error { (e f : FormError) (a b r s : List ℕ) → T.rejects e a → T.rejects f b →
+        a ++ r ≡ b ++ s → (e ≡ f) × (r ≡ s) }
     ensures some { (x : T) (bytes : List ℕ) → T.is_form x bytes → 0 < length bytes }
 {}
 

@@ -21,13 +21,17 @@ impl Form for Number {
     ghost use Rattle.multihash.specs.Varint.{IsVarint};
     ghost use Rattle.multihash.specs.Refusal.{IsAnyVarintError};
     ghost use Rattle.form.specs.FormError.{IsFailed};
+    ghost use Rattle.form.specs.Rejecting.{RejectsNumber};
     ghost use Rattle.form.specs.PartLaws.{number_exists, number_unique, number_one, number_some};
+    ghost use Rattle.form.specs.RejectLaws.{number_not_both, number_rejects_unique, number_rejects_some};
 
     ghost is_form = { λ x. IsVarint x.value };
 
     ghost same = { λ x y. x.value ≡ y.value };
 
     ghost rejects_with = { IsFailed IsAnyVarintError };
+
+    ghost rejects = { RejectsNumber };
 
     fn write<W: Write>(&self, w: &mut W) -> Result<(), FormError> {
         varint::write(self.value, w)?;
@@ -42,6 +46,12 @@ impl Form for Number {
     ghost exists = { λ x. number_exists x.value x.in_range };
 
     ghost unique = { λ x y. number_unique x.value y.value };
+
+    ghost not_both = { λ x. number_not_both x.value };
+
+    ghost rejects_unique = { number_rejects_unique };
+
+    ghost rejects_some = { number_rejects_some };
 
     ghost one = { λ x y. number_one x.value y.value };
 

@@ -11,7 +11,10 @@ impl<const S: usize> Form for Multihash<S> {
     ghost use Rattle.multihash.specs.Multihash.{pair_of};
     ghost use Rattle.multihash.specs.Encoding.{IsEncoding};
     ghost use Rattle.multihash.specs.Consuming.{ReadMayFailWith};
+    ghost use Rattle.multihash.proofs.EncodingLemmas.{digest_fits};
     ghost use Rattle.form.specs.FormError.{IsFailed};
+    ghost use Rattle.form.specs.Rejecting.{RejectsMultihash};
+    ghost use Rattle.form.specs.RejectLaws.{multihash_not_both, multihash_rejects_unique, multihash_rejects_some};
     ghost use Rattle.form.specs.PartLaws.{multihash_exists, multihash_unique, multihash_one, multihash_some};
 
     ghost is_form = { λ m. IsEncoding (pair_of m) };
@@ -19,6 +22,8 @@ impl<const S: usize> Form for Multihash<S> {
     ghost same = { λ m n. pair_of m ≡ pair_of n };
 
     ghost rejects_with = { IsFailed (ReadMayFailWith S) };
+
+    ghost rejects = { RejectsMultihash S };
 
     fn write<W: Write>(&self, w: &mut W) -> Result<(), FormError> {
         Multihash::write(self, w)?;
@@ -33,6 +38,12 @@ impl<const S: usize> Form for Multihash<S> {
     ghost exists = { multihash_exists };
 
     ghost unique = { multihash_unique };
+
+    ghost not_both = { λ m. multihash_not_both S (pair_of m) (digest_fits m) };
+
+    ghost rejects_unique = { multihash_rejects_unique S };
+
+    ghost rejects_some = { multihash_rejects_some S };
 
     ghost one = { multihash_one };
 

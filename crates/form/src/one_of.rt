@@ -23,6 +23,8 @@ impl<A: Form + Drop, B: Form + Drop, const M: u64, const N: u64> Form for OneOf<
     ghost use Rattle.multihash.specs.Refusal.{IsAnyVarintError};
     ghost use Rattle.form.specs.FormError.{IsFailed};
     ghost use Rattle.form.specs.declared.error.FormError.TheVariants.{OtherTag};
+    ghost use Rattle.form.specs.Rejecting.{RejectsNumberThen, RejectsCase};
+    ghost use Rattle.form.specs.RejectLaws.{one_of_not_both, one_of_rejects_unique, from_rejects_some};
     ghost use Rattle.form.specs.OneOf.{IsOneOf, AreSameCase, one_of_exists, one_of_unique, one_of_one, one_of_some};
 
     ghost is_form = { IsOneOf A.is_form B.is_form };
@@ -31,6 +33,8 @@ impl<A: Form + Drop, B: Form + Drop, const M: u64, const N: u64> Form for OneOf<
 
     ghost rejects_with = { λ e. A.rejects_with e ⊎ B.rejects_with e ⊎ IsFailed IsAnyVarintError e
         ⊎ ((n : ℕ) × (e ≡ OtherTag n) × (n ≢ M) × (n ≢ N)) };
+
+    ghost rejects = { RejectsNumberThen (RejectsCase A.rejects B.rejects M N) };
 
     fn write<W: Write>(&self, w: &mut W) -> Result<(), FormError> {
         match self {
@@ -55,6 +59,12 @@ impl<A: Form + Drop, B: Form + Drop, const M: u64, const N: u64> Form for OneOf<
     ghost exists = { one_of_exists A.is_form B.is_form A.exists B.exists };
 
     ghost unique = { one_of_unique A.is_form B.is_form A.same B.same A.unique B.unique };
+
+    ghost not_both = { one_of_not_both A.is_form B.is_form A.rejects B.rejects A.not_both B.not_both };
+
+    ghost rejects_unique = { one_of_rejects_unique M N A.rejects B.rejects A.rejects_unique B.rejects_unique };
+
+    ghost rejects_some = { from_rejects_some (RejectsCase A.rejects B.rejects M N) };
 
     ghost one = { one_of_one A.is_form B.is_form A.same B.same A.one B.one };
 

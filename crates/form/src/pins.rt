@@ -10,6 +10,7 @@ ghost use Rattle.multihash.specs.Refusal.{IsAnyVarintError, IsEof, IsOutOfMemory
 ghost use Rattle.frame.specs.Frame.{IsFramed};
 ghost use Rattle.form.specs.Form.{Then, AreSame};
 ghost use Rattle.form.specs.FormError.{IsFailed};
+ghost use Rattle.form.specs.Rejecting.{RejectsNumber, RejectsMultihash, RejectsInTurn, RejectsNumberThen, RejectsOtherTag, RejectsTooLong, RejectsCounted, RejectsCase};
 ghost use Rattle.form.specs.declared.error.FormError.TheVariants.{TooMany, TooLong, OtherTag};
 ghost use Rattle.form.specs.declared.one_of.OneOf.TheVariants.{First, Second};
 
@@ -22,24 +23,30 @@ fn multihashes<const S: usize>(x: &Multihash<S>, y: &Multihash<S>, e: &FormError
         ⟦<Multihash<S> as Form>⟧.is_form x.now bytes ↔ IsEncoding (pair_of x.now) bytes }
     ensures same { ⟦<Multihash<S> as Form>⟧.same x.now y.now ↔ (pair_of x.now ≡ pair_of y.now) }
     ensures rejects_with { ⟦<Multihash<S> as Form>⟧.rejects_with e.now → IsFailed (ReadMayFailWith S) e.now }
+    ensures rejects { (bytes : List ℕ) →
+        ⟦<Multihash<S> as Form>⟧.rejects e.now bytes ↔ RejectsMultihash S e.now bytes }
 {}
 
 fn numbers(x: &Number, y: &Number, e: &FormError)
     ensures is_form { (bytes : List ℕ) → ⟦<Number as Form>⟧.is_form x.now bytes ↔ IsVarint x.now.value bytes }
     ensures same { ⟦<Number as Form>⟧.same x.now y.now ↔ (x.now.value ≡ y.now.value) }
     ensures rejects_with { ⟦<Number as Form>⟧.rejects_with e.now → IsFailed IsAnyVarintError e.now }
+    ensures rejects { (bytes : List ℕ) → ⟦<Number as Form>⟧.rejects e.now bytes ↔ RejectsNumber e.now bytes }
 {}
 
 fn tags<const N: u64>(x: &Tag<N>, e: &FormError)
     ensures is_form { (bytes : List ℕ) → ⟦<Tag<N> as Form>⟧.is_form x.now bytes ↔ IsVarint N bytes }
     ensures rejects_with { ⟦<Tag<N> as Form>⟧.rejects_with e.now → IsFailed IsAnyVarintError e.now
         ⊎ ((n : ℕ) × (e.now ≡ OtherTag n) × (n ≢ N)) }
+    ensures rejects { (bytes : List ℕ) →
+        ⟦<Tag<N> as Form>⟧.rejects e.now bytes ↔ RejectsNumberThen (RejectsOtherTag N) e.now bytes }
 {}
 
 fn arrays<const N: usize>(x: &Bytes<N>, y: &Bytes<N>, e: &FormError)
     ensures is_form { (bytes : List ℕ) → ⟦<Bytes<N> as Form>⟧.is_form x.now bytes ↔ (bytes ≡ x.now.bytes) }
     ensures same { ⟦<Bytes<N> as Form>⟧.same x.now y.now ↔ (x.now.bytes ≡ y.now.bytes) }
     ensures rejects_with { ⟦<Bytes<N> as Form>⟧.rejects_with e.now → IsFailed IsEof e.now }
+    ensures rejects { (bytes : List ℕ) → ¬ (⟦<Bytes<N> as Form>⟧.rejects e.now bytes) }
 {}
 
 fn blocks<const MAX: usize>(x: &Block<MAX>, y: &Block<MAX>, e: &FormError)
@@ -49,6 +56,8 @@ fn blocks<const MAX: usize>(x: &Block<MAX>, y: &Block<MAX>, e: &FormError)
     ensures rejects_with { ⟦<Block<MAX> as Form>⟧.rejects_with e.now →
         IsFailed (λ r. IsAnyVarintError r ⊎ IsEof r ⊎ IsOutOfMemory r) e.now
         ⊎ ((n : ℕ) × (e.now ≡ TooLong n) × (MAX < n)) }
+    ensures rejects { (bytes : List ℕ) →
+        ⟦<Block<MAX> as Form>⟧.rejects e.now bytes ↔ RejectsNumberThen (RejectsTooLong MAX) e.now bytes }
 {}
 
 fn lists<T: Form + Drop, const MAX: usize>(x: &Counted<T, MAX>, y: &Counted<T, MAX>, e: &FormError)
@@ -59,6 +68,8 @@ fn lists<T: Form + Drop, const MAX: usize>(x: &Counted<T, MAX>, y: &Counted<T, M
     ensures rejects_with { ⟦<Counted<T, MAX> as Form>⟧.rejects_with e.now → T.rejects_with e.now
         ⊎ IsFailed (λ r. IsAnyVarintError r ⊎ IsOutOfMemory r) e.now
         ⊎ ((n : ℕ) × (e.now ≡ TooMany n) × (MAX < n)) }
+    ensures rejects { (bytes : List ℕ) → ⟦<Counted<T, MAX> as Form>⟧.rejects e.now bytes
+        ↔ RejectsNumberThen (RejectsCounted T.is_form T.rejects MAX) e.now bytes }
 {}
 
 fn pairs<A: Form + Drop, B: Form>(x: &Both<A, B>, y: &Both<A, B>, e: &FormError)
@@ -67,6 +78,8 @@ fn pairs<A: Form + Drop, B: Form>(x: &Both<A, B>, y: &Both<A, B>, e: &FormError)
     ensures same { ⟦<Both<A, B> as Form>⟧.same x.now y.now
         ↔ (A.same x.now.first y.now.first × B.same x.now.second y.now.second) }
     ensures rejects_with { ⟦<Both<A, B> as Form>⟧.rejects_with e.now → A.rejects_with e.now ⊎ B.rejects_with e.now }
+    ensures rejects { (bytes : List ℕ) → ⟦<Both<A, B> as Form>⟧.rejects e.now bytes
+        ↔ RejectsInTurn A.is_form A.rejects (λ _. B.rejects) e.now bytes }
 {}
 
 fn choices<A: Form + Drop, B: Form + Drop, const M: u64, const N: u64>(
@@ -86,4 +99,6 @@ fn choices<A: Form + Drop, B: Form + Drop, const M: u64, const N: u64>(
     ensures rejects_with { ⟦<OneOf<A, B, M, N> as Form>⟧.rejects_with e.now →
         A.rejects_with e.now ⊎ B.rejects_with e.now ⊎ IsFailed IsAnyVarintError e.now
         ⊎ ((n : ℕ) × (e.now ≡ OtherTag n) × (n ≢ M) × (n ≢ N)) }
+    ensures rejects { (bytes : List ℕ) → ⟦<OneOf<A, B, M, N> as Form>⟧.rejects e.now bytes
+        ↔ RejectsNumberThen (RejectsCase A.rejects B.rejects M N) e.now bytes }
 {}

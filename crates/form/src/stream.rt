@@ -1,12 +1,14 @@
 //! Values one after another, up to the end of the input.
-ghost use Rattle.std.specs.Prelude.{◌≡◌, ◌≢◌, ◌⊎◌, ◌++◌, ℕ, List, [], Some, IfOk, IfSome, IsTrue, MatchResult, IsSomeAnd, IsErrAnd};
+ghost use Rattle.std.specs.Prelude.{◌≡◌, ◌≢◌, ◌<◌, ◌⊎◌, ◌++◌, length, ℕ, List, [], Some, IfOk, IfErr, IfSome, OnOk, IsTrue, MatchResult, IsSomeAnd, IsErrAnd};
 ghost use Rattle.std.specs.Io.KnownBytes.{IsAtEnd};
 ghost use Rattle.multihash.specs.Bytes.{IsStrictPrefix};
 ghost use Rattle.multihash.specs.Consuming.{ConsumesSome};
+ghost use Rattle.multihash.specs.Streams.{AreParts};
 ghost use Rattle.multihash.specs.Reading.{CountsReaderFailures, NoOtherError, EndsInNone};
 ghost use Rattle.multihash.specs.Fault.{IsOwnFault};
 ghost use Rattle.multihash.specs.Refusal.{IsOutOfMemory, IsReaderError};
-ghost use Rattle.form.specs.Stream.{rest_from};
+ghost use Rattle.form.specs.Rejecting.{ReadStops};
+ghost use Rattle.form.specs.Stream.{rest_from, AppendsUpTo, AppendsThenStops, AppendsSame};
 ghost use Rattle.form.specs.FormError.{IsFailed, IsTruncated};
 
 use crate::{Form, FormError, read};
@@ -70,6 +72,10 @@ impl<R: Read> Stream<R> {
             (R.failures self.old.inner) (R.failures self.new.inner) result }
         ensures faults { CountsReaderFailures (IsFailed IsReaderError) T.rejects_with
             (R.failures self.old.inner) (R.failures self.new.inner) result }
+        ensures err { IfErr result (λ e. ReadStops T.is_form T.rejects
+            (R.failures self.old.inner) (R.failures self.new.inner) e
+            (rest_from self.old.ahead (R.rest self.old.inner))
+            (rest_from self.new.ahead (R.rest self.new.inner))) }
 
         // A value that comes next is found, and what follows it is left.
         ensures found { (x : T) (bytes more : List ℕ) → T.is_form x bytes →
@@ -89,6 +95,46 @@ impl<R: Read> Stream<R> {
         }
         let value = read::<T, Stream<R>>(alloc, self)?;
         Ok(Some(value))
+    }
+
+    /// Reads values, one after another, and appends them to `list`: `n` values, or all that come before the end of the
+    /// input if these are fewer.
+    ///
+    /// # Errors
+    ///
+    /// Those of [`Stream::read_next`], and out of memory. The values before the error have been appended.
+    pub fn read_up_to<T: Form + Drop>(
+        &mut self,
+        alloc: Global,
+        n: usize,
+        list: &mut Vec<T>,
+    ) -> Result<(), FormError>
+        ensures ok { OnOk result (AppendsUpTo T.is_form n list.old.items list.new.items
+            (rest_from self.old.ahead (R.rest self.old.inner))
+            (rest_from self.new.ahead (R.rest self.new.inner))) }
+        ensures err { IfErr result (AppendsThenStops T.is_form T.rejects n list.old.items list.new.items
+            (R.failures self.old.inner) (R.failures self.new.inner)
+            (rest_from self.old.ahead (R.rest self.old.inner))
+            (rest_from self.new.ahead (R.rest self.new.inner))) }
+        ensures faults { CountsReaderFailures (IsFailed IsReaderError)
+            (λ e. T.rejects_with e ⊎ IsFailed IsOutOfMemory e)
+            (R.failures self.old.inner) (R.failures self.new.inner) result }
+
+        // `n` values that come next, or fewer that are the rest of the input, are found, and what follows them is left.
+        ensures found { (xs : List T) (bytes more : List ℕ) → AreParts T.is_form xs bytes →
+            rest_from self.old.ahead (R.rest self.old.inner) ≡ Some (bytes ++ more) →
+            (length xs ≡ n) ⊎ ((length xs < n) × (more ≡ [])) →
+            R.failures self.new.inner ≡ R.failures self.old.inner →
+            MatchResult result (λ _. AppendsSame T.same xs list.old.items list.new.items
+            × (rest_from self.new.ahead (R.rest self.new.inner) ≡ Some more)) (IsFailed IsOutOfMemory) }
+    {
+        for _ in 0..n {
+            let Some(value) = self.read_next::<T>(alloc)? else {
+                return Ok(());
+            };
+            list.push(value)?;
+        }
+        Ok(())
     }
 }
 

@@ -21,7 +21,9 @@ impl<const N: u64> Form for Tag<N> {
     ghost use Rattle.multihash.specs.Refusal.{IsAnyVarintError};
     ghost use Rattle.form.specs.FormError.{IsFailed};
     ghost use Rattle.form.specs.declared.error.FormError.TheVariants.{OtherTag};
+    ghost use Rattle.form.specs.Rejecting.{RejectsNumberThen, RejectsOtherTag};
     ghost use Rattle.form.specs.PartLaws.{number_exists, tag_unique, tag_one, number_some};
+    ghost use Rattle.form.specs.RejectLaws.{tag_not_both, tag_rejects_unique, from_rejects_some};
 
     ghost is_form = { λ _. IsVarint N };
 
@@ -29,6 +31,8 @@ impl<const N: u64> Form for Tag<N> {
 
     ghost rejects_with = { λ e. IsFailed IsAnyVarintError e
         ⊎ ((n : ℕ) × (e ≡ OtherTag n) × (n ≢ N)) };
+
+    ghost rejects = { RejectsNumberThen (RejectsOtherTag N) };
 
     fn write<W: Write>(&self, w: &mut W) -> Result<(), FormError> {
         let _in_range = *self;
@@ -47,6 +51,12 @@ impl<const N: u64> Form for Tag<N> {
     ghost exists = { λ x. number_exists N x.in_range };
 
     ghost unique = { λ _ _. tag_unique N };
+
+    ghost not_both = { λ _. tag_not_both N };
+
+    ghost rejects_unique = { tag_rejects_unique N };
+
+    ghost rejects_some = { from_rejects_some (RejectsOtherTag N) };
 
     ghost one = { λ _ _. tag_one N };
 

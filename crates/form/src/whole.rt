@@ -5,6 +5,7 @@ ghost use Rattle.multihash.specs.Consuming.{ConsumesSome};
 ghost use Rattle.multihash.specs.Reading.{CountsReaderFailures};
 ghost use Rattle.multihash.specs.Refusal.{IsOutOfMemory, IsReaderError};
 ghost use Rattle.form.specs.FormError.{IsFailed, IsTruncated};
+ghost use Rattle.form.specs.Rejecting.{ReadStops, IsWholeError};
 ghost use Rattle.form.specs.declared.error.FormError.TheVariants.{Trailing};
 
 use crate::{ByteCount, Form, FormError};
@@ -20,6 +21,8 @@ pub fn read<T: Form, R: Read>(alloc: Global, r: &mut R) -> Result<T, FormError>
     ensures ok { IfOk result (λ x. ConsumesSome (T.is_form x) (R.rest r.old) (R.rest r.new)) }
     ensures faults { CountsReaderFailures (IsFailed IsReaderError) T.rejects_with
         (R.failures r.old) (R.failures r.new) result }
+    ensures err { IfErr result (λ e. ReadStops T.is_form T.rejects (R.failures r.old) (R.failures r.new) e
+        (R.rest r.old) (R.rest r.new)) }
     // A value that comes next is found, and what follows it is left.
     ensures found { (x : T) (bytes more : List ℕ) → T.is_form x bytes → R.rest r.old ≡ Some (bytes ++ more) →
         R.failures r.new ≡ R.failures r.old →
@@ -28,6 +31,10 @@ pub fn read<T: Form, R: Read>(alloc: Global, r: &mut R) -> Result<T, FormError>
     ensures truncated { (x : T) (bytes part : List ℕ) → T.is_form x bytes → IsStrictPrefix part bytes →
         R.rest r.old ≡ Some part → R.failures r.new ≡ R.failures r.old →
         IsErrAnd result (λ e. IsFailed IsTruncated e ⊎ IsFailed IsOutOfMemory e) }
+    // If the input is rejected, the error is the one that it shows, and exactly the bytes that show it are consumed.
+    ensures rejected { (e : FormError) (front more : List ℕ) → T.rejects e front →
+        R.rest r.old ≡ Some (front ++ more) → R.failures r.new ≡ R.failures r.old →
+        IsErrAnd result (λ f. ((f ≡ e) × (R.rest r.new ≡ Some more)) ⊎ IsFailed IsOutOfMemory f) }
 {
     T::read(alloc, r)
 }
@@ -46,6 +53,9 @@ pub fn from_bytes<T: Form + Drop>(alloc: Global, bytes: &[u8]) -> Result<T, Form
         IsErrAnd result (λ e. IsFailed IsTruncated e ⊎ IsFailed IsOutOfMemory e) }
     ensures trailing { (x : T) (front more : List ℕ) → T.is_form x front → more ≢ [] → bytes.now ≡ front ++ more →
         IsErrAnd result (λ e. (e ≡ Trailing (length more)) ⊎ IsFailed IsOutOfMemory e) }
+    ensures rejected { (e : FormError) (front more : List ℕ) → T.rejects e front → bytes.now ≡ front ++ more →
+        IsErrAnd result (λ f. (f ≡ e) ⊎ IsFailed IsOutOfMemory f) }
+    ensures err { IfErr result (λ e. IsWholeError T.is_form T.rejects e bytes.now) }
 {
     let mut rest = bytes;
     let value = read::<T, &[u8]>(alloc, &mut rest)?;

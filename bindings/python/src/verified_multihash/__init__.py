@@ -104,7 +104,7 @@ class MultihashError(ValueError):
         text: _Text = self.args[4]
         if isinstance(text, tuple):
             return self._text(*text)
-        numbers = {Status.INVALID_SIZE: " %s." % _shown(self.size), Status.INVALID_CODE: " %s." % _shown(self.code)}
+        numbers = {Status.INVALID_SIZE: " (%s)" % _shown(self.size), Status.INVALID_CODE: " (%s)" % _shown(self.code)}
         return text or _core.status_text(self.status) + numbers.get(self.status, "")
 
     def _text(self, length: int = 0, start: bytes = b"", limit: Optional[int] = None) -> str:

@@ -1,4 +1,4 @@
-use Rattle.std.proofs.Common.{◌≡◌, ◌++◌, ℕ, List, [], ◌∷◌, length, length-append, append_assoc, inl, inr, sym, ap, ◌∙◌, arith, rules}
+use Rattle.std.proofs.Common.{◌≡◌, ◌++◌, ℕ, List, [], ◌∷◌, length, length-append, append_assoc, append-nil, inl, inr, sym, ap, ◌∙◌, arith, rules}
 use Rattle.multihash.proofs.OutcomeLemmas.{passed_on}
 use Rattle.multihash.proofs.StreamLemmas.{parts_push}
 use Rattle.form.proofs.CountedLemmas.{parts_compared}
@@ -9,10 +9,11 @@ pub returns-in_err-item-clause-found : goal.returns-in_err-item-clause-found
 returns-in_err-item-clause-found g c xs all =
     let (front, parts, cut) = c.loop-rest.invariant in
     elim (parts_compared g.T.Form.is_form g.T.Form.same g.met.T.Form.unique g.met.T.Form.some c.loop-rest.items.items xs front
-    c.loop-rest.rest.now c.args.bytes.now parts all cut) [
+    c.loop-rest.rest.now c.args.bytes.now [] parts all (sym cut ∙ sym (append-nil c.args.bytes.now))) [
       | inl same ↦ absurd (not_empty c.loop-rest.rest.now _ c.is_empty.ensures c.loop-rest-test.true same.1)
-      | inr next ↦ passed_on c.from_residual.result _ _ _ c.from_residual.ensures.1
+      | inr (inl (_, next)) ↦ passed_on c.from_residual.result _ _ _ c.from_residual.ensures.1
           (c.in_err-item.ensures.found next.0 next.1 next.2 next.3 next.4)
+      | inr (inr over) ↦ absurd (omega (arith, over.1))
     ]
 
 pub loop-rest-preserved : goal.loop-rest-preserved
@@ -30,13 +31,14 @@ returns-clause-found g c xs all =
     let (front, parts, cut) = c.loop-rest.invariant in
     let none = empty_is c.loop-rest.rest.now _ c.is_empty.ensures c.loop-rest-test.false in
     elim (parts_compared g.T.Form.is_form g.T.Form.same g.met.T.Form.unique g.met.T.Form.some c.loop-rest.items.items xs front
-    c.loop-rest.rest.now c.args.bytes.now parts all cut) [
+    c.loop-rest.rest.now c.args.bytes.now [] parts all (sym cut ∙ sym (append-nil c.args.bytes.now))) [
       | inl same ↦ same.0
-      | inr next ↦ absurd (omega (
+      | inr (inl (_, next)) ↦ absurd (omega (
         arith,
         g.met.T.Form.some next.0 next.1 next.3,
         ap length none,
         ap length next.4,
         length-append next.1 next.2,
       ))
+      | inr (inr over) ↦ absurd (omega (arith, over.1))
     ]

@@ -1,27 +1,40 @@
-use Rattle.std.proofs.Common.{◌≡◌, ℕ, length, inl, inr, refl, sym, subst, ◌∙◌, arith}
+use Rattle.std.proofs.Common.{◌≡◌, ◌≤◌, ℕ, List, length, inl, inr, refl, sym, subst, ◌∙◌, arith}
 use Rattle.multihash.specs.Varint.{IsVarint}
 use Rattle.multihash.specs.Streams.{AreParts}
 use Rattle.multihash.proofs.OutcomeLemmas.{passed_on}
-use Rattle.multihash.proofs.CallingLemmas.{varint_fails}
-use Rattle.form.specs.PartLaws.{number_unique}
-use Rattle.form.proofs.BothLemmas.{then_read, first_fails, second_fails}
-use Rattle.form.proofs.FormLemmas.{fails_as, varint_fails_at}
+use Rattle.form.specs.Form.{Then}
+use Rattle.form.specs.Rejecting.{RejectsNumber, RejectsItem, RejectsCounted, AreItems}
+use Rattle.form.specs.declared.error.FormError.{FormError}
+use Rattle.form.proofs.BothLemmas.{then_read}
+use Rattle.form.proofs.FormLemmas.{varint_stops}
+use Rattle.form.proofs.StopLemmas.{first_stops, next_rejected, from_stops, stops_as}
 use Rattle.form.proofs.counted.CountedForm.read.Goals as goal
+
+-- a count and that many items
+split : {A : Type 0} (IsPart : A → List ℕ → Type 0) {X : Type 0} (items : X → List A) (x : X) (bytes : List ℕ)
+    → Then (IsVarint (length (items x))) (AreParts IsPart (items x)) bytes
+    → (n : ℕ) × (xs : List A) × Then (IsVarint n) (AreItems IsPart n xs) bytes
+split IsPart items x bytes t =
+    (length (items x), items x, record { first = t.first; second = t.second; is_first = t.is_first; is_second = (refl, t.is_second); parts = t.parts })
+
+-- a count within the limit is not rejected
+only_item : {A : Type 0} (IsPart : A → List ℕ → Type 0) (Rejects : FormError → List ℕ → Type 0) (MAX n : ℕ) → n ≤ MAX
+    → (e : FormError) (bytes : List ℕ) → RejectsCounted IsPart Rejects MAX n e bytes → RejectsItem IsPart Rejects n e bytes
+only_item IsPart Rejects MAX n within e bytes (inl over) = absurd (omega (arith, over.0, within))
+only_item IsPart Rejects MAX n within e bytes (inr item) = item.1
 
 pub returns-in_err-count-clause-err : goal.returns-in_err-count-clause-err
 returns-in_err-count-clause-err g c =
     let met = c.in_err-count.ensures in
     passed_on c.from_residual.result _ _ _ c.from_residual.ensures.1
-    (λ x. first_fails (IsVarint (length x.items.items)) (AreParts g.T.Form.is_form x.items.items) _ _ _ _
-    (fails_as _ _ _ _ _ _ _ _ (λ h. h) (λ no. absurd no) (λ short. (_, refl, short))
-    (varint_fails_at (length x.items.items) _ _ _ _ _ (varint_fails _ _ _ _ _ _ refl met.faults met.err met.front))))
+    (first_stops IsVarint RejectsNumber (RejectsCounted g.T.Form.is_form g.T.Form.rejects g.row.MAX) (AreItems g.T.Form.is_form) _
+    (split g.T.Form.is_form (λ x. x.items.items)) _ _ _ _ _ (varint_stops _ _ _ _ _ met.faults met.err))
 
 pub returns-then-count-clause-err : goal.returns-then-count-clause-err
-returns-then-count-clause-err g c x =
-    let count = c.in_ok-count.count in
-    second_fails (IsVarint (length x.items.items)) (AreParts g.T.Form.is_form x.items.items) (IsVarint count)
-    (length x.items.items ≡ count) _ _ _ _ _ _ (number_unique (length x.items.items) count) c.in_ok-count.ensures.ok
-    (λ h. h) (λ many. absurd (omega (arith, many, c.if-count.true, x.within, x.items.ok.0)))
+returns-then-count-clause-err g c =
+    next_rejected IsVarint RejectsNumber (RejectsCounted g.T.Form.is_form g.T.Form.rejects g.row.MAX) (AreItems g.T.Form.is_form) _
+    (split g.T.Form.is_form (λ x. x.items.items)) c.in_ok-count.count _ _ _ _ _ c.in_ok-count.ensures.ok
+    (inl (omega (arith, c.if-count.true), refl, refl))
 
 pub returns-in_err-items-clause-faults : goal.returns-in_err-items-clause-faults
 returns-in_err-items-clause-faults g c =
@@ -34,11 +47,12 @@ returns-in_err-items-clause-faults g c =
 
 pub returns-in_err-items-clause-err : goal.returns-in_err-items-clause-err
 returns-in_err-items-clause-err g c =
-    let count = c.in_ok-count.count in
     passed_on c.from_residual-in_err-items.result _ _ _ c.from_residual-in_err-items.ensures.1
-    (λ x. second_fails (IsVarint (length x.items.items)) (AreParts g.T.Form.is_form x.items.items) (IsVarint count)
-    (length x.items.items ≡ count) _ _ _ _ _ _ (number_unique (length x.items.items) count) c.in_ok-count.ensures.ok
-    (λ h. h ∙ sym c.in_ok-count.ensures.faults) (λ many. c.in_err-items.ensures.err x.items.items many))
+    (from_stops (RejectsCounted g.T.Form.is_form g.T.Form.rejects g.row.MAX) (AreItems g.T.Form.is_form) _
+    (split g.T.Form.is_form (λ x. x.items.items)) c.in_ok-count.count _ _ _ _ _ _ _ c.in_ok-count.ensures.faults c.in_ok-count.ensures.ok
+    (stops_as _ _ _ _ (λ xs bytes are. (xs, are)) (λ e bytes item. inr (omega (arith, c.if-count.false), item))
+    (only_item g.T.Form.is_form g.T.Form.rejects g.row.MAX c.in_ok-count.count (omega (arith, c.if-count.false))) _ _ _ _ _
+    c.in_err-items.ensures.err))
 
 pub returns-clause-ok : goal.returns-clause-ok
 returns-clause-ok g c =

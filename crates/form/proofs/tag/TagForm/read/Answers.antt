@@ -1,21 +1,27 @@
-use Rattle.std.proofs.Common.{refl, arith}
+use Rattle.std.proofs.Common.{◌≡◌, ℕ, List, [], refl, sym, append-nil, arith}
 use Rattle.multihash.specs.Varint.{IsVarint}
 use Rattle.multihash.proofs.OutcomeLemmas.{passed_on}
-use Rattle.multihash.proofs.CallingLemmas.{varint_fails}
-use Rattle.form.specs.PartLaws.{number_unique}
-use Rattle.form.proofs.FormLemmas.{fails_as, other_fails, varint_fails_at}
+use Rattle.form.specs.Form.{Then}
+use Rattle.form.specs.Rejecting.{RejectsNumber, RejectsOtherTag}
+use Rattle.form.proofs.FormLemmas.{varint_stops}
+use Rattle.form.proofs.StopLemmas.{first_stops, next_rejected}
 use Rattle.form.proofs.tag.TagForm.read.Goals as goal
+
+-- nothing follows the number
+abbrev Nothing : ℕ → ℕ → List ℕ → Type 0
+Nothing n z rest = rest ≡ []
+
+split : (N : ℕ) {A : Type 0} (x : A) (bytes : List ℕ) → IsVarint N bytes → (n : ℕ) × (z : ℕ) × Then (IsVarint n) (Nothing n z) bytes
+split N x bytes is = (N, 0, record { first = bytes; second = []; is_first = is; is_second = refl; parts = sym (append-nil bytes) })
 
 pub returns-in_err-number-clause-err : goal.returns-in_err-number-clause-err
 returns-in_err-number-clause-err g c =
     let met = c.in_err-number.ensures in
     passed_on c.from_residual.result _ _ _ c.from_residual.ensures.1
-    (λ x. fails_as _ _ _ _ _ _ _ _ (λ h. h) (λ no. absurd no) (λ short. (_, refl, short))
-    (varint_fails_at g.row.N _ _ _ _ _ (varint_fails _ _ _ _ _ _ refl met.faults met.err met.front)))
+    (first_stops IsVarint RejectsNumber (RejectsOtherTag g.row.N) Nothing (λ _. IsVarint g.row.N) (split g.row.N) _ _ _ _ _
+    (varint_stops _ _ _ _ _ met.faults met.err))
 
 pub returns-then-number-clause-err : goal.returns-then-number-clause-err
-returns-then-number-clause-err g c x =
-    let number = c.in_ok-number.number in
-    other_fails (IsVarint g.row.N) (IsVarint number) _ _ _ _ _
-    (λ a b r s is_a is_b cut. omega (arith, (number_unique g.row.N number a b r s is_a is_b cut).0, c.if-number.true))
-    c.in_ok-number.ensures.ok
+returns-then-number-clause-err g c =
+    next_rejected IsVarint RejectsNumber (RejectsOtherTag g.row.N) Nothing (λ _. IsVarint g.row.N) (split g.row.N) c.in_ok-number.number _ _ _ _ _
+    c.in_ok-number.ensures.ok (c.if-number.true, refl, refl)

@@ -1,0 +1,156 @@
+use Rattle.std.proofs.Common.{◌≡◌, ◌<◌, ◌⊎◌, ◌++◌, ℕ, List, [], ◌∷◌, inl, inr, length, length-append, append_assoc, append-nil, refl, sym, ap, subst, ◌∙◌, arith, rules, Option, Some}
+use Rattle.multihash.proofs.OutcomeLemmas.{passed_on, if_given}
+use Rattle.std.specs.Io.KnownBytes.{IsAtEnd}
+use Rattle.multihash.specs.Reading.{Consumes}
+use Rattle.multihash.specs.Streams.{AreParts}
+use Rattle.multihash.proofs.ReadingLemmas.{Consumes-known, Consumes-none, Consumes-concatenated}
+use Rattle.multihash.proofs.StreamLemmas.{parts_push}
+use Rattle.form.specs.Stream.{rest_from, AppendsValues, AppendsSame}
+use Rattle.form.proofs.CountedLemmas.{Next, parts_compared}
+use Rattle.form.proofs.StopLemmas.{stops_later}
+use Rattle.form.proofs.stream.Stream.read_up_to.Goals as goal
+
+pub loop-init : goal.loop-init
+loop-init g c = record {
+  reads = record { values = []; appended = sym (append-nil c.args.list.now.items); consumed = ([], refl, Consumes-none _) };
+  count = refl;
+  unfailed = refl;
+}
+
+pub returns-in_err-value-clause-err : goal.returns-in_err-value-clause-err
+returns-in_err-value-clause-err g c =
+    let before = c.loop.invariant in
+    passed_on c.from_residual.result _ _ _ c.from_residual.ensures.1 (record {
+      following = _;
+      reads = before.reads;
+      fewer = omega (arith, before.count, c.loop-test.true);
+      failed = stops_later g.T.Form.is_form g.T.Form.rejects _ _ _ _ _ _ _ before.unfailed refl c.in_err-value.ensures.err;
+    })
+
+pub returns-in_err-value-clause-faults : goal.returns-in_err-value-clause-faults
+returns-in_err-value-clause-faults g c =
+    passed_on c.from_residual.result _ _ _ c.from_residual.ensures.1
+    (elim (rw c.loop.invariant.unfailed at c.in_err-value.ensures.faults) [
+      | inl own ↦ inl own
+      | inr listed ↦ inr (listed.0, inl listed.1)
+    ])
+
+pub returns-in_default-clause-ok : goal.returns-in_default-clause-ok
+returns-in_default-clause-ok g c =
+    let before = c.loop.invariant in
+    let ended = rw c.in_default.is at c.in_ok-value.ensures.end.none in
+    record {
+      reads = record { values = before.reads.values; appended = before.reads.appended; consumed = rw ended.1 before.reads.consumed };
+      number = inr (omega (arith, before.count, c.loop-test.true), subst IsAtEnd (sym ended.1) ended.0);
+    }
+
+pub returns-in_err-push-clause-err : goal.returns-in_err-push-clause-err
+returns-in_err-push-clause-err g c =
+    let before = c.loop.invariant in
+    let kept : c.push.new.self.items ≡ c.loop.list.items = search rules in
+    if_given _ _ _ c.from_residual-in_err-push.result c.from_residual-in_err-push.ensures.1 (λ e memory. record {
+      following = rest_from c.loop.self.ahead (g.R.Read.rest c.loop.self.inner);
+      reads = record { values = before.reads.values; appended = kept ∙ before.reads.appended; consumed = before.reads.consumed };
+      fewer = omega (arith, before.count, c.loop-test.true);
+      failed = inl memory;
+    })
+
+pub loop-preserved : goal.loop-preserved
+loop-preserved g c =
+    let before = c.loop.invariant in
+    let value = c.in-Some.value in
+    let one = rw c.in-Some.is at c.in_ok-value.ensures.ok in
+    let items : c.push.new.self.items ≡ c.loop.list.items ++ c.in-Some.value ∷ [] = search rules in
+    record {
+      reads = record {
+        values = before.reads.values ++ value ∷ [];
+        appended = items ∙ ap (λ l. l ++ value ∷ []) before.reads.appended ∙ append_assoc c.args.list.now.items before.reads.values (value ∷ []);
+        consumed = (
+          before.reads.consumed.0 ++ one.0,
+          parts_push g.T.Form.is_form before.reads.values value _ _ before.reads.consumed.1 one.1,
+          Consumes-concatenated _ _ _ before.reads.consumed.0 one.0 _ refl before.reads.consumed.2 one.2,
+        );
+      };
+      count = omega (arith, length-append before.reads.values (value ∷ []), before.count);
+      unfailed = c.in_ok-value.ensures.faults ∙ before.unfailed;
+    }
+
+pub returns-clause-ok : goal.returns-clause-ok
+returns-clause-ok g c = record {
+  reads = c.loop.invariant.reads;
+  number = inl (omega (arith, c.loop.invariant.count, c.loop-test.false, c.loop.auto.counter-end));
+}
+
+-- the values so far, compared with those that come next
+module _ {A : Type 0} (IsForm : A → List ℕ → Type 0) (Same : A → A → Type 0)
+    (unique : (x y : A) (a b r s : List ℕ) → IsForm x a → IsForm y b → a ++ r ≡ b ++ s → Same x y × (r ≡ s))
+    (some : (x : A) (bytes : List ℕ) → IsForm x bytes → 0 < length bytes) (before after : List A) (old mid : Option (List ℕ))
+    (reads : AppendsValues IsForm before after old mid) (xs : List A) (bytes more : List ℕ) (are : AreParts IsForm xs bytes)
+    (at : old ≡ Some (bytes ++ more)) (n : ℕ) (number : (length xs ≡ n) ⊎ ((length xs < n) × (more ≡ []))) where
+  -- fewer than n were read: they are all, at the end of the input, or another one comes next
+  fewer_found : length reads.values < n
+      → (AppendsSame Same xs before after × (mid ≡ Some more) × (more ≡ [])) ⊎ ((left : List ℕ) × (mid ≡ Some left) × Next IsForm left)
+  fewer_found few =
+      let (c, is_c, consumes) = reads.consumed in
+      let (left, is_left, cut) = Consumes-known (bytes ++ more) c mid (subst (λ (o : Option (List ℕ)). Consumes o c mid) at consumes) in
+      elim (parts_compared IsForm Same unique some reads.values xs c left bytes more is_c are (sym cut)) [
+        | inl (same, rest, long) ↦ elim number [
+          | inl all ↦ absurd (omega (arith, few, all, long))
+          | inr (_, none) ↦ inl ((reads.values, reads.appended, same), is_left ∙ ap Some rest, none)
+        ]
+        | inr (inl (_, next)) ↦ inr (left, is_left, next)
+        | inr (inr (over, follows)) ↦ elim number [
+          | inl all ↦ absurd (omega (arith, few, all, over))
+          | inr (_, none) ↦ absurd (omega (arith, follows, ap length none))
+        ]
+      ]
+
+  -- n were read
+  all_found : length reads.values ≡ n → AppendsSame Same xs before after × (mid ≡ Some more)
+  all_found many =
+      let (c, is_c, consumes) = reads.consumed in
+      let (left, is_left, cut) = Consumes-known (bytes ++ more) c mid (subst (λ (o : Option (List ℕ)). Consumes o c mid) at consumes) in
+      elim (parts_compared IsForm Same unique some reads.values xs c left bytes more is_c are (sym cut)) [
+        | inl (same, rest, _) ↦ ((reads.values, reads.appended, same), is_left ∙ ap Some rest)
+        | inr (inl (few, _)) ↦ elim number [ inl all ↦ absurd (omega (arith, few, all, many)) | inr (less, _) ↦ absurd (omega (arith, few, less, many)) ]
+        | inr (inr (over, follows)) ↦ elim number [
+          | inl all ↦ absurd (omega (arith, many, all, over))
+          | inr (_, none) ↦ absurd (omega (arith, follows, ap length none))
+        ]
+      ]
+
+pub returns-in_err-value-clause-found : goal.returns-in_err-value-clause-found
+returns-in_err-value-clause-found g c xs bytes more are at number same =
+    let before = c.loop.invariant in
+    let unfailed = same ∙ sym before.unfailed in
+    passed_on c.from_residual.result _ _ _ c.from_residual.ensures.1
+    (elim (fewer_found g.T.Form.is_form g.T.Form.same g.met.T.Form.unique g.met.T.Form.some _ _ _ _ before.reads xs bytes more are at
+    c.args.n number (omega (arith, before.count, c.loop-test.true))) [
+      | inl (_, ended, none) ↦ absurd (c.in_err-value.ensures.end.always unfailed (ended ∙ ap Some none))
+      | inr (left, is_left, (x, part, rest, is, cut)) ↦ c.in_err-value.ensures.found x part rest is (is_left ∙ ap Some cut) unfailed
+    ])
+
+pub returns-in_default-clause-found : goal.returns-in_default-clause-found
+returns-in_default-clause-found g c xs bytes more are at number same =
+    let before = c.loop.invariant in
+    let ended = rw c.in_default.is at c.in_ok-value.ensures.end.none in
+    elim (fewer_found g.T.Form.is_form g.T.Form.same g.met.T.Form.unique g.met.T.Form.some _ _ _ _ before.reads xs bytes more are at
+    c.args.n number (omega (arith, before.count, c.loop-test.true))) [
+      | inl (appends, rest, _) ↦ (appends, ended.1 ∙ rest)
+      | inr (left, is_left, (x, part, rest, is, cut)) ↦ absurd (omega (
+        arith,
+        g.met.T.Form.some x part is,
+        ap length (subst IsAtEnd is_left ended.0),
+        ap length cut,
+        length-append part rest,
+      ))
+    ]
+
+pub returns-in_err-push-clause-found : goal.returns-in_err-push-clause-found
+returns-in_err-push-clause-found g c xs bytes more are at number same =
+    if_given _ _ _ c.from_residual-in_err-push.result c.from_residual-in_err-push.ensures.1 (λ e memory. memory)
+
+pub returns-clause-found : goal.returns-clause-found
+returns-clause-found g c xs bytes more are at number same =
+    all_found g.T.Form.is_form g.T.Form.same g.met.T.Form.unique g.met.T.Form.some _ _ _ _ c.loop.invariant.reads xs bytes more are at
+    c.args.n number (omega (arith, c.loop.invariant.count, c.loop-test.false, c.loop.auto.counter-end))
