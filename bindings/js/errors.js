@@ -1,4 +1,4 @@
-// The error of all calls, and its texts.
+// MultihashError, the error of invalid input, and its texts.
 
 /** The names of the statuses of multihash.h, by their numbers. */
 export const STATUSES = ['ok', 'insufficient', 'overflow', 'not_minimal', 'invalid_size', 'invalid_code',

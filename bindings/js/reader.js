@@ -1,4 +1,4 @@
-// The reader of streams.
+// MultihashReader, which decodes the multihashes of a stream one after the other.
 import { bits64, checkedLength, checkedOptions } from './arguments.js';
 import { DIGEST_MAX, readAt } from './core.js';
 import { sourceOf } from './sources.js';

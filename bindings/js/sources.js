@@ -1,4 +1,4 @@
-// Sources of chunks of bytes.
+// What the reader and the hash functions read: the chunks of a ReadableStream or of an async iterable.
 import { wrongType } from './arguments.js';
 
 /** The chunks of a ReadableStream, which in Safari is not an async iterable, or of an async iterable. */

@@ -1,4 +1,4 @@
-/* Readers of files: the base of both classes. */
+/* The base of MultihashReader and AsyncMultihashReader: it keeps what was read of the next multihash. */
 #include "core.h"
 
 typedef struct reader_object {

@@ -1,4 +1,4 @@
-/* Multihash. */
+/* The type Multihash: a code and a digest. */
 #include "core.h"
 
 typedef struct multihash_object {
