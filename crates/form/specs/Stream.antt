@@ -31,8 +31,8 @@ pub record AppendsUpTo {A : Type 0} (IsForm : A → List ℕ → Type 0) (n : �
   pub number : (length reads.values ≡ n) ⊎ ((length reads.values < n) × IsAtEnd new)
 
 -- fewer than n values were read and appended, and then reading failed with `e`
-pub record AppendsThenStops {A : Type 0} (IsForm : A → List ℕ → Type 0) (Rejects : FormError → List ℕ → Type 0)
-    (n : ℕ) (before after : List A) (failures_before failures_after : ℕ) (old new : Option (List ℕ))
+pub record AppendsThenStops {A : Type 0} (IsForm : A → List ℕ → Type 0)
+    (Rejects : FormError → List ℕ → Type 0) (n : ℕ) (before after : List A) (failures_before failures_after : ℕ) (old new : Option (List ℕ))
     (e : FormError) : Type 0 where
   pub following : Option (List ℕ)
   pub reads : AppendsValues IsForm before after old following
