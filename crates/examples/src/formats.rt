@@ -1,10 +1,13 @@
 //! Formats made of parts of the crate `form`. Nothing here has a proof by hand.
-ghost use Rattle.std.specs.Prelude.{◌≡◌, ◌≢◌, ◌<◌, ◌⊎◌, ℕ, List, [], ◌++◌, length, Some, OnOk, OnErr, IfOk, MatchResult, IsErrAnd};
+ghost use Rattle.std.specs.Prelude.{◌≡◌, ◌≢◌, ◌<◌, ◌⊎◌, ℕ, List, [], ◌++◌, length, Some, OnOk, OnErr, IfOk, IfErr, MatchResult, IsErrAnd};
 ghost use Rattle.multihash.specs.Bytes.{IsStrictPrefix};
+ghost use Rattle.multihash.specs.Streams.{AreParts};
 ghost use Rattle.multihash.specs.Writing.{CountsWriterFailures, IsWriterFaultOrFull};
 ghost use Rattle.multihash.specs.Refusal.{IsIo, IsOutOfMemory, IsReaderError};
 ghost use Rattle.form.specs.Form.{AppendsSome, AppendsPrefixOfSome};
 ghost use Rattle.form.specs.FormError.{IsFailed, IsTruncated};
+ghost use Rattle.form.specs.Rejecting.{ReadStops};
+ghost use Rattle.form.specs.Stream.{rest_from, AppendsUpTo, AppendsSame};
 ghost use Rattle.form.specs.declared.error.FormError.TheVariants.{Trailing};
 ghost use Rattle.examples.specs.Formats.{IsNode};
 
@@ -41,6 +44,8 @@ pub fn read_identifier(alloc: Global, bytes: &[u8]) -> Result<Identifier, FormEr
     ensures trailing { (x : _) (front more : List ℕ) → ⟦<Identifier as Form>⟧.is_form x front → more ≢ [] →
         bytes.now ≡ front ++ more →
         IsErrAnd result (λ e. (e ≡ Trailing (length more)) ⊎ IsFailed IsOutOfMemory e) }
+    ensures rejected { (e : FormError) (front more : List ℕ) → ⟦<Identifier as Form>⟧.rejects e front →
+        bytes.now ≡ front ++ more → IsErrAnd result (λ f. (f ≡ e) ⊎ IsFailed IsOutOfMemory f) }
 {
     form::from_bytes::<Identifier>(alloc, bytes)
 }
@@ -60,6 +65,28 @@ pub fn entry_numbers(alloc: Global, log: &[u8]) -> Result<Vec<u64>, FormError> {
         numbers.push(entry.first.value)?;
     }
     Ok(numbers)
+}
+
+/// Appends `n` entries of a log to `list`, or all that come before the end of the log if these are fewer.
+///
+/// # Errors
+///
+/// Those of [`Stream::read_up_to`]. The entries before the error have been appended.
+pub fn read_entries<R: Read>(
+    alloc: Global,
+    log: &mut Stream<R>,
+    n: usize,
+    list: &mut Vec<LogEntry>,
+) -> Result<(), FormError>
+    ensures ok { OnOk result (AppendsUpTo ⟦<LogEntry as Form>⟧.is_form n list.old.items list.new.items
+        (rest_from log.old.ahead (R.rest log.old.inner)) (rest_from log.new.ahead (R.rest log.new.inner))) }
+    ensures found { (xs : List _) (bytes more : List ℕ) → AreParts ⟦<LogEntry as Form>⟧.is_form xs bytes →
+        rest_from log.old.ahead (R.rest log.old.inner) ≡ Some (bytes ++ more) →
+        (length xs ≡ n) ⊎ ((length xs < n) × (more ≡ [])) → R.failures log.new.inner ≡ R.failures log.old.inner →
+        MatchResult result (λ _. AppendsSame ⟦<LogEntry as Form>⟧.same xs list.old.items list.new.items
+        × (rest_from log.new.ahead (R.rest log.new.inner) ≡ Some more)) (IsFailed IsOutOfMemory) }
+{
+    log.read_up_to::<LogEntry>(alloc, n, list)
 }
 
 /// Appends the encoding of a node: the version, the number of links, the links, the length of the content
@@ -116,6 +143,8 @@ pub fn read_record<R: Read>(alloc: Global, r: &mut R) -> Result<PeerRecord, Form
     ensures truncated { (x : _) (bytes part : List ℕ) → ⟦<PeerRecord as Form>⟧.is_form x bytes →
         IsStrictPrefix part bytes → R.rest r.old ≡ Some part → R.failures r.new ≡ R.failures r.old →
         IsErrAnd result (λ e. IsFailed IsTruncated e ⊎ IsFailed IsOutOfMemory e) }
+    ensures err { IfErr result (λ e. ReadStops ⟦<PeerRecord as Form>⟧.is_form ⟦<PeerRecord as Form>⟧.rejects
+        (R.failures r.old) (R.failures r.new) e (R.rest r.old) (R.rest r.new)) }
 {
     form::read::<PeerRecord, R>(alloc, r)
 }

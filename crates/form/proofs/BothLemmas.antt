@@ -1,8 +1,7 @@
 -- Reading and writing two parts: for `Both`, `write_two`, `write_three`, `Counted` and `OneOf`.
-use Rattle.std.proofs.Common.{◌≡◌, ℕ, ◌<◌, ◌⊎◌, inl, inr, List, ◌++◌, length, Option, refl, sym, ap, subst, ◌∙◌, append_assoc, length-append, arith}
-use Rattle.multihash.specs.Reading.{Consumes}
+use Rattle.std.proofs.Common.{ℕ, List, ◌++◌, Option, refl}
 use Rattle.multihash.specs.Consuming.{ConsumesSome}
-use Rattle.multihash.proofs.ReadingLemmas.{Consumes-known, Consumes-concatenated}
+use Rattle.multihash.proofs.ReadingLemmas.{Consumes-concatenated}
 use Rattle.multihash.proofs.WritingLemmas.{AppendsBoth, AppendsPrefix-append, AppendsPrefix-concatenated}
 use Rattle.form.specs.Form.{Then, AppendsSome, AppendsPrefixOfSome}
 

@@ -1,9 +1,6 @@
 -- Items, one after another: for `all_from_bytes` and `read_up_to`.
-use Rattle.std.proofs.Common.{◌≡◌, ℕ, ◌<◌, ◌⊎◌, inl, inr, List, [], ◌∷◌, ◌++◌, length, length-append, append_assoc, Option, refl, sym, ap, subst, ◌∙◌, arith}
-use Rattle.std.specs.Io.KnownBytes.{prepend_known}
-use Rattle.multihash.specs.Reading.{Consumes}
+use Rattle.std.proofs.Common.{◌≡◌, ℕ, ◌<◌, ◌⊎◌, inl, inr, List, [], ◌∷◌, ◌++◌, length, length-append, append_assoc, refl, sym, ap, ◌∙◌, arith}
 use Rattle.multihash.specs.Streams.{AreParts}
-use Rattle.multihash.proofs.ReadingLemmas.{Consumes-none, prepend_known-append}
 use Rattle.form.specs.Form.{AreSame}
 
 -- the part of some item comes next
@@ -21,19 +18,31 @@ pub parts_compared : {A : Type 0} (IsPart : A → List ℕ → Type 0) (Same : A
 parts_compared IsPart Same unique some [] [] a left bytes more none all cut =
     inl (tt, sym (ap (λ (l : List ℕ). l ++ left) none) ∙ cut ∙ ap (λ (l : List ℕ). l ++ more) all, refl)
 parts_compared IsPart Same unique some [] (x ∷ xs) a left bytes more none (part, rest, is, _, split) cut =
-    inr (inl (omega arith, (x, part, rest ++ more, is, sym (ap (λ (l : List ℕ). l ++ left) none) ∙ cut
-    ∙ ap (λ (l : List ℕ). l ++ more) split ∙ append_assoc part rest more)))
+    inr (inl (
+      omega arith,
+      (
+        x,
+        part,
+        rest ++ more,
+        is,
+        sym (ap (λ (l : List ℕ). l ++ left) none) ∙ cut
+            ∙ ap (λ (l : List ℕ). l ++ more) split ∙ append_assoc part rest more,
+      ),
+    ))
 parts_compared IsPart Same unique some (f ∷ found) [] a left bytes more (part, others, is, _, split) all cut =
-    inr (inr (omega arith, omega (
-      arith,
-      some f part is,
-      ap length split,
-      ap length all,
-      ap length cut,
-      length-append part others,
-      length-append a left,
-      length-append bytes more,
-    )))
+    inr (inr (
+      omega arith,
+      omega (
+        arith,
+        some f part is,
+        ap length split,
+        ap length all,
+        ap length cut,
+        length-append part others,
+        length-append a left,
+        length-append bytes more,
+      ),
+    ))
 parts_compared IsPart Same unique some (f ∷ found) (x ∷ xs) a left bytes more (p, others, is_p, are, split) (q, rest, is_q, are_too, split_too) cut =
     let joined : p ++ (others ++ left) ≡ q ++ (rest ++ more) =
     sym (append_assoc p others left) ∙ ap (λ (l : List ℕ). l ++ left) (sym split) ∙ cut

@@ -1,9 +1,8 @@
 -- What `err` and `faults` of `read` state, from the contracts of the library's calls: for `read` of each part.
-use Rattle.std.proofs.Common.{◌≡◌, ℕ, ◌<◌, ◌≤◌, ◌⊎◌, inl, inr, List, [], ◌++◌, length, length-append, Option, Some, refl, sym, ap, subst, ◌∙◌, append-nil, arith}
-use Rattle.std.specs.Prelude.{None, IfSome, Err}
-use Rattle.multihash.specs.Bytes.{IsPrefix, IsStrictPrefix}
-use Rattle.multihash.specs.Pair.{Pair, FitsBuffer}
-use Rattle.multihash.specs.Varint.{VarintError, insufficient, overflow, not_minimal, IsVarint, IsInsufficient, BeginsMalformed}
+use Rattle.std.proofs.Common.{◌≡◌, ℕ, ◌<◌, ◌≤◌, ◌⊎◌, inl, inr, List, [], length, length-append, Option, Some, refl, sym, ap, subst, ◌∙◌, append-nil, arith}
+use Rattle.std.specs.Prelude.{None}
+use Rattle.multihash.specs.Bytes.{IsPrefix}
+use Rattle.multihash.specs.Varint.{VarintError, insufficient, overflow, not_minimal, IsVarint, IsInsufficient}
 use Rattle.multihash.specs.Encoding.{IsEncoding}
 use Rattle.multihash.specs.Verdict.{Verdict, accepted, HasVerdict, IsIncomplete}
 use Rattle.multihash.specs.Settling.{Settles, IsShortestSettling}
@@ -18,13 +17,13 @@ use Rattle.multihash.proofs.ReadConsumingLemmas.{incomplete_error}
 use Rattle.multihash.proofs.CallingLemmas.{front_error_unique, incomplete_or_not}
 use Rattle.multihash.specs.Consuming.{FailsBy, ExactFails, ReadFails, ConsumesAtVarintError, ConsumesVarint, ConsumesShortestSettling, ConsumesNothingSettling, EndsOrFails}
 use Rattle.multihash.proofs.ReadingLemmas.{all_read, Consumes-none}
-use Rattle.frame.specs.Frame.{IsFramed, FrameFails, BlockFails, MayFailWith}
+use Rattle.frame.specs.Frame.{IsFramed, FrameFails, MayFailWith}
 use Rattle.frame.specs.Frame.{IsFailed as IsFrameFailed}
 use Rattle.frame.specs.declared.error.FrameError.{FrameError}
 use Rattle.form.specs.Form.{Then}
 use Rattle.form.specs.FormError.{IsFailed, IsTruncated, IsErrorOfFrame}
 use Rattle.form.specs.RejectLaws.{malformed_kept}
-use Rattle.form.specs.Rejecting.{ShowsMalformed, ShowsError, RejectsNumber, RejectsMultihash, RejectsNumberThen, RejectsTooLong, IsUndecided, StopsAt, ReadStops}
+use Rattle.form.specs.Rejecting.{ShowsMalformed, RejectsNumber, RejectsMultihash, RejectsNumberThen, RejectsTooLong, IsUndecided, StopsAt, ReadStops}
 use Rattle.form.specs.declared.error.FormError.{FormError}
 use Rattle.form.specs.declared.error.FormError.TheVariants.{Failed, TooLong}
 use Rattle.form.proofs.StopLemmas.{first_stops, next_rejected, from_stops}
@@ -48,10 +47,14 @@ insufficient_undecided x ends = record {
 -- a varint is malformed, and not only truncated
 rejects_malformed : (error : VarintError) (e : Refusal) (old new : Option (List ℕ)) (c : ConsumesAtVarintError e old new)
     → IsVarintError error e → (error ≡ insufficient → ⊥) → RejectsNumber (Failed e) c.consumed
-rejects_malformed error e old new c named whole = (e, refl, record {
-  holds = (error, named, whole, c.shows error named);
-  shortest = λ shorter strict shown. not_shown shorter (c.no_sooner shorter strict) e shown;
-})
+rejects_malformed error e old new c named whole = (
+  e,
+  refl,
+  record {
+    holds = (error, named, whole, c.shows error named);
+    shortest = λ shorter strict shown. not_shown shorter (c.no_sooner shorter strict) e shown;
+  },
+)
 
 -- `varint::read` failed
 pub varint_stops : (before after : ℕ) (e : Refusal) (old new : Option (List ℕ)) → FailsBy before after IsAnyVarintError e
@@ -62,8 +65,10 @@ varint_stops before after e (Some input) new cause c = inr (record {
   consumes = c.consumes;
   cause = elim cause [
     | inl (up, own) ↦ inr (inl (up, insufficient_undecided c.consumed (c.failed own)))
-    | inr (same, (insufficient, named)) ↦ inr (inr ((e, refl, inl named),
-        insufficient_undecided input (subst IsInsufficient (sym (all_read input c.consumed new c.consumes (c.all named))) (c.shows insufficient named))))
+    | inr (same, (insufficient, named)) ↦ inr (inr (
+      (e, refl, inl named),
+      insufficient_undecided input (subst IsInsufficient (sym (all_read input c.consumed new c.consumes (c.all named))) (c.shows insufficient named)),
+    ))
     | inr (same, (overflow, named)) ↦ inl (rejects_malformed overflow e (Some input) new c named (λ is. cc))
     | inr (same, (not_minimal, named)) ↦ inl (rejects_malformed not_minimal e (Some input) new c named (λ is. cc))
   ];
@@ -90,11 +95,14 @@ module _ (S : ℕ) where
       let own = subst (λ (z : List ℕ). HasVerdict S z x.settles.verdict) (append-nil front) (x.settles.always [] (λ k d few. absurd (omega (arith, few)))) in
       let stays : ¬ (IsIncomplete x.settles.verdict) = λ soon. incomplete_not_settles S front x.settles.verdict soon own x.settles in
       let same : x.settles.verdict ≡ v = verdict_unique S input x.settles.verdict v
-      (subst (λ (z : List ℕ). HasVerdict S z x.settles.verdict) (sym cut) (verdict_kept S front rest x.settles.verdict stays own)) has in
-      (e, refl, record {
-        holds = (v, subst (HasVerdict S front) same own, late, names);
-        shortest = λ shorter strict shown. let (w, also, whole, _) = shown in x.shortest shorter strict (late_settles S shorter w whole also);
-      })
+      (subst (λ (z : List ℕ). HasVerdict S z x.settles.verdict) (sym cut) (verdict_kept S front rest x.settles.verdict stays own)) has in (
+        e,
+        refl,
+        record {
+          holds = (v, subst (HasVerdict S front) same own, late, names);
+          shortest = λ shorter strict shown. let (w, also, whole, _) = shown in x.shortest shorter strict (late_settles S shorter w whole also);
+        },
+      )
 
   -- `Multihash::read` failed
   pub multihash_stops : (before after : ℕ) (e : Refusal) (old new : Option (List ℕ)) → ReadFails S before after e old new
@@ -102,10 +110,10 @@ module _ (S : ℕ) where
   multihash_stops before after e None new r = inr tt
   multihash_stops before after e (Some input) new r = inr (elim r.faults [
     | inl (up, own) ↦ let none = r.unsettled (inl up) in record {
-        consumed = none.consumed;
-        consumes = none.consumes;
-        cause = inr (inl (up, unsettled_undecided none.consumed none.unsettled));
-      }
+      consumed = none.consumed;
+      consumes = none.consumes;
+      cause = inr (inl (up, unsettled_undecided none.consumed none.unsettled));
+    }
     | inr (same, _) ↦ by_verdict (r.verdict same).0 (r.verdict same).1 (r.verdict same).2 (incomplete_or_not (r.verdict same).0) (r.settled same) r.unsettled
   ])
     where

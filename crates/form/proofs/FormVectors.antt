@@ -1,21 +1,23 @@
 -- What the definitions exclude.
-use Rattle.std.proofs.Common.{◌≡◌, ℕ, List, [], ◌∷◌, ◌++◌, length, length-append, Some, inl, inr, refl, sym, ap, ◌∙◌, arith}
+use Rattle.std.proofs.Common.{◌≡◌, ℕ, List, [], ◌∷◌, ◌++◌, length, length-append, Some, inl, inr, refl, sym, ap, subst, ◌∙◌, arith}
 use Rattle.std.specs.Prelude.{⊤, codes}
 use Rattle.std.specs.Fmt.{digits}
 use Rattle.multihash.specs.Refusal.{of_varint, of_size}
 use Rattle.multihash.specs.Varint.{insufficient, overflow, not_minimal}
 use Rattle.multihash.specs.Verdict.{accepted, invalid_size, invalid_code, malformed, unexpected_eof}
-use Rattle.multihash.proofs.ReadingLemmas.{all_read}
+use Rattle.multihash.proofs.ReadingLemmas.{all_read, Consumes-known}
 use Rattle.frame.specs.declared.error.FrameError.TheVariants.{TooLong as FrameTooLong}
 use Rattle.form.specs.ByteCount.{HasCounted}
 use Rattle.form.specs.Form.{Then, AreSame}
 use Rattle.form.specs.FormError.{IsFailed, IsTruncated, IsErrorOfFrame, form_error_text}
 use Rattle.form.specs.OneOf.{AreSameCase}
-use Rattle.form.specs.Rejecting.{IsShortest, ShowsMalformed, ShowsError, IsUndecided, StopsAt, IsWholeError}
-use Rattle.form.specs.Stream.{rest_from}
+use Rattle.form.specs.Rejecting.{IsShortest, ShowsMalformed, ShowsError, IsUndecided, StopsAt, ReadStops, IsWholeError}
+use Rattle.form.specs.Stream.{rest_from, AppendsValues, AppendsUpTo, AppendsThenStops}
+use Rattle.multihash.specs.Streams.{AreParts}
 use Rattle.form.specs.declared.byte_count.ByteCount.{ByteCount}
 use Rattle.form.specs.declared.case.Case.{Case}
 use Rattle.form.specs.declared.case.OtherCase.{OtherCase}
+use Rattle.form.specs.declared.error.FormError.{FormError}
 use Rattle.form.specs.declared.error.FormError.TheVariants.{Failed, TooMany, TooLong, OtherTag, Trailing}
 use Rattle.form.specs.declared.one_of.OneOf.TheVariants.{First, Second}
 
@@ -113,6 +115,51 @@ texts = (refl, refl, refl, refl)
 
 ahead_comes_first : rest_from (Some 7) (Some (8 ∷ [])) ≡ Some (7 ∷ 8 ∷ [])
 ahead_comes_first = refl
+
+-- the byte that is the value
+abbrev IsByte : ℕ → List ℕ → Type 0
+IsByte x bytes = bytes ≡ x ∷ []
+
+-- the values that were appended are those that were read
+other_value : ¬ (AppendsValues IsByte [] (2 ∷ []) (Some (1 ∷ [])) (Some []))
+other_value r =
+    let (c, are, consumes) = r.consumed in
+    let cut : 1 ∷ [] ≡ c = all_read (1 ∷ []) c (Some []) consumes refl in
+    let (part, rest, is, none, split) = subst (λ (l : List ℕ). AreParts IsByte l c) (sym r.appended) are in
+    let whole : 1 ∷ [] ≡ 2 ∷ [] = cut ∙ split ∙ ap (λ (l : List ℕ). l ++ rest) is ∙ ap (λ (l : List ℕ). 2 ∷ l) none in
+    let heads : ◌≡◌ {A = ℕ} 1 2 = cc in
+    omega (arith, heads)
+
+-- fewer values are read only at the end of the input
+stopped_early : ¬ (AppendsUpTo IsByte 1 [] [] (Some (1 ∷ [])) (Some (1 ∷ [])))
+stopped_early r = elim r.number [
+  | inl all ↦ omega (arith, all, ap length r.reads.appended)
+  | inr (few, ended) ↦ let none : 1 ∷ [] ≡ [] = ended in cc
+]
+
+one_too_many : ¬ (AppendsUpTo IsByte 0 [] (1 ∷ []) (Some (1 ∷ [])) (Some []))
+one_too_many r = elim r.number [
+  | inl all ↦ omega (arith, all, ap length r.reads.appended)
+  | inr (few, ended) ↦ omega (arith, few)
+]
+
+-- no value was asked for
+nothing_to_read : (e : FormError) → ¬ (AppendsThenStops IsByte (λ f b. ⊥) 0 [] [] 0 0 (Some []) (Some []) e)
+nothing_to_read e r = omega (arith, r.fewer)
+
+-- nothing explains the error
+no_reason : ¬ (AppendsThenStops IsByte (λ f b. ⊥) 1 [] [] 0 0 (Some []) (Some []) (TooMany 7))
+no_reason r =
+    let (c, _, consumes) = r.reads.consumed in
+    let (left, is_left, _) = Consumes-known [] c r.following consumes in
+    elim (subst (λ o. ReadStops IsByte (λ f b. ⊥) 0 0 (TooMany 7) o (Some [])) is_left r.failed) [
+      | inl memory ↦ too_many_is_not_failed 7 (memory.0, memory.1, tt)
+      | inr s ↦ elim s.cause [
+        | inl rejects ↦ rejects
+        | inr (inl (failed, _)) ↦ omega (arith, failed)
+        | inr (inr (ends, _)) ↦ too_many_is_not_failed 7 (ends.0, ends.1, tt)
+      ]
+    ]
 
 -- a writer whose count is 2 has counted two bytes, and no other number
 counts_two : (w : ByteCount) → w.count ≡ 2 → HasCounted w 2 × ((n : ℕ) → HasCounted w n → n ≡ 2)

@@ -1,5 +1,5 @@
 -- Two parts, one after the other, of which one was not read: for `read` of `Both`, `Counted`, `OneOf`, `Tag` and `Block`.
-use Rattle.std.proofs.Common.{◌≡◌, ℕ, zero, suc, ◌<◌, ◌⊎◌, inl, inr, List, [], ◌∷◌, ◌++◌, length, length-append, Option, Some, refl, sym, ap, subst, ◌∙◌, append_assoc, append-nil, arith}
+use Rattle.std.proofs.Common.{◌≡◌, ℕ, zero, suc, ◌<◌, inl, inr, List, [], ◌∷◌, ◌++◌, length, length-append, Option, Some, refl, sym, ap, subst, ◌∙◌, append_assoc, append-nil, arith}
 use Rattle.std.specs.Prelude.{None, IfSome}
 use Rattle.std.specs.Io.KnownBytes.{prepend_known}
 use Rattle.multihash.specs.Varint.{IsVarint}
@@ -83,7 +83,7 @@ module _ {A B C : Type 0} (IsFirst : A → List ℕ → Type 0) (RejectsFirst : 
   module _ (Same : A → A → Type 0) (unique : (x y : A) (a b r s : List ℕ) → IsFirst x a → IsFirst y b → a ++ r ≡ b ++ s → Same x y × (r ≡ s))
       (not_both : (x : A) (e : FormError) (a b r s : List ℕ) → IsFirst x a → RejectsFirst e b → a ++ r ≡ b ++ s → ⊥)
       (respects : (x y : A) (bytes : List ℕ) → Same x y → IsUndecided (IsNext x) (RejectsNext x) bytes
-          → IsUndecided (IsNext y) (RejectsNext y) bytes) where
+      → IsUndecided (IsNext y) (RejectsNext y) bytes) where
     next_undecided : (x : A) (c bytes : List ℕ) → IsFirst x c → IsUndecided (IsNext x) (RejectsNext x) bytes
         → IsUndecided IsForm (RejectsInTurn IsFirst RejectsFirst RejectsNext) (c ++ bytes)
     next_undecided x c bytes is_c u = record {
@@ -107,8 +107,11 @@ module _ {A B C : Type 0} (IsFirst : A → List ℕ → Type 0) (RejectsFirst : 
       cause = elim s.cause [
         | inl rejects ↦ inl (inr (x, record { first = c; second = s.consumed; is_first = is_c; is_second = rejects; parts = refl }))
         | inr (inl (failed, u)) ↦ inr (inl (omega (arith, failed, same), next_undecided x c s.consumed is_c u))
-        | inr (inr (ends, u)) ↦ inr (inr (ends, subst (IsUndecided IsForm (RejectsInTurn IsFirst RejectsFirst RejectsNext)) (sym cut)
-            (next_undecided x c left is_c u)))
+        | inr (inr (ends, u)) ↦ inr (inr (
+          ends,
+          subst (IsUndecided IsForm (RejectsInTurn IsFirst RejectsFirst RejectsNext)) (sym cut)
+              (next_undecided x c left is_c u),
+        ))
       ];
     }
 
@@ -179,8 +182,11 @@ nothing_stops IsForm Rejects some rejects_some before after e None new failed ke
 nothing_stops IsForm Rejects some rejects_some before after e (Some input) new failed kept = inr (record {
   consumed = [];
   consumes = sym kept ∙ Consumes-none new;
-  cause = inr (inl (failed, record {
-    no_form = λ x front rest cut is. omega (arith, some x front is, ap length cut, length-append front rest);
-    no_error = λ f front rest cut rejects. omega (arith, rejects_some f front rejects, ap length cut, length-append front rest);
-  }));
+  cause = inr (inl (
+    failed,
+    record {
+      no_form = λ x front rest cut is. omega (arith, some x front is, ap length cut, length-append front rest);
+      no_error = λ f front rest cut rejects. omega (arith, rejects_some f front rejects, ap length cut, length-append front rest);
+    },
+  ));
 })

@@ -1,6 +1,6 @@
 -- The laws of what is rejected: none of it is at the start of an input that starts with an encoding, and an input has
 -- only one error, which is shown at one place.
-use Rattle.std.proofs.Common.{◌≡◌, ◌<◌, ◌≤◌, ◌⊎◌, inl, inr, ℕ, zero, suc, List, [], ◌∷◌, ◌++◌, length, refl, sym, ap, ◌∙◌, append_assoc, append-nil, subst, arith}
+use Rattle.std.proofs.Common.{◌≡◌, ◌<◌, ◌≤◌, inl, inr, ℕ, zero, suc, List, [], ◌∷◌, ◌++◌, length, refl, sym, ap, ◌∙◌, append_assoc, append-nil, subst, arith}
 use Rattle.multihash.specs.Pair.{Pair, FitsBuffer}
 use Rattle.multihash.specs.Varint.{VarintError, insufficient, overflow, not_minimal, IsVarint, IsInsufficient}
 use Rattle.multihash.specs.Verdict.{malformed, IsIncomplete}
@@ -15,7 +15,6 @@ use Rattle.multihash.proofs.VerdictLemmas.{verdict_unique}
 use Rattle.multihash.proofs.SettlingLemmas.{compare_prefixes, error_kept, error_of_part, verdict_kept}
 use Rattle.multihash.proofs.CallingLemmas.{front_error_unique, encoding_no_error, error_of_unique}
 use Rattle.form.specs.Form.{Then}
-use Rattle.form.specs.FormError.{IsFailed}
 use Rattle.form.specs.FormLaws.{then_unique, then_some}
 use Rattle.form.specs.PartLaws.{number_unique, number_some}
 use Rattle.form.specs.OneOf.{IsOneOf}

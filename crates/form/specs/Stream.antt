@@ -1,5 +1,5 @@
 -- A reader that may have read one byte ahead, and values that were read from it.
-use Rattle.std.specs.Prelude.{◌≡◌, ◌<◌, ◌≤◌, ◌⊎◌, ℕ, List, [], ◌∷◌, ◌++◌, length, Option, Some, None}
+use Rattle.std.specs.Prelude.{◌≡◌, ◌<◌, ◌⊎◌, ℕ, List, [], ◌∷◌, ◌++◌, length, Option, Some, None}
 use Rattle.std.specs.Io.KnownBytes.{prepend_known, IsAtEnd}
 use Rattle.multihash.specs.Streams.{AreParts}
 use Rattle.multihash.specs.Consuming.{ConsumesSome}
@@ -31,8 +31,8 @@ pub record AppendsUpTo {A : Type 0} (IsForm : A → List ℕ → Type 0) (n : �
   pub number : (length reads.values ≡ n) ⊎ ((length reads.values < n) × IsAtEnd new)
 
 -- fewer than n values were read and appended, and then reading failed with `e`
-pub record AppendsThenStops {A : Type 0} (IsForm : A → List ℕ → Type 0) (Rejects : FormError → List ℕ → Type 0)
-    (n : ℕ) (before after : List A) (failures_before failures_after : ℕ) (old new : Option (List ℕ))
+pub record AppendsThenStops {A : Type 0} (IsForm : A → List ℕ → Type 0)
+    (Rejects : FormError → List ℕ → Type 0) (n : ℕ) (before after : List A) (failures_before failures_after : ℕ) (old new : Option (List ℕ))
     (e : FormError) : Type 0 where
   pub following : Option (List ℕ)
   pub reads : AppendsValues IsForm before after old following

@@ -53,9 +53,7 @@ impl<A: Form + Drop, B: Form> Form for Both<A, B> {
     ghost rejects_unique = { λ e f. turn_unique A.is_form A.rejects (λ _. B.rejects) A.same A.unique A.not_both e f
         (A.rejects_unique e f) (λ _ _ _. B.rejects_unique e f) };
 
-    ghost rejects_some = {
-        turn_rejects_some A.is_form A.rejects (λ _. B.rejects) A.same A.unique A.not_both A.some A.rejects_some
-    };
+    ghost rejects_some = { turn_rejects_some A.is_form A.rejects (λ _. B.rejects) A.same A.unique A.not_both A.some A.rejects_some };
 
     ghost one = { λ x y a b same. then_one a b (λ c d. A.one x.first y.first c d same.0)
         (λ c d. B.one x.second y.second c d same.1) };

@@ -10,8 +10,8 @@ use multihash::no_std_io::{Read, Write};
 use std::alloc::Global;
 
 /// States that each value has one encoding, which is not empty, and that two encodings at the start of one input are of
-/// the same value: so none is a strict prefix of another. No input starts with an encoding and is rejected, and one that
-/// is rejected has one error. The function does nothing: a caller uses its contract.
+/// the same value, so that none is a strict prefix of another; that no input which starts with an encoding is rejected,
+/// and that one which is rejected has one error. The function does nothing: a caller uses its contract.
 pub fn prefix_free<T: Form>()
     ensures exists { (x : T) → (bytes : List ℕ) × T.is_form x bytes }
     ensures one { (x y : T) (a b : List ℕ) → T.same x y → T.is_form x a → T.is_form y b → a ≡ b }

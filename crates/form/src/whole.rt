@@ -78,6 +78,8 @@ pub fn read_front<T: Form>(alloc: Global, bytes: &[u8]) -> Result<(T, &[u8]), Fo
         MatchResult result (λ y. T.same y.0 x × (y.1.now ≡ rest)) (IsFailed IsOutOfMemory) }
     ensures truncated { (x : T) (front : List ℕ) → T.is_form x front → IsStrictPrefix bytes.now front →
         IsErrAnd result (λ e. IsFailed IsTruncated e ⊎ IsFailed IsOutOfMemory e) }
+    ensures rejected { (e : FormError) (front more : List ℕ) → T.rejects e front → bytes.now ≡ front ++ more →
+        IsErrAnd result (λ f. (f ≡ e) ⊎ IsFailed IsOutOfMemory f) }
 {
     let mut rest = bytes;
     let value = read::<T, &[u8]>(alloc, &mut rest)?;

@@ -1,4 +1,4 @@
-use Rattle.std.proofs.Common.{Some, ap, refl}
+use Rattle.std.proofs.Common.{Some, ap, inl, inr, refl}
 use Rattle.form.proofs.WholeLemmas.{known_is, if_passed}
 use Rattle.form.proofs.whole.read_front.Goals as goal
 
@@ -15,3 +15,11 @@ returns-clause-found g c x front rest is cut =
 pub returns-clause-truncated : goal.returns-clause-truncated
 returns-clause-truncated g c x front is strict =
     c.in_ok-value.ensures.truncated x front c.args.bytes.now is strict refl refl
+
+pub returns-in_err-value-clause-rejected : goal.returns-in_err-value-clause-rejected
+returns-in_err-value-clause-rejected g c e front more rejects cut =
+    if_passed _ c.from_residual.result _ c.from_residual.ensures.1
+    (elim (c.in_err-value.ensures.rejected e front more rejects (ap Some cut) refl) [ inl is ↦ inl is.0 | inr memory ↦ inr memory ])
+
+pub returns-clause-rejected : goal.returns-clause-rejected
+returns-clause-rejected g c e front more rejects cut = c.in_ok-value.ensures.rejected e front more rejects (ap Some cut) refl
