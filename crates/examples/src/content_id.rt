@@ -142,7 +142,14 @@ impl<const S: usize> ContentId<S> {
         match self {
             ContentId::V0(digest) => Form::write(&bare(digest), w),
             ContentId::V1 { codec, hash } => {
-                form::write_three(&Tag::<VERSION> {}, &Number { value: codec.number }, hash, w)
+                form::write_three(
+                    &Tag::<VERSION> {},
+                    &Number {
+                        value: codec.number,
+                    },
+                    hash,
+                    w,
+                )
             }
         }
     }

@@ -1,4 +1,4 @@
-use Rattle.std.proofs.Common.{◌≤◌, ◌<◌, ◌++◌, ℕ, length, Result, Ok, Err, IsOk, IfOk, IsErrAnd, arith, ap, length-append, length-drop}
+use Rattle.std.proofs.Common.{◌≤◌, ◌<◌, ℕ, length, Result, Ok, Err, IsOk, IfOk, IsErrAnd, arith, ap, length-append, length-drop}
 use Rattle.multihash.proofs.WritingLemmas.{full_of_errors, length_of_not_nil}
 use Rattle.examples.proofs.slices.write_to_slice.Goals as goal
 
