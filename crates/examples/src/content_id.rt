@@ -142,14 +142,10 @@ impl<const S: usize> ContentId<S> {
         match self {
             ContentId::V0(digest) => Form::write(&bare(digest), w),
             ContentId::V1 { codec, hash } => {
-                form::write_three(
-                    &Tag::<VERSION> {},
-                    &Number {
-                        value: codec.number,
-                    },
-                    hash,
-                    w,
-                )
+                let number = Number {
+                    value: codec.number,
+                };
+                form::write_three(&Tag::<VERSION> {}, &number, hash, w)
             }
         }
     }
