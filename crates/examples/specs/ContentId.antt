@@ -23,19 +23,13 @@ abbrev pub content_of : {S : ℕ} → ContentId S → Content
 content_of (V0 digest) = version_0 digest
 content_of (V1 codec hash) = version_1 codec.number (pair_of hash)
 
--- the bytes are a bare multihash, of SHA2-256 and 32 bytes, with neither a version nor a codec before it
-pub record IsVersion0 (digest bytes : List ℕ) : Type 0 where
-  pub whole : length digest ≡ 32
-  pub encodes : IsEncoding (record { code = 0x12; digest = digest }) bytes
-
--- the bytes are the varint of the version, which is 1, the varint of the codec, and the multihash
-abbrev pub IsVersion1 : ℕ → Pair → List ℕ → Type 0
-IsVersion1 codec p = Then (IsVarint 1) (Then (IsVarint codec) (IsEncoding p))
-
--- the bytes are an identifier of this content
+-- The bytes are an identifier of this content.
+-- Version 0 is the bare multihash of a SHA2-256 digest: the varints of its code and of its length, 32, and the digest.
+-- Version 1: the varint of the version, which is 1, the varint of the codec, and the multihash
 abbrev pub IsContentId : Content → List ℕ → Type 0
-IsContentId (version_0 digest) bytes = IsVersion0 digest bytes
-IsContentId (version_1 codec p) bytes = IsVersion1 codec p bytes
+IsContentId (version_0 digest) =
+    Then (IsVarint 0x12) (Then (IsVarint 32) (λ bytes. (length digest ≡ 32) × (bytes ≡ digest)))
+IsContentId (version_1 codec p) = Then (IsVarint 1) (Then (IsVarint codec) (IsEncoding p))
 
 -- the digest fits the capacity; that of version 0 has its own buffer
 abbrev pub FitsContentId : ℕ → Content → Type 0

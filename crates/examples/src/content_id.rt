@@ -1,15 +1,18 @@
 //! Content identifiers of versions 0 and 1 (<https://github.com/multiformats/cid>).
 ghost use Rattle.std.specs.Prelude.{◌≡◌, ℕ, List, ◌++◌, length, Some, IfOk, IfErr, OnOk, OnErr, MatchResult};
-ghost use Rattle.multihash.specs.Reading.{Consumes};
-ghost use Rattle.multihash.specs.Writing.{AppendsPrefix, CountsWriterFailures};
+ghost use Rattle.multihash.specs.Consuming.{ConsumesSome};
+ghost use Rattle.multihash.specs.Writing.{CountsWriterFailures};
 ghost use Rattle.multihash.specs.Refusal.{IsIo, of_io};
 ghost use Rattle.multihash.specs.Multihash.{pair_of};
+ghost use Rattle.form.specs.Form.{AppendsSome, AppendsPrefixOfSome};
+ghost use Rattle.form.specs.FormError.{IsFailed};
 ghost use Rattle.examples.specs.ContentId.{Content, content_of, content_error_text, IsContentId, FitsContentId, ContentIdFails};
 ghost use Rattle.examples.specs.declared.content_id.ContentIdError.TheVariants.{Rejected};
 
 mod codec;
 
 pub use codec::Codec;
+use form::{Form, FormError, Number, Tag};
 use multihash::no_std_io::{self, Read, Write};
 use multihash::{Error, Multihash, varint};
 use std::fmt;
@@ -82,8 +85,8 @@ impl<const S: usize> ContentId<S> {
     ///   unexpected end within the digest of version 0, or the reader's own error. The parts before the
     ///   malformed one were consumed, and of it what those calls say; of the digest fewer than 32 bytes.
     pub fn read<R: Read>(r: &mut R) -> Result<Self, ContentIdError>
-        ensures ok { IfOk result (λ id. (bytes : List ℕ) × IsContentId (content_of id) bytes
-            × Consumes (R.rest r.old) bytes (R.rest r.new)) }
+        ensures ok { IfOk result (λ id.
+            ConsumesSome (IsContentId (content_of id)) (R.rest r.old) (R.rest r.new)) }
         ensures unfailed { OnOk result (R.failures r.new ≡ R.failures r.old) }
         ensures err { IfErr result (λ e. ContentIdFails S (R.failures r.old) (R.failures r.new) e
             (R.rest r.old) (R.rest r.new)) }
@@ -94,6 +97,17 @@ impl<const S: usize> ContentId<S> {
             R.rest r.old ≡ Some (bytes ++ more) →
             R.failures r.new ≡ R.failures r.old → MatchResult result
             (λ id. (content_of id ≡ content) × (R.rest r.new ≡ Some more)) (λ _. ⊥) }
+    {
+        Self::read_parts(r)
+    }
+
+    // Reads the identifier that comes next, part by part.
+    fn read_parts<R: Read>(r: &mut R) -> Result<Self, ContentIdError>
+        ensures ok { IfOk result (λ id.
+            ConsumesSome (IsContentId (content_of id)) (R.rest r.old) (R.rest r.new)) }
+        ensures unfailed { OnOk result (R.failures r.new ≡ R.failures r.old) }
+        ensures err { IfErr result (λ e. ContentIdFails S (R.failures r.old) (R.failures r.new) e
+            (R.rest r.old) (R.rest r.new)) }
     {
         let version = varint::read(r)?;
         if version != VERSION && version != SHA2_256 {
@@ -118,26 +132,22 @@ impl<const S: usize> ContentId<S> {
     /// # Errors
     ///
     /// The writer's error. A strict prefix of the identifier has been appended then.
-    #[tactic(auto, using(crate::proofs::IdentifierLemmas::bare_is))]
-    pub fn write<W: Write>(&self, w: &mut W) -> Result<(), Error>
-        ensures ok { OnOk result ((bytes : List ℕ) × IsContentId (content_of self.now) bytes
-            × W.appended w.old bytes w.new) }
-        ensures err { OnErr result ((bytes : List ℕ) × IsContentId (content_of self.now) bytes
-            × AppendsPrefix W.appended w.old bytes w.new) }
-        ensures faults { CountsWriterFailures IsIo W.allocates
+    pub fn write<W: Write>(&self, w: &mut W) -> Result<(), FormError>
+        ensures ok { OnOk result (AppendsSome W.appended (IsContentId (content_of self.now)) w.old w.new) }
+        ensures err { OnErr result
+            (AppendsPrefixOfSome W.appended (IsContentId (content_of self.now)) w.old w.new) }
+        ensures faults { CountsWriterFailures (λ P. IsFailed (IsIo P)) W.allocates
             (W.failures w.old) (W.failures w.new) (W.full w.new) result }
     {
         match self {
-            ContentId::V0(digest) => {
-                bare(digest).write(w)?;
-            }
+            ContentId::V0(digest) => Form::write(&bare(digest), w),
             ContentId::V1 { codec, hash } => {
-                varint::write(VERSION, w)?;
-                varint::write(codec.number, w)?;
-                hash.write(w)?;
+                let number = Number {
+                    value: codec.number,
+                };
+                form::write_three(&Tag::<VERSION> {}, &number, hash, w)
             }
         }
-        Ok(())
     }
 }
 

@@ -1,24 +1,13 @@
-use Rattle.std.proofs.Common.{refl, ◌≡◌, ℕ, List, Some, Result, Ok, Err, sym, ◌∙◌, ◌<◌, ◌++◌, length, IfOk, ap, append_assoc}
+use Rattle.std.proofs.Common.{refl, ◌≡◌, ℕ, List, Some, sym, ◌∙◌, ◌<◌, ◌++◌, length, ap, append_assoc}
+use Rattle.std.proofs.lemmas.Result.{IfOk-weaker}
 use Rattle.multihash.specs.Verdict.{invalid_size, BeginsWithSize}
 use Rattle.multihash.specs.Pair.{digest_limit}
-use Rattle.multihash.specs.Encoding.{IsEncoding}
 use Rattle.multihash.specs.Consuming.{ConsumesShortestSettling}
-use Rattle.multihash.specs.Reading.{Consumes}
-use Rattle.multihash.specs.Refusal.{Refusal}
-use Rattle.multihash.specs.Multihash.{Fields, pair_of}
 use Rattle.multihash.proofs.CallingLemmas.{rejected_size}
+use Rattle.multihash.proofs.ReadingLemmas.{Consumes-cut}
 use Rattle.multihash.proofs.SettlingLemmas.{shortest_size, shortest_unique}
 use Rattle.multihash.proofs.EncodingLemmas.{same_cut}
 use Rattle.examples.proofs.slices.read_slice.Goals as goal
-
--- what was consumed is before what is left
-in_front : (S : ℕ) (input left : List ℕ) (r : Result (Fields S) Refusal)
-    → IfOk r (λ m. (bytes : List ℕ) × IsEncoding (pair_of m) bytes × Consumes (Some input) bytes (Some left))
-    → IfOk r (λ m. (bytes : List ℕ) × IsEncoding (pair_of m) bytes × (input ≡ bytes ++ left))
-in_front S input left (Ok m) ok =
-    let cut : input ≡ ok.0 ++ left = cc (ok.2) in
-    (ok.0, ok.1, cut)
-in_front S input left (Err e) ok = tt
 
 -- what follows the two varints of a size that is too large is left
 left_after : (S size : ℕ) (input rest left : List ℕ) → BeginsWithSize size input rest → digest_limit S < size
@@ -26,14 +15,16 @@ left_after : (S size : ℕ) (input rest left : List ℕ) → BeginsWithSize size
 left_after S size input rest left h over took =
     let front = h.code_bytes ++ h.size_bytes in
     let same : took.front ≡ front = shortest_unique S input took.front front took.shortest (shortest_size S size input rest h over) in
-    let cut : input ≡ took.front ++ left = cc (took.consumes) in
+    let cut = Consumes-cut input took.front left took.consumes in
     (same_cut took.front front left rest (ap length same) (sym cut ∙ (h.cut ∙ sym (append_assoc h.code_bytes h.size_bytes rest)))).1
 
 pub returns-clause-verdict : goal.returns-clause-verdict
 returns-clause-verdict g c = c.read-outcome.ensures.verdict refl
 
 pub returns-clause-ok : goal.returns-clause-ok
-returns-clause-ok g c = in_front g.row.S c.args.stream.now c.read-outcome.new.r.now c.read-outcome.result c.read-outcome.ensures.ok
+returns-clause-ok g c =
+    let read = c.read-outcome in
+    IfOk-weaker read.result _ _ (λ m ok. (ok.0, ok.1, Consumes-cut c.args.stream.now ok.0 read.new.r.now ok.2)) read.ensures.ok
 
 pub returns-clause-long : goal.returns-clause-long
 returns-clause-long g c size rest h over = (
