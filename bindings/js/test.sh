@@ -49,7 +49,7 @@ packed_script() {
   npm_config_offline=true npm_config_cache=$work/npm npm install --loglevel=error "$work"/verified-multihash-*.tgz
   block_of "$here/README.md" html > page.html
   cmp "$top/LICENSE" node_modules/verified-multihash/LICENSE
-  has_all_but '^tests/|\.sh$|^beside_plain' "$here" node_modules/verified-multihash
+  has_all_but '^tests/|\.sh$' "$here" node_modules/verified-multihash
   node --no-warnings --input-type=commonjs -e "
     require('verified-multihash/package.json');
     if (process.features.require_module) require('verified-multihash/inline').decode(Uint8Array.of(1, 0));
@@ -94,7 +94,6 @@ needs="rt wasm-opt=$binaryen wasm2wat=$wabt" try "the WebAssembly built anew" "$
 needs=wasm-validate try "the WebAssembly for old engines" old_module
 needs="$node npm" try "in Node.js" npm_test "$here"
 needs="$node npm" try "drawn inputs" drawn
-needs=$node try "the results of plain JavaScript" node "$here/beside_plain.js"
 needs="$node npm" try "the page's installation" page_install
 ONLY='' needs="$node npm" try "the packed package" packed_script
 needs="$node npm tsc" try "the packed package's types" packed_types

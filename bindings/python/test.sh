@@ -93,7 +93,7 @@ sdist() {
   touch "$work/above/LICENSE"
   imports "$work/above/folder/sdist"
   cmp "$here/../../LICENSE" "$work/sdist/LICENSE"
-  has_all_but '\.sh$|^beside_plain' "$here" "$work/sdist"
+  has_all_but '\.sh$' "$here" "$work/sdist"
   unit_tests "$work/sdist/tests" -u MULTIHASH_VERDICTS
 }
 
@@ -144,7 +144,6 @@ needs="nm" try "no state" keeps_nothing
 try "the tests" all_tests
 try "drawn inputs" drawn
 needs="mypy stubtest" try "types" types
-try "the results of plain Python, in less CPU time" "$python" -I "$here/beside_plain.py"
 try "the folder, installed" imports "$here"
 ONLY='' try "the sdist, installed" sdist
 try "a folder that was built before" built_before
