@@ -92,7 +92,6 @@ needs="rt wasm-opt=$binaryen wasm2wat=$wabt" try "the WebAssembly built anew" "$
 needs=wasm-validate try "the WebAssembly for old engines" old_module
 needs="$node npm" try "in Node.js" npm_test "$here"
 needs="$node npm" try "drawn inputs" drawn
-needs=$node try "the results of plain JavaScript" node "$here/beside_plain.js"
 needs="$node npm" try "the page's installation" page_install
 ONLY='' needs="$node npm" try "the packed package" packed_script
 needs="$node npm tsc" try "the packed package's types" packed_types

@@ -111,7 +111,6 @@ try "its licence" has_licence "$work"/venv/lib/python3*/site-packages/verified_m
 try "the tests" all_tests
 try "drawn inputs" drawn
 needs="mypy stubtest" try "types" types
-try "the results of plain Python, in less CPU time" "$python" -I "$here/beside_plain.py"
 ONLY='' try "the sdist, installed" sdist
 try "sanitizers" under_sanitizers "$work/sdist"
 try "a folder that was built before" built_before

@@ -1,4 +1,4 @@
-//! Calls of a package `multihash`, of this repository or upstream's, which `count.py --package` measures: each is made
+//! Calls of a package `multihash`, of this repository or upstream's, which `measure.py` measures: each is made
 //! `TURNS` times, and a request to valgrind's tool callgrind then writes the number of instructions with the call's
 //! name. With an argument, the program prints the nanoseconds of each comparison of unlike values instead. A build for
 //! debugging also compares what the first call returns.

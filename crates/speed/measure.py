@@ -1,22 +1,22 @@
 #!/usr/bin/env python3
-"""Compares the instructions of each call of crates/speed, and of calls from C, with docs/SPEED.md.
+"""Measures this library beside others: docs/SPEED.md has the counts.
 
-    crates/speed/count.py
-        compares the page's counts of this library with new ones, each of which may differ by 1, or
-        by 2 %. Those of others, as of C by hand, are not compared
-    crates/speed/count.py --write [TUNED DEFAULT]
-        writes the tables of the page. With two builds of rust/main.rs counts them too; else their
-        columns stay
-    crates/speed/count.py --time [BUILD..]
-        prints the nanoseconds of each call from C, of these archives or C files, or of the page's
-    crates/speed/count.py --package UPSTREAM
-        prints the shares of the package for Rust in the instructions of upstream's, which is in this
-        folder. Without docs/SPEED.md and rt; without a network it is run by bindings/rust/offline.sh
-    crates/speed/count.py --package-time UPSTREAM
-        prints the nanoseconds of comparisons of unlike values: of upstream's and of the package for
-        Rust, and the share
+    crates/speed/measure.py                        compares the page's counts of this library with new ones, each of
+                                                   which may differ by 1, or by 2 %. Those of others, as of C by hand,
+                                                   are not compared
+    crates/speed/measure.py --write [TUNED DEFAULT] writes the tables of the page. With two builds of rust/main.rs
+                                                   counts them too; else their columns stay
+    crates/speed/measure.py --c [BUILD..]          prints the nanoseconds of each call from C, of these archives or C
+                                                   files, or of the page's
+    crates/speed/measure.py --rust UPSTREAM        prints the nanoseconds of comparisons by the package for Rust and by
+                                                   upstream's, which is in this folder
+    crates/speed/measure.py --rust-counts UPSTREAM prints the shares of that package in upstream's instructions
+    crates/speed/measure.py --js                   prints the nanoseconds of each call of the package for JavaScript, and
+                                                   of plain JavaScript
+    crates/speed/measure.py --python [PYTHON]      the same of the package that this interpreter has, and of plain Python
 
-Valgrind counts instructions.
+Valgrind counts instructions. `--rust` needs what Cargo depends on: without a network CARGO_HOME as of
+bindings/rust/offline.sh.
 """
 import os
 import re
@@ -41,8 +41,9 @@ RUST = "| Call | instructions | tuned Rust | share | default Rust | share |"
 FROM_C = "| Call from C | this library | plain C | share | fast C | share | archive |"
 CAUSES = "| Call | Cause |"
 FEWER, MORE, JOBS = 1000, 3000, 2
-# the turns of each build, the rounds in one, and the bytes before the code, since its alignment changes the time
-TURNS, ROUNDS, PLACES = 18, 20, (0, 16, 32)
+# the turns of each program, and of those that time two libraries; the rounds in one, and the bytes before the code of
+# those in C, since its alignment changes the time
+TURNS, FEW_TURNS, ROUNDS, PLACES = 18, 5, 20, (0, 16, 32)
 Counts = dict[str, list[int]]
 # a program over a package, and how it is optimized: by default, or as one module
 PACKAGE = """[package]
@@ -102,25 +103,34 @@ def count_c(builds: list[Path]) -> Counts:
         return {name: [found[name] for found in counts] for name in counts[0]}
 
 
-def print_times(builds: list[Path]) -> None:
-    """Prints the least time of each call from C, in turns on one core: of each of these builds."""
+def print_least(heads: list[str], programs: list[tuple[int, Iterable[str | Path]]], turns: int = TURNS) -> None:
+    """Prints the least of the times of each call that programs print, in turns on one core, and the shares of the first
+    column in the others. Each program has the number of its first column."""
     os.sched_setaffinity(0, {max(os.sched_getaffinity(0))})
-    programs: list[tuple[int, str]] = []
     least: dict[str, list[float]] = {}
+    for turn in range(turns):
+        for column, words in programs[:: 1 if turn % 2 else -1]:
+            for name, times in re.findall(r"(?m)^(.+?)((?: [\d.]+\d)+)$", run(words)):
+                row = least.setdefault(name, [float("inf")] * len(heads))
+                for at, time in enumerate(times.split(), column):
+                    row[at] = min(row[at], float(time))
+    print(f"| Nanoseconds | {heads[0]} |", *(f"{head} | share |" for head in heads[1:]))
+    print("|---|" + "---:|" * (2 * len(heads) - 1))
+    for name, (own, *others) in least.items():
+        print(f"| {name} | {own:.1f} |", *(f"{other:.1f} | {own / other:.2f} |" for other in others))
+
+
+def print_c(builds: list[Path]) -> None:
+    """Prints the time of each call from C: of each of these builds, with the code at several places."""
+    programs: list[tuple[int, Iterable[str | Path]]] = []
     with tempfile.TemporaryDirectory() as work:
         for place in PLACES:
             source = Path(f"{work}/{place}.s")
             source.write_text(f'.section .text.unlikely, "ax"\n.zero {place}\n.section .note.GNU-stack, ""\n', "utf-8")
-            programs += [(n, compile_c(build, f"{work}/{n}_{place}", str(source))) for n, build in enumerate(builds)]
-        for turn in range(TURNS):
-            for number, program in programs[:: 1 if turn % 2 else -1]:
-                for name, time in re.findall(r"(\S+) (\S+)", run([program, str(ROUNDS)])):
-                    row = least.setdefault(name, [float("inf")] * len(builds))
-                    row[number] = min(row[number], float(time))
-    print("| Nanoseconds |", *(f"{build.parent.name}/{build.name} |" for build in builds))
-    print("|---|" + "---:|" * len(builds))
-    for name, row in least.items():
-        print(f"| {name} |", *(f"{time:.1f} |" for time in row))
+            for number, build in enumerate(builds):
+                program = compile_c(build, f"{work}/{number}_{place}", str(source))
+                programs.append((number, [program, str(ROUNDS)]))
+        print_least([f"{build.parent.name}/{build.name}" for build in builds], programs)
 
 
 def compile_package(package: Path, profile: str, work: str) -> Path:
@@ -160,20 +170,12 @@ def print_shares(upstream: Path) -> None:
             print(f"| `{call}` |", *(f"{row[size]:.2f} |" if size in row else "|" for size in sizes))
 
 
-def print_package_times(upstream: Path) -> None:
-    """Prints the least time of each comparison of unlike values, in turns on one core: of upstream's and the package."""
-    os.sched_setaffinity(0, {max(os.sched_getaffinity(0))})
-    least: dict[str, list[float]] = {}
-    with tempfile.TemporaryDirectory() as theirs, tempfile.TemporaryDirectory() as ours:
-        builds = (upstream, theirs), (ROOT / "bindings/rust/multihash", ours)
+def print_rust(upstream: Path) -> None:
+    """Prints the time of each comparison of unlike values: of the package and of upstream's."""
+    with tempfile.TemporaryDirectory() as ours, tempfile.TemporaryDirectory() as theirs:
+        builds = (ROOT / "bindings/rust/multihash", ours), (upstream, theirs)
         programs = [compile_package(package, PROFILES[0], work) for package, work in builds]
-        for _ in range(TURNS):
-            for number, program in enumerate(programs):
-                for name, time in re.findall(r"(.+) (\S+)", run([program, "time"])):
-                    row = least.setdefault(name, [float("inf")] * len(builds))
-                    row[number] = min(row[number], float(time))
-    for name, (before, now) in least.items():
-        print(f"{name:45} {before:10.2f} {now:10.2f} {now / before:6.2f}")
+        print_least(["the package", "upstream"], [(n, [program, "time"]) for n, program in enumerate(programs)])
 
 
 def rows_of(page: str, head: str) -> Counts:
@@ -258,12 +260,17 @@ def main() -> int:
             return tap.report(results(tap.program("speed"), names))
         case ["--write", *builds]:
             write([tap.program("speed"), *builds], names)
-        case ["--time", *builds]:
-            print_times([*map(Path, builds)] or C_BUILDS)
-        case ["--package", upstream]:
+        case ["--c", *builds]:
+            print_c([*map(Path, builds)] or C_BUILDS)
+        case ["--rust", upstream]:
+            print_rust(Path(upstream))
+        case ["--rust-counts", upstream]:
             print_shares(Path(upstream))
-        case ["--package-time", upstream]:
-            print_package_times(Path(upstream))
+        case ["--js"]:
+            print_least(["the package", "plain JavaScript"], [(0, ["node", HOME / "js/calls.js"])], FEW_TURNS)
+        case ["--python", *python]:
+            interpreter = python[0] if python else sys.executable
+            print_least(["the package", "plain Python"], [(0, [interpreter, "-I", HOME / "python/calls.py"])], FEW_TURNS)
         case _:
             print(__doc__, file=sys.stderr)
             return 2
