@@ -270,7 +270,9 @@ def main() -> int:
             print_least(["the package", "plain JavaScript"], [(0, ["node", HOME / "js/calls.js"])], FEW_TURNS)
         case ["--python", *python]:
             interpreter = python[0] if python else sys.executable
-            print_least(["the package", "plain Python"], [(0, [interpreter, "-I", HOME / "python/calls.py"])], FEW_TURNS)
+            print_least(
+                ["the package", "plain Python"], [(0, [interpreter, "-I", HOME / "python/calls.py"])], FEW_TURNS
+            )
         case _:
             print(__doc__, file=sys.stderr)
             return 2
