@@ -1,6 +1,6 @@
 #!/usr/bin/env bash
-# Programs that use the library for C: the examples of its page and of its installation, by a compiler, by CMake and in
-# Go.
+# Programs that use the library for C: its installed examples, by a compiler and in projects of CMake, and that of its
+# page in Go.
 # shellcheck disable=SC2016 # what CMake expands
 # shellcheck source=checks/lib/tap.sh
 . "$(dirname "$0")/lib/tap.sh"
@@ -8,12 +8,10 @@ require cc cmake python3 readelf pkg-config
 # shellcheck source=checks/lib/installed.sh
 . checks/lib/installed.sh
 
-# The reader of a stream, over pipes that are cut at each byte. The program reads SHA2-512 too.
+# The reader of a stream, over pipes that are cut at each byte.
 stream_example() {
   cc "${c_flags[@]}" "${sanitize[@]}" -I "$c/include" -I "$c/examples" "$c/tests/stream.c" "$source" -o "$work/stream"
   "$work/stream"
-  cc "${c_flags[@]}" -I "$c/include" "$c/examples/stream.c" "$source" -o "$work/stream"
-  prints "size 64" "$work/stream" < <(printf '\x13\x40%064d' 0)
 }
 
 # The example that hashes, over each row of hashes.tsv: for some codes it has no function.
@@ -32,6 +30,7 @@ verify_example() {
     fi
   done < <(sed 1d "$top/crates/vectors/data/hashes.tsv")
   rejects "another content" "$work/verify" 1201ba < <(printf abc)
+  rejects "the input ends inside the digest (1 of 32 bytes)" "$work/verify" 1220ba
   rejects "the content cannot be hashed" "$work/verify" 1201ba < "$work"
 }
 
@@ -65,20 +64,16 @@ by_subdirectory() {
   readelf -Ws "$to/static/multihash_c/libmultihash_c.a" | grep ' HIDDEN .* multihash_encode$'
   cmake --install "$to/static"
   has_flags "$to/prefix" lib
-  grep "^set(PACKAGE_VERSION \"$version\")" "$to"/prefix/lib/cmake/multihash_c/*-version.cmake
   (cd "$to/prefix"; find . ! -type d | sort) |
     diff <(files_in lib | sed -E '/\/(bin|share)\/|\.so/d; s/-release/-noconfig/' | sort) -
 }
 
-# As the page says, over what find_package finds. A later minor version is compatible, an earlier major one is not.
+# As the page says, over what find_package finds. It rejects another major version.
 by_find_package() {
   local to=$work/project
   block_of bindings/c/README.md cmake | sed -E 's/(.*::)shared(.*::)static$/\1${kind}\2/' |
     in_project "$to" -DCMAKE_PREFIX_PATH="$work/a prefix"
-  grep "(multihash_c $major\.[0-9]* " "$to/CMakeLists.txt"
   grep -F 'multihash_c::${kind})' "$to/CMakeLists.txt"
-  find "$work/a prefix" -name '*-version.cmake' -exec sed -i "s/\"$version\"/\"$major.99.0\"/" {} +
-  prints "Configuring done" cmake -S "$to" -B "$to/shared"
   sed -i "s/(multihash_c [0-9.]*/(multihash_c $((major - 1)).9/" "$to/CMakeLists.txt"
   rejects "compatible with requested version" cmake -S "$to" -B "$to/shared"
 }

@@ -1,6 +1,6 @@
 #!/usr/bin/env bash
-# What CMake builds of the library for C for which machine, in emulators for aarch64 and Windows, with the flags of a
-# distribution, and after edits.
+# What CMake builds of the library for C: for other machines, two of them emulated, and with other options than the
+# defaults.
 # shellcheck source=checks/lib/tap.sh
 . "$(dirname "$0")/lib/tap.sh"
 require cc cmake python3 readelf
@@ -8,17 +8,13 @@ require cc cmake python3 readelf
 . checks/lib/installed.sh
 
 # A system has a shared library or not.
-shares() {
-  cmake -S . -B "$work/system.$1" -DCMAKE_SYSTEM_NAME="$1" -DCMAKE_SYSTEM_PROCESSOR=any -DCMAKE_C_FLAGS="$3" \
-    -DCMAKE_TRY_COMPILE_TARGET_TYPE=STATIC_LIBRARY
-  grep -x "MULTIHASH_C_SHARED:BOOL=$2" "$work/system.$1/CMakeCache.txt"
-}
-
 systems() {
-  shares FreeBSD ON ""
-  shares Generic OFF ""
-  CC=clang shares Windows ON --target=x86_64-pc-windows-msvc
-  CC=clang shares Darwin ON --target=arm64-apple-macos11
+  local system shares target
+  while read -r system shares target; do
+    CC=clang cmake -S . -B "$work/$system" -DCMAKE_SYSTEM_NAME="$system" -DCMAKE_SYSTEM_PROCESSOR=any \
+      -DCMAKE_C_FLAGS="--target=$target" -DCMAKE_TRY_COMPILE_TARGET_TYPE=STATIC_LIBRARY
+    grep -x "MULTIHASH_C_SHARED:BOOL=$shares" "$work/$system/CMakeCache.txt"
+  done <<< $'Generic OFF x86_64-elf\nWindows ON x86_64-pc-windows-msvc\nDarwin ON arm64-apple-macos11'
 }
 
 # By the toolchain file.
@@ -69,18 +65,17 @@ has_options_of_project() {
 # By a generator of several configurations, each of which has a name of the library.
 has_configurations() {
   local kind
-  cmake -S "$top" -B "$work/several" -G "Ninja Multi-Config" -DBUILD_TESTING=OFF \
-    -DCMAKE_DEBUG_POSTFIX=d
+  cmake -S "$top" -B "$work/several" -G "Ninja Multi-Config" -DBUILD_TESTING=OFF -DCMAKE_DEBUG_POSTFIX=d
   for kind in Debug Release; do
     cmake --build "$work/several" --config $kind
     cmake --install "$work/several" --config $kind --prefix "$work/several.$kind"
-    PKG_CONFIG_PATH=$work/several.$kind/lib/pkgconfig pkg-config --libs-only-l multihash_c >> "$work/names"
   done
-  paste -sd ' ' "$work/names" | tr -s ' ' | diff <(echo "-lmultihash_cd -lmultihash_c ") -
+  grep ' -lmultihash_cd$' "$work/several.Debug/lib/pkgconfig/multihash_c.pc"
+  grep ' -lmultihash_c$' "$work/several.Release/lib/pkgconfig/multihash_c.pc"
 }
 
 needs="ar" try "options of a project" has_options_of_project
-needs="ninja pkg-config" try "several configurations" has_configurations
+needs=ninja try "several configurations" has_configurations
 needs=clang try "other systems" systems
 try "flags of a distribution" with_flags
 needs="aarch64-linux-gnu-gcc qemu-aarch64" try "building for aarch64" builds_for_aarch64

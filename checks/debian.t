@@ -6,14 +6,13 @@ require cc cmake python3 readelf pkg-config dpkg-buildpackage dh lintian /lib64/
 # shellcheck source=checks/lib/packages.sh
 . checks/lib/packages.sh
 
-# Builds the packages in a copy of the repository. The tests pass. It installs what it uses, and each machine has them.
+# Builds the packages in a copy of the repository. The tests pass. The build depends on what it uses.
 build_packages() {
   local from=$work/debian/source tool
   mkdir -p "$from"
   git ls-files -z | xargs -0 cp --parents -t "$from"
   cp -r bindings/c/debian "$from"
   for tool in cmake python3; do grep -w "^Build-Depends:.* $tool" "$from/debian/control"; done
-  (cd "$from"; dh_listpackages | diff - <(DEB_HOST_ARCH=s390x dh_listpackages))
   (cd "$from"; prints '100% tests passed, 0 tests failed out of ' dpkg-buildpackage -b -us -uc)
 }
 

@@ -1,7 +1,7 @@
 #!/usr/bin/env bash
-# The source of the library for C is what tools/generate writes.
+# The generated files that need no kit are what tools/generate writes. The WebAssembly is compared by js.t.
 # shellcheck source=checks/lib/tap.sh
 . "$(dirname "$0")/lib/tap.sh"
 
-try "the C source" tools/generate --check c
+for what in c rust contracts vectors names; do try "$what" tools/generate "$what" --check; done
 finish

@@ -1,3 +1,3 @@
 #!/usr/bin/env bash
-# The module for JavaScript.
+# Tests the package for JavaScript.
 exec "$(dirname "$0")/../bindings/js/test.sh"

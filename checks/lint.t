@@ -1,5 +1,5 @@
 #!/usr/bin/env bash
-# The scripts of the repository, by shellcheck, black, pyflakes, mypy and tsc.
+# Checks the scripts of the repository with shellcheck, black, pyflakes, mypy and tsc.
 # shellcheck source=checks/lib/tap.sh
 . "$(dirname "$0")/lib/tap.sh"
 

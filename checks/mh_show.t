@@ -14,8 +14,8 @@ sys.path.append(str(Path(__file__).with_name("lib")))
 import tap
 
 TOP = tap.CRATES.parent
-CC = "cc -std=c11 -Wall -Wextra -Wpedantic -Wconversion -Werror -fsanitize=address,undefined -fno-sanitize-recover=all"
-SOURCES = ("bindings/c/examples/mh_show.c", "bindings/c/src/multihash.c")
+CC = """cc -std=c11 -Wall -Wextra -Wpedantic -Wconversion -Werror -fsanitize=address,undefined -fno-sanitize-recover=all
+    -I bindings/c/include bindings/c/examples/mh_show.c bindings/c/src/multihash.c"""
 
 SHOWN, NOT_READ = "code 22\nsize 1\ndigest 00\n0\n", "mh_show: input not read\n1\n"
 NOT_WRITTEN, NOT_HEX = "mh_show: output not written\n1\n", "mh_show: not hexadecimal\n1\n"
@@ -46,29 +46,21 @@ def rows() -> Iterator[list[str]]:
             yield text.replace(r"\n", "\n").replace(r"\r", "\r").split("\t")
 
 
-def build(folder: str) -> str:
-    """Compiles the program in C, and returns its path."""
-    path = f"{folder}/mh_show"
-    subprocess.run([*CC.split(), "-I", "bindings/c/include", *SOURCES, "-o", path], cwd=TOP, check=True)
-    return path
-
-
-def error_of(found: object, wanted: object) -> str:
-    return "" if found == wanted else f"found {found!r}, and not {wanted!r}"
-
-
 def results(name: str, program: str) -> Iterator[tap.Result]:
+    """Returns what is wrong with each run: what was found, and what is wanted."""
     for text, output, reason, status in rows():
         ran = subprocess.run([program], input=text.encode(), capture_output=True, timeout=120)
         wanted = (output, f"mh_show: {reason}\n" if reason else "", status)
         found = (ran.stdout.decode(), ran.stderr.decode(), str(ran.returncode))
-        yield f"{name}, {len(text)} bytes {text[:40]!r}", error_of(found, wanted)
+        yield f"{name}, {len(text)} bytes {text[:40]!r}", "" if found == wanted else f"{found}, and not {wanted}"
     for command, written in STREAMS:
         words = ["bash", "-c", 'mh_show() { "$0" "$@"; }; ulimit -t 120; { %s; } 2>&1; echo $?' % command, program]
-        yield f"{name}, {command}", error_of(subprocess.check_output(words).decode(), written)
+        shown = subprocess.check_output(words).decode()
+        yield f"{name}, {command}", "" if shown == written else f"{shown!r}, and not {written!r}"
 
 
 if __name__ == "__main__":
-    with tempfile.TemporaryDirectory(prefix="mh_show-") as work:
-        programs = {"C": build(work), "Rattle": tap.program("mh_show")}
+    with tempfile.TemporaryDirectory() as work:
+        subprocess.run([*CC.split(), "-o", f"{work}/mh_show"], cwd=TOP, check=True)
+        programs = {"C": f"{work}/mh_show", "Rattle": tap.program("mh_show")}
         sys.exit(tap.report(result for name, path in programs.items() for result in results(name, path)))

@@ -19,13 +19,11 @@ freestanding() {
   done
 }
 
-# For a compiler that is neither GCC nor Clang the source has no name that only these know: with an empty header in
-# place of the C library's, no name that begins with two underscores.
+# For a compiler that is neither GCC nor Clang the source has no name that only these know, which begin with two
+# underscores.
 has_no_extensions() {
-  mkdir "$work/empty"
-  touch "$work/empty/string.h"
-  clang --target=x86_64-pc-windows-msvc -nostdlibinc -I "$work/empty" -I "$c/include" -E -P "$source" |
-    tr -c '[:alnum:]_' '\n' | sed -n '/^__/p' | sort -u | diff /dev/null -
+  clang --target=x86_64-pc-windows-msvc -ffreestanding -nostdlibinc -I "$c/include" -E -P "$source" |
+    { grep -w '__[[:alnum:]_]*' || true; } | diff /dev/null -
 }
 
 # The tests on a machine, by a compiler and a command that runs its programs.
@@ -38,7 +36,6 @@ needs="clang llvm-nm" try "objects without a C library" freestanding
 needs=clang try "other compilers" has_no_extensions
 needs="clang $clang_runtime" try "fuzzing" bindings/c/fuzz.sh
 on_machine "x86, 32 bits" i686-linux-gnu qemu-i386
-needs=--all on_machine aarch64 aarch64-linux-gnu qemu-aarch64
 needs=--all on_machine riscv64 riscv64-linux-gnu qemu-riscv64
 on_machine "armhf, 32 bits" arm-linux-gnueabihf qemu-arm
 on_machine "s390x, big-endian" s390x-linux-gnu qemu-s390x

@@ -1,3 +1,3 @@
 #!/usr/bin/env bash
-# The package for Python.
+# Tests the package for Python.
 exec "$(dirname "$0")/../bindings/python/test.sh"

@@ -1,5 +1,5 @@
 #!/usr/bin/env bash
-# What is released: its files, what they say of themselves, and programs built against them.
+# Makes a release, compares its files with what should be in them, and tests programs that use them.
 # shellcheck source=checks/lib/tap.sh
 . "$(dirname "$0")/lib/tap.sh"
 # shellcheck source=checks/lib/packages.sh
@@ -16,8 +16,7 @@ has_files() {
   cd "$1"
   sha256sum --check --strict --quiet SHA256SUMS
   printf '%s\n' {libmultihash-c{"$major",-dev},mh-show}_"$version-1"_{amd64,arm64}.deb \
-    "multihash-$version".{spdx.json,tar.gz} \
-    "multihash-$upstream.crate" "multihash_c-$version-"{aarch64,source,x86_64}.tar.gz \
+    TOOLS "multihash-$version.tar.gz" "multihash-$upstream.crate" "multihash_c-$version-"{aarch64,source,x86_64}.tar.gz \
     "verified-multihash-$version."{crate,tgz} "verified_multihash-$version.tar.gz" \
     "verified_multihash-$version-cp3$minor-abi3-manylinux2014_"{aarch64,x86_64}.whl | sort > "$work/files"
   sed 's/^[^ ]*  //' SHA256SUMS | sort | diff "$work/files" -

@@ -1,20 +1,47 @@
 #!/usr/bin/env bash
-# The tests of the packages for Rust: with other versions and on other targets, and of drawn inputs beside the library
-# for C.
+# The packages for Rust: their tests over the test vectors and drawn inputs, with and without std, by other versions and
+# on other targets, beside the library for C and other crates; that the proved source is packed without its contracts
+# alone; the packages as packed, and in place of upstream's; serde; lints.
 # shellcheck source=checks/lib/tap.sh
 . "$(dirname "$0")/lib/tap.sh"
-# shellcheck source=checks/lib/rust.sh
-. checks/lib/rust.sh
-rust=$(rustc --print sysroot 2> /dev/null)/lib/rustlib || rust=/none
-core=$rust/src/rust/library/core
+registry=/usr/share/cargo/registry
+crates="$registry/serde_json-1.*"
+# the version of Rust that a line of the manifest states
+oldest() { sed -n "s/^$1 = \"\(.*\)\"/\1/p" bindings/rust/multihash/Cargo.toml; }
+cargo="cargo rustc=$(oldest rust-version)+ $crates"
+bare="$cargo rustc=$(oldest rust-version-without-std)+"
+targets=$(rustc --print sysroot 2> /dev/null)/lib/rustlib || targets=/none
+
+# Runs a command of Cargo for a package; what is set comes first. Without debug information it takes less time.
+in_crate() {
+  KEEP=1 RUSTFLAGS="-D warnings" RUSTDOCFLAGS="-D warnings" CARGO_PROFILE_DEV_DEBUG=0 CARGO_INCREMENTAL=0 \
+    bindings/rust/offline.sh "$work" "$@"
+}
+
+# Runs tests of a package, of which there are some. None is left out, and Cargo does not warn.
+tests() {
+  local ended
+  run "$work/tests" in_crate "$@" -- --show-output
+  tail -n 50 "$work/tests"
+  [ "$ended" = 0 ]
+  grep '^test result: ok\. [1-9]' "$work/tests"
+  awk '/^(warning|left out)/' "$work/tests" | diff /dev/null -
+}
+
+# Runs the tests of each package; what is set comes first. In a build for debugging sums that overflow are errors.
+all_tests() {
+  tests verified-multihash "$@"
+  tests multihash "$@"
+}
+list=MULTIHASH_VERDICTS=$work/list
 
 # The tests pass, optimized too, and the pages have no warnings.
 rust_tests() {
   in_crate verified-multihash cargo doc --no-deps
   in_crate multihash cargo doc --no-deps --features serde
-  all_tests cargo test
-  tests verified-multihash cargo test --release
-  tests multihash cargo test --features serde --release
+  all_tests "$list" cargo test
+  tests verified-multihash "$list" cargo test --release
+  tests multihash "$list" cargo test --features serde --release
 }
 
 without_std() {
@@ -27,39 +54,24 @@ debians_rust() {
   tests multihash PATH=/usr/bin:/bin CARGO_TARGET_DIR="$work/debian" cargo test --features serde
 }
 
-# The packages and the library for C have the results of a list. In a build for debugging sums that overflow are errors.
-beside_c() {
+in_c() {
   cc -O2 -I bindings/c/include bindings/c/tests/{test,verdicts,models,draws,buffer}.c bindings/c/src/multihash.c -o "$work/c"
   prints "$(sed 1d "$work/list" | wc -l) lines" "$work/c" "$work/list" 0 0 vectors
-  all_tests MULTIHASH_VERDICTS="$work/list" cargo test --test vectors
-  all_tests MULTIHASH_VERDICTS="$work/list" cargo test --test vectors --release
 }
 
-# The list and the other tests on a target with another byte order or word: by an emulator.
-beside_on_target() {
+# The tests on a target with another byte order or word, by a linker and an emulator.
+on_target() {
   local variable=CARGO_TARGET_${1^^}
   variable=${variable//-/_}
-  all_tests RUSTFLAGS="-C target-feature=+crt-static" MULTIHASH_VERDICTS="$work/list" "${variable}_LINKER=$2" \
-    "${variable}_RUNNER=$3" cargo test --target "$1" --tests
+  all_tests "$list" RUSTFLAGS="-C target-feature=+crt-static" "${variable}_LINKER=$2" "${variable}_RUNNER=$3" \
+    cargo test --target "$1" --tests
 }
 
-# Rust's core for a target that the compiler has none for, of its source.
-make_core() {
-  local edition to=$work/target/$1/release/deps
-  edition=$(sed -n 's/^edition = "\(.*\)"/\1/p' "$core/Cargo.toml")
-  local make=(env RUSTC_BOOTSTRAP=1 rustc --crate-type rlib --target "$1" -C panic=abort -C opt-level=1
-    --cap-lints allow -L "$to" --out-dir "$to")
-  mkdir -p "$to"
-  "${make[@]}" --edition "$edition" --crate-name core "$core/src/lib.rs"
-  "${make[@]}" --crate-name compiler_builtins - <<< '#![feature(compiler_builtins)] #![compiler_builtins] #![no_std]'
-}
-
-# The list on a target, without std: as a library for a host, which prints the number of lines.
-on_target() {
+# The list on a target without std: as a library for a host, which prints the number of lines.
+without_host() {
   local target=$1 type=$2 linker=() to=$work/target/$1/release
   [ "$type" != cdylib ] || linker=(-C linker=wasm-ld)
-  compgen -G "$rust/$target/lib/libcore-*.rlib" || make_core "$target"
-  in_crate multihash RUSTFLAGS="-L $to/deps" cargo build --release --no-default-features --target "$target"
+  in_crate multihash cargo build --release --no-default-features --target "$target"
   MULTIHASH_VERDICTS=$work/list rustc --edition 2021 -D warnings -O --target "$target" bindings/rust/tests/target.rs \
     --crate-type "$type" --extern multihash="$to/libmultihash.rlib" \
     --extern verified_multihash="$(echo "$to"/deps/libverified_multihash-*.rlib)" -L "$to/deps" -C panic=abort \
@@ -67,12 +79,11 @@ on_target() {
   "${@:3}" | diff - <(sed 1d "$work/list" | wc -l)
 }
 
-# A core that Rust's packages bring refers to the function that unwinds, which is in std.
 in_emulator() {
-  printf '%s\n' '#include <stdio.h>' 'unsigned check_vectors(void);' 'void rust_eh_personality(void) {}' \
+  printf '%s\n' '#include <stdio.h>' 'unsigned check_vectors(void);' \
     'int main(void) { printf("%u\n", check_vectors()); }' > "$work/host.c"
-  "$1-gcc" -static -Wl,--no-warn-mismatch -x c "$work/host.c" -x none "$work/vectors" -o "$work/host"
-  "$2" "$work/host"
+  arm-linux-gnueabihf-gcc -static -Wl,--no-warn-mismatch -x c "$work/host.c" -x none "$work/vectors" -o "$work/host"
+  qemu-arm "$work/host"
 }
 
 in_node() {
@@ -82,31 +93,114 @@ in_node() {
 }
 
 test_targets() {
-  local target system
+  local target system emulator
   for target in armv7-unknown-linux-gnueabihf s390x-unknown-linux-gnu; do
-    system=${target/v7-unknown/} system=${system/-unknown/}
-    needs="$cargo cc $rust/$target/lib/libstd-*.rlib $system-gcc qemu-${system%%-*}" try "the tests on $target" \
-      beside_on_target $target "$system-gcc" "qemu-${system%%-*}"
+    system=${target/v7-unknown/} system=${system/-unknown/} emulator=qemu-${system%%-*}
+    needs="$cargo $targets/$target/lib/libstd-*.rlib $system-gcc $emulator" try "the tests on $target" \
+      on_target $target "$system-gcc" "$emulator"
   done
-  for target in thumbv6m-none-eabi s390x-unknown-linux-gnu; do
-    system=${target/-unknown/} system=${system/thumbv6m-none-eabi/arm-linux-gnueabihf}
-    needs="$bare cc $(core_of $target) $system-gcc qemu-${system%%-*}" try "the vectors on $target" \
-      on_target $target staticlib in_emulator "$system" "qemu-${system%%-*}"
-  done
+  target=thumbv6m-none-eabi
+  needs="$bare $targets/$target/lib/libcore-*.rlib arm-linux-gnueabihf-gcc qemu-arm" try "the list on $target" \
+    without_host $target staticlib in_emulator
   target=wasm32-unknown-unknown
-  needs="$bare cc $rust/$target/lib/libcore-*.rlib wasm-ld node" try "the vectors on $target" \
-    on_target $target cdylib in_node
+  needs="$bare $targets/$target/lib/libcore-*.rlib wasm-ld node" try "the list on $target" \
+    without_host $target cdylib in_node
 }
 
-# What has the core of a target: its source, or the compiler.
-core_of() { compgen -G "$core/src/lib.rs" || echo "$rust/$1/lib/libcore-*.rlib"; }
+# Each file has the code of its source without the lines that begin so, up to where their brackets are closed, and
+# without these words; but for lines that are added.
+only_removed() {
+  python3 - << 'END'
+import re, sys
+from pathlib import Path
+source, package = Path("crates/multihash/src"), Path("bindings/rust/verified-multihash/src")
+lines = re.compile(r"(pub )?ghost |requires|ensures|#!?\[tactic|#\[derive\(Drop\)|impl.* (Model for|for Vec<)|"
+    r"use std::(marker::Model|alloc::Global)|(pub )?mod (json|laws|pins);")
+words = r", Drop\b|\b: Drop\b|<W: fmt::Write>|<W>|,? *\balloc: Global,?|\balloc, |\bpub (?=buffer|filled)"
+added = r"use crate::rattle::|#!\[|#\[cfg\(feature|extern crate|mod rattle;|#\[doc\(hidden|pub mod upstream;"
+def code(path, is_left_out):
+    text, depth, is_clause = "", 0, False
+    for line in map(str.strip, path.read_text().splitlines()):
+        if not line.startswith("//") and (depth or is_left_out(line)):
+            is_clause = is_clause if depth else line.startswith(("requires", "ensures"))
+            depth += sum(map(line.count, "([{")) - sum(map(line.count, ")]}"))
+            text += ";" * (is_clause and not depth and line.endswith(";"))  # of a function without a body
+        elif not line.startswith("//"):
+            text += line
+    return re.sub(rf"\s|{words}", "", text)
+for path in sorted(package.rglob("*.rs")):
+    place = source / path.relative_to(package).with_suffix(".rt")
+    if path.name not in ("rattle.rs", "upstream.rs") and code(path, re.compile(added).match) != code(place, lines.match):
+        sys.exit(f"{path} has other code than {place}")
+END
+}
 
+# A command of Cargo prints this and nothing else, but for versions and paths.
+prints_all() { in_crate "${@:2}" | sed 's/ v[0-9].*//' | diff - <(printf '%b\n' "$1"); }
+
+# What is packed is not of an earlier copy or build, and uses no repository. The one is built over the other.
+rust_packed() {
+  local package packed=$work/packed
+  touch "$work/rust/verified-multihash/src/old.rs"
+  (cd "$work"; "$OLDPWD/bindings/rust/pack.sh" .)
+  for package in verified-multihash multihash; do
+    mkdir -p "$packed/$package"
+    tar xf "$work/target/package/$package"-[0-9]*.crate -C "$packed/$package" --strip-components 1
+    cmp LICENSE "$packed/$package/LICENSE"
+    echo '[workspace]' >> "$packed/$package/Cargo.toml"
+  done
+  has_all_but '^$' bindings/rust/verified-multihash "$packed/verified-multihash"
+  has_all_but '^tests/' bindings/rust/multihash "$packed/multihash"
+  [ ! -e "$packed/verified-multihash/src/old.rs" ]
+  tests . cargo test --manifest-path "$packed/verified-multihash/Cargo.toml"
+  printf '[patch.crates-io]\nverified-multihash = { path = "../verified-multihash" }\n' >> "$packed/multihash/Cargo.toml"
+  in_crate . cargo build --manifest-path "$packed/multihash/Cargo.toml"
+  rejects "cannot be published" in_crate multihash cargo publish --dry-run # under the name of upstream's
+}
+
+# The line of the page replaces upstream's package in a whole dependency graph. An absent feature is an error.
+rust_switch() {
+  local feature
+  block_of bindings/rust/multihash/README.md toml | sed 's,path/of/bindings/rust,../..,' \
+    >> "$work/rust/tests/program/Cargo.toml"
+  prints_all "input bytes exceed maximum" tests/program cargo run
+  in_crate tests/program/library cargo build --no-default-features
+  for feature in scale-codec arb; do
+    rejects "multihash has no feature $feature here" in_crate multihash cargo build --features "$feature"
+  done
+}
+
+# Bytes are no sequence of numbers for a format that has both. Without features the packages depend on nothing else.
+rust_serde() {
+  local example=$work/rust/multihash/examples
+  mkdir "$example"
+  cp bindings/rust/tests/bytes.rs "$example"
+  prints "got a byte array" in_crate multihash cargo run --features serde-codec --example bytes
+  rm -r "$example"
+  prints_all "multihash\n└── verified-multihash" multihash cargo tree -e no-dev
+  in_crate multihash cargo build --no-default-features --features serde-codec
+}
+
+rust_lints() {
+  in_crate verified-multihash cargo clippy --all-targets
+  in_crate multihash cargo clippy --all-targets --features serde
+  in_crate multihash cargo clippy --no-default-features --all-targets
+}
+
+in_crate . true # makes the copies
 # the test vectors and drawn inputs, with the results that verdicts.py computes
 crates/vectors/verdicts.py --more 1 10000 > "$work/list"
 cp crates/vectors/data/values.tsv "$work"
 needs=$cargo try "the tests" rust_tests
 needs=$bare try "the tests without std" without_std
 needs="/usr/bin/cargo /usr/bin/rustc $crates" try "the tests with Debian's Rust" debians_rust
-needs="$cargo cc" try "drawn inputs, beside the library for C" beside_c
+needs=cc try "the list in C" in_c
+needs="$cargo $registry/cid-0.5* $registry/multihash-0.11* $registry/unsigned-varint-0.5*" try "beside other crates" \
+  tests tests/neighbours cargo test
+try "the proved source" only_removed
+needs=$cargo try "the packed packages" rust_packed
+needs=$bare try "the switch from upstream's package" rust_switch
+needs=$bare try "serde" rust_serde
+needs="$bare cargo-clippy" try "lints" rust_lints
 test_targets
 finish

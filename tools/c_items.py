@@ -1,4 +1,4 @@
-"""What tools/c_source.py translates: the items of the library for C, with their names, types and comments in C."""
+"""For c_source.py and c_expressions.py: the items of the library for C, with their names, types and comments in C."""
 
 import re
 from itertools import takewhile
@@ -53,8 +53,7 @@ class Item(NamedTuple):
 
     def about(self) -> list[str]:
         """Returns the comment before the item, and what a function requires, if that is plain: C has no test of it."""
-        found = re.search(r"(?:^ *(?://(?!!)|#\[)[^\n]*\n)*\Z", self.item.text[: self.item.start].rstrip(" "), re.M)
-        lines = [line for line in found[0].splitlines() if "//" in line] if found else []
+        lines = self.item.comments()
         if self.item.kind == "struct":  # the first paragraph
             lines = [*takewhile(lambda line: line.strip(" /"), lines)]
         if self.item.kind == "fn":

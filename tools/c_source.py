@@ -1,5 +1,6 @@
 #!/usr/bin/env python3
-"""Prints the library for C in C11: the functions of crates/multihash_c, and those that they call, without contracts.
+"""For `tools/generate c`: prints the library for C in C11, which is the functions of crates/multihash_c, and those that
+they call, without contracts.
 
 What a function of multihash.h needs becomes the same in C, with its name after `mh_` and its comments:
 

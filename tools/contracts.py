@@ -1,13 +1,12 @@
 #!/usr/bin/env python3
-"""Writes docs/CONTRACTS.md: the main theorems, the public items of crates, with the contracts of their functions, and
-the definitions that these cite.
+"""For `tools/generate contracts`: prints docs/CONTRACTS.md, which has the main theorems, the public items of crates with
+the contracts of their functions, and the definitions that these cite.
 
 A line is left out or kept, never changed, so no clause and no documentation can change, and no
 public name can go, without a difference in that page. Left out are other comments, bodies and what
 is private. The words of the clauses follow, with the comments of their definitions.
 """
 import re
-import sys
 from collections.abc import Iterator
 from itertools import takewhile
 from pathlib import Path
@@ -15,7 +14,6 @@ from pathlib import Path
 from rt_source import Item, items
 
 TOP = Path(__file__).resolve().parents[1]
-PAGE = TOP / "docs" / "CONTRACTS.md"
 CRATES = ("theorems", "multihash", "frame", "form", "multihash_c", "mh_show")
 # attributes that no caller can see
 OF_BODIES = re.compile(r"#\[(cold|inline|tactic)\b")
@@ -39,10 +37,7 @@ def kept_lines(text: str) -> Iterator[str]:
 
 def attribute_lines(item: Item, indent: str) -> Iterator[str]:
     """Returns an item's documentation, and the attributes that a caller can see."""
-    above = item.text[: item.start].splitlines()
-    above = above[: len(above) - bool(indent) - item.attributes.count("\n")]
-    comments = takewhile(lambda line: line.startswith(f"{indent}//"), reversed(above))
-    yield from reversed([line for line in comments if line.startswith(f"{indent}///")])
+    yield from (line for line in item.comments() if line.startswith(f"{indent}///"))
     for line in map(str.strip, kept_lines(item.attributes)):
         if not OF_BODIES.match(line):
             yield indent + line
@@ -168,6 +163,4 @@ def written_page(texts: dict[str, str]) -> str:
 
 
 if __name__ == "__main__":
-    if sys.argv[1:] == ["--check"]:
-        sys.exit(PAGE.read_text("utf-8") != written_page(sources()) and "not what tools/contracts.py writes")
-    PAGE.write_text(written_page(sources()), "utf-8")
+    print(written_page(sources()), end="")

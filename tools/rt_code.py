@@ -1,5 +1,5 @@
-"""Reads functions of .rt files without their contracts: a tree of nodes, for the part of Rust that the library for C
-needs. Anything else is an error that names its line."""
+"""For c_items.py and the modules above it: reads functions of .rt files without their contracts as a tree of nodes, for
+the part of Rust that the library for C needs. Anything else is an error that names its line."""
 
 import re
 from collections.abc import Callable, Iterable

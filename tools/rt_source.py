@@ -1,7 +1,9 @@
-"""Reads .rt files, as `rt fmt` lays them out: items, with their fields, members and contracts."""
+"""For c_items.py, contracts.py and erase: reads .rt files, as `rt fmt` lays them out, as items with their fields, members
+and contracts."""
 
 import re
 from collections.abc import Iterator
+from itertools import takewhile
 from typing import NamedTuple
 
 # A string, a character or a comment; what an item begins with; a field of a struct or a case of an
@@ -42,6 +44,12 @@ class Item(NamedTuple):
     def head(self) -> str:
         """Returns what comes after the item's first words, up to a brace or the line's end."""
         return self.code[self.after : self.end].partition("{")[0].partition("\n")[0]
+
+    def comments(self) -> list[str]:
+        """Returns the lines of the comment before the item and its attributes."""
+        above = self.text[: self.start].rstrip(" ").splitlines()
+        above = above[: len(above) - self.attributes.count("\n")]
+        return [*takewhile(lambda line: re.match(r" *//(?!!)", line), reversed(above))][::-1]
 
     def inner(self) -> int:
         """Returns where what the item has in braces begins, or its end."""

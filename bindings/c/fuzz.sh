@@ -1,5 +1,5 @@
 #!/usr/bin/env bash
-# Fuzzes the library, by Clang: libFuzzer finds nothing.
+# Fuzzes the library for C with Clang's libFuzzer. Fails if that finds an error.
 #
 #   bindings/c/fuzz.sh
 #   OUT=FOLDER bindings/c/fuzz.sh   builds the target, FOLDER/multihash_fuzzer, and its seeds, and runs nothing

@@ -1,9 +1,9 @@
 #!/usr/bin/env python3
-"""Writes the man page multihash(3): the comments and declarations of multihash.h.
+"""Writes the man page multihash(3): the comments and declarations of multihash.h and multihash_message.h.
 
-The pages of its functions include it.
+The pages of their functions include it.
 
-    man.py HEADER CHANGES OUT    CHANGES has the date of the page, OUT is the folder of the pages
+    man.py CHANGES OUT HEADER..    CHANGES has the date of the page, OUT is the folder of the pages
 """
 
 from __future__ import annotations
@@ -14,6 +14,7 @@ import sys
 import textwrap
 from pathlib import Path
 
+ABOUT = r"/\* SPDX(?:(?!\*/).)*\*/\n\n/\*((?:(?!\*/).)*)\*/"
 FUNCTION = r"/\*((?:(?!\*/).)*)\*/\n(?:static inline )?(const char \*|\w+ )(multihash_\w+)\(([^()]*)\)"
 TYPE = r"/\*((?:(?!\*/).)*)\*/\n(typedef (?:struct .*?\} |uint32_t )\w+;)"
 STATUS = r"/\*((?:(?!\*/).)*)\*/\s*(MULTIHASH_\w+) = \d+"
@@ -62,7 +63,9 @@ def prototype(kind: str, name: str, parameters: str) -> list[str]:
     return [".Ft " + kind.strip(), (".Fn %s %s" % (name, quoted or "void"))]
 
 
-def page(header: str, changes: str) -> str:
+def page(headers: dict[str, str], changes: str) -> str:
+    """The page. The headers have names and contents; the first one states the version."""
+    header = "".join(headers.values())
     [version] = re.findall(r'#define MULTIHASH_VERSION "([\d.]+)"', header)
     [day] = re.findall(r"^%s \(([\d-]+)\)$" % re.escape(version), changes, re.M)
     date = datetime.date.fromisoformat(day)
@@ -72,11 +75,16 @@ def page(header: str, changes: str) -> str:
     made += [".Sh NAME", *(".Nm %s ," % name for name in names[:-1]), ".Nm " + names[-1]]
     made += [".Nd decode and encode multihashes", ".Sh LIBRARY", "multihash_c, version %s:" % version]
     made += [".Ql pkg-config --cflags --libs multihash_c", "prints the options for the compiler."]
-    made += [".Sh SYNOPSIS", ".In multihash.h"]
-    for _, kind, name, parameters in functions:
-        made += prototype(kind, name, parameters)
-    [first] = re.findall(r"\A/\*.*?\*/\n\n/\*(.*?)\*/", header, re.S)  # after the notice of the licence
-    made += [".Sh DESCRIPTION", *paragraphs(first)[1:], ".Ss Types and constants"]
+    made += [".Sh SYNOPSIS"]
+    for title, contents in headers.items():
+        made += [".In " + title]
+        for _, kind, name, parameters in re.findall(FUNCTION, contents, re.S):
+            made += prototype(kind, name, parameters)
+    first, *others = re.findall(ABOUT, header, re.S)
+    made += [".Sh DESCRIPTION", *paragraphs(first)[1:]]
+    for comment in others:
+        made += paragraphs(comment)
+    made += [".Ss Types and constants"]
     for comment, declaration in [*re.findall(TYPE, header, re.S), *re.findall(CONSTANTS, header, re.S)]:
         made += [text(plain(comment)), *literal(declaration), ".Pp"]
     del made[-1]
@@ -89,14 +97,14 @@ def page(header: str, changes: str) -> str:
 
 
 def main() -> None:
-    if len(sys.argv) != 4:
+    if len(sys.argv) < 4:
         sys.exit(__doc__)
-    header, changes = (Path(name).read_text("utf-8") for name in sys.argv[1:3])
-    out = Path(sys.argv[3])
+    changes, out = Path(sys.argv[1]).read_text("utf-8"), Path(sys.argv[2])
+    headers = {Path(name).name: Path(name).read_text("utf-8") for name in sys.argv[3:]}
     out.mkdir(parents=True, exist_ok=True)
-    for _, _, name, _ in re.findall(FUNCTION, header, re.S):
+    for _, _, name, _ in re.findall(FUNCTION, "".join(headers.values()), re.S):
         (out / (name + ".3")).write_text(".so man3/multihash.3\n", "utf-8")
-    (out / "multihash.3").write_text(page(header, changes), "utf-8")
+    (out / "multihash.3").write_text(page(headers, changes), "utf-8")
 
 
 if __name__ == "__main__":

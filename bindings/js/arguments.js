@@ -6,9 +6,23 @@ export function received(value) {
   return ['string', 'symbol', 'function'].includes(typeof value) ? typeof value : String(value);
 }
 
+const DECODE = 'Multihash.fromHex(text) decodes hexadecimal';
+// What makes an argument of a text, by the name of the argument, and of other values.
+const OF_TEXTS = {
+  __proto__: null, bytes: DECODE, multihash: DECODE, code: 'CODES has the codes of names',
+  content: 'new TextEncoder().encode(text) makes bytes',
+};
+const OF_OTHERS = {
+  __proto__: null, ArrayBuffer: 'new Uint8Array(buffer) makes one', Response: 'its body is one',
+  Blob: 'its stream() is one', File: 'its stream() is one',
+};
+
 /** The error of an argument of another type. */
-export const wrongType = (name, expected, value) =>
-  new TypeError(`${name} must be ${expected}, got ${received(value)}`);
+export function wrongType(name, expected, value) {
+  const got = received(value);
+  const hint = got === 'string' ? OF_TEXTS[name] : OF_OTHERS[got];
+  return new TypeError(`${name} must be ${expected}, got ${got}${hint ? `: ${hint}` : ''}`);
+}
 
 const getter = (prototype, name) => Object.getOwnPropertyDescriptor(prototype, name).get;
 const typedArray = Object.getPrototypeOf(Uint8Array.prototype);
@@ -21,11 +35,20 @@ export const bufferOf = getter(typedArray, 'buffer');
 /** Whether the value is a Uint8Array, of any realm. */
 export const isBytes = (value) => tagOf.call(value) === 'Uint8Array';
 
-/** The length of a Uint8Array, 0 if its buffer is detached. Throws a TypeError for any other value. */
+/** The length of a Uint8Array that has its memory. Throws a TypeError for any other value. */
 export function checkedLength(data, name) {
   // the buffer is not asked for: an engine has to make it first, which takes longer than to decode a short array
   if (tagOf.call(data) !== 'Uint8Array') throw wrongType(name, 'a Uint8Array', data);
-  return lengthOf.call(data);
+  return lengthOf.call(data) || emptyLength(data, name);
+}
+
+/** 0. Throws a TypeError if an array has this length because its memory is gone. */
+function emptyLength(data, name) {
+  try {
+    return new Uint8Array(data).length;
+  } catch (cause) {
+    throw new TypeError(`${name} is a Uint8Array that is detached or out of bounds`, { cause });
+  }
 }
 
 /** A plain Uint8Array over `length` bytes of another one, from an index on. */

@@ -69,7 +69,12 @@ differs_in_wraps() {
 }
 
 build_into() {
-  "$top/tools/link_wasm" "$work/linked.wasm"
+  local kit
+  kit=$(dirname "$(dirname "$(readlink -f "$(command -v rt)")")")
+  "$top/tools/generate" archive "$work/multihash_c.a" --target=wasm64-unknown-unknown 2> "$work/log" ||
+    { cat "$work/log" >&2; return 1; }
+  "$kit/bin/rattle-link" --target wasm64-unknown-unknown --toolchain "$kit/toolchain" -o "$work/linked.wasm" \
+    "$work/multihash_c.a"
   lower_wasm "$work/linked.wasm" "$1/multihash.wasm"
   printf "// Made by build.sh: multihash.wasm in base64.\nexport default '%s';\n" "$(base64 -w 0 "$1/multihash.wasm")" \
     > "$1/bytes.js"

@@ -1,6 +1,6 @@
 // Multihashes over a proved library, compiled to WebAssembly. A program imports index.js, inline.js or
 // module.js, which connect the functions here to an instance of the module.
-import { NUMBERS, bits64, checkedLength, isBytes, lengthOf, viewOf, wrongType } from './arguments.js';
+import { NUMBERS, bits64, checkedLength, isBytes, viewOf, wrongType } from './arguments.js';
 import { INCOMPLETE, MultihashError, STATUSES, forJSON, malformed, tooLarge, tooLong, trailing, truncated } from
   './errors.js';
 
@@ -97,7 +97,6 @@ export function connectTo(functions) {
 /** Copies at most PREFIX_MAX bytes into the module's memory, and returns the length of the whole input. */
 function put(data, name) {
   const length = checkedLength(data, name);
-  // `set` throws a TypeError if the buffer is detached
   memory.set(length <= PREFIX_MAX ? data : viewOf(data, 0, PREFIX_MAX), first);
   return length;
 }
@@ -113,7 +112,8 @@ function unhex(text) {
   if (typeof text !== 'string') throw wrongType('text', 'a string', text);
   const at = text.search(/[^0-9a-f]/i);
   if (at >= 0 || text.length % 2 !== 0) {
-    const what = at < 0 ? `an odd number of digits, ${text.length}` : `no hexadecimal digit at index ${at}`;
+    const what = at < 0 ? `an odd number of digits, ${text.length}` :
+      `${JSON.stringify(text[at])} at index ${at}, which is no hexadecimal digit`;
     throw new MultihashError(`the text has ${what}`, { status: 'not_hexadecimal' });
   }
   const bytes = new Uint8Array(text.length / 2);
@@ -205,22 +205,20 @@ export class Multihash {
 
   /** Whether the other value has the same code and the same digest. */
   equals(other) {
-    if (other instanceof Multihash) return compare(this, other) === 0;
+    if (other instanceof Multihash) return order(this, other) === 0;
     const [left, right, code] = [this.digest, other?.digest, other?.code];
     if (!isBytes(left) || !isBytes(right)) return false;
-    const length = lengthOf.call(left);
     // a number and a bigint of the same value are the same code
-    if ((typeof code !== 'number' && typeof code !== 'bigint') || code != this.code || lengthOf.call(right) !== length)
-      return false;
-    // throws a TypeError if a buffer is detached: its length is 0 then
-    if (length === 0) [left, right].forEach((digest) => new Uint8Array(digest));
+    if ((typeof code !== 'number' && typeof code !== 'bigint') || code != this.code) return false;
+    const length = checkedLength(left, 'the digest');
+    if (checkedLength(right, 'the other digest') !== length) return false;
     for (let index = 0; index < length; index++) if (left[index] !== right[index]) return false;
     return true;
   }
 
   /** This multihash, whose code is a number: a RangeError if it is a bigint. */
   narrow() {
-    if (typeof this.code !== 'number') throw new RangeError(`the code ${this.code} is 2^53 or more`);
+    if (typeof this.code !== 'number') throw new RangeError(`the code ${this.code} is 2^53 or more, so it is a bigint`);
     return this;
   }
 }
@@ -267,12 +265,12 @@ export function read(bytes, limit = DIGEST_MAX) {
   return { multihash: found(), taken: words[10] };
 }
 
-/** The same for a plain Uint8Array from an index on; undefined if it has only the start of an encoding. */
-export function readAt(bytes, at, limit) {
+/** The same for a plain Uint8Array from an index on; undefined if it ends inside the encoding, and more can follow. */
+export function readAt(bytes, at, limit, isLast) {
   const length = Math.min(bytes.length - at, PREFIX_MAX);
   memory.set(length === bytes.length ? bytes : bytes.subarray(at, at + length), first);
   library.multihash_read_limit(resultAt, firstAt, NUMBERS[length], limit);
-  if (INCOMPLETE.includes(STATUSES[words[0]])) return undefined;
+  if (!isLast && INCOMPLETE.includes(STATUSES[words[0]])) return undefined;
   if (words[0] !== 0) throw rejected(length, words[10], Math.min(Number(limit), DIGEST_MAX));
   return { multihash: found(), taken: words[10] };
 }
@@ -352,18 +350,13 @@ export function encodedLength(code, digestLength) {
 // ---- comparing
 
 /** The digest of a Multihash, whose memory was not moved elsewhere. */
-function digestOf(multihash, name) {
-  if (!(multihash instanceof Multihash)) throw wrongType(name, 'a Multihash', multihash);
-  const { digest, size } = multihash;
+function digestOf({ digest, size }, name) {
   if (digest.length !== size) throw new TypeError(`the digest of ${name} is detached or was replaced`);
   return digest;
 }
 
-/**
- * Compares by code, then by digest length, then by the first digest byte that differs: -1, 0 or 1. A call of the
- * library takes several times as long, since it copies both digests.
- */
-export function compare(left, right) {
+/** How two multihashes compare. A call of the library takes several times as long, since it copies both digests. */
+function order(left, right) {
   const leftDigest = digestOf(left, 'left');
   const rightDigest = digestOf(right, 'right');
   if (left.code !== right.code) return left.code < right.code ? -1 : 1;
@@ -372,4 +365,11 @@ export function compare(left, right) {
   for (let index = 0; index < length; index++)
     if (leftDigest[index] !== rightDigest[index]) return leftDigest[index] < rightDigest[index] ? -1 : 1;
   return 0;
+}
+
+/** Compares by code, then by digest length, then by the first digest byte that differs: -1, 0 or 1. */
+export function compare(left, right) {
+  if (!(left instanceof Multihash)) throw wrongType('left', 'a Multihash', left);
+  if (!(right instanceof Multihash)) throw wrongType('right', 'a Multihash', right);
+  return order(left, right);
 }

@@ -1,10 +1,7 @@
 // Hash functions of node:crypto, or of WebCrypto in browsers.
 import type { ByteStream, Multihash, MultihashDigest } from './index.js';
 
-/** The codes of the hash functions in the multicodec table, by their names. */
-export const CODES: Readonly<Record<string, number | undefined>>;
-/** The names of these functions, by their codes. */
-export const NAMES: Readonly<Record<number, string | undefined>>;
+export { CODES, NAMES } from './codes.js';
 
 /** What is hashed: bytes, or the chunks of a stream, such as `createReadStream(path)` or `blob.stream()`. */
 export type Content = Uint8Array | ByteStream | AsyncIterable<Uint8Array>;
@@ -21,10 +18,17 @@ export interface MultihashHasher<Code extends number = number> {
 }
 
 /**
- * The functions that this platform has, by their names: in Node.js those of its OpenSSL, in browsers SHA-1 and SHA-2;
- * in both `identity` and `dbl-sha2-256`.
+ * The functions that this platform has, by their names. Those listed here are on each; Node.js also has those of its
+ * OpenSSL.
  */
-export const hashers: Readonly<Record<string, MultihashHasher | undefined>>;
+export const hashers: Readonly<Record<string, MultihashHasher | undefined>> & {
+  readonly identity: MultihashHasher<0>;
+  readonly sha1: MultihashHasher<0x11>;
+  readonly 'sha2-256': MultihashHasher<0x12>;
+  readonly 'sha2-384': MultihashHasher<0x20>;
+  readonly 'sha2-512': MultihashHasher<0x13>;
+  readonly 'dbl-sha2-256': MultihashHasher<0x56>;
+};
 /** The content itself, at most 255 bytes, is the digest. */
 export const identity: MultihashHasher<0>;
 export const sha256: MultihashHasher<0x12>;

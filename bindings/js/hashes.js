@@ -66,7 +66,6 @@ async function digestOf(begin, content) {
   const hash = begin();
   if (isBytes(content)) {
     const length = checkedLength(content, 'content');
-    if (length === 0) new Uint8Array(content); // throws a TypeError if they are detached
     for (let at = 0; at === 0 || at < length; at += PIECE) {
       if (at > 0) await later();
       hash.update(viewOf(content, at, Math.min(PIECE, length - at)));
@@ -150,7 +149,7 @@ export async function verify(multihash, content) {
     throw new RangeError(`this platform has no function for the code 0x${code.toString(16)}${name}`);
   }
   const wanted = await digestOf(begin, content);
-  if (digest.length === 0) new Uint8Array(digest); // throws a TypeError if it is detached
+  if (digest.length === 0) checkedLength(digest, 'the digest');
   if (digest.length !== wanted.length) return false;
   let difference = 0;
   for (let index = 0; index < wanted.length; index++) difference |= wanted[index] ^ digest[index];

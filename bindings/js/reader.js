@@ -1,6 +1,6 @@
 // The reader of streams.
 import { bits64, checkedLength, checkedOptions } from './arguments.js';
-import { DIGEST_MAX, read, readAt } from './core.js';
+import { DIGEST_MAX, readAt } from './core.js';
 import { sourceOf } from './sources.js';
 
 /** Reads concatenated encodings from a `ReadableStream` or an async iterable of `Uint8Array`. */
@@ -56,9 +56,9 @@ export class MultihashReader {
     return this.#end();
   }
 
-  /** The next multihash, if all of it was received. */
-  #received() {
-    const found = readAt(this.#bytes, this.#at, this.#limit);
+  /** The next multihash, if all of it was received. Throws if the rest of it does not follow. */
+  #received(isLast = false) {
+    const found = readAt(this.#bytes, this.#at, this.#limit, isLast);
     this.#at += found?.taken ?? 0;
     return found?.multihash;
   }
@@ -73,7 +73,7 @@ export class MultihashReader {
       });
       // after a release or a cancellation meanwhile, `rest` has what was received
       if (this.#end || (done && this.#at === this.#bytes.length)) return null;
-      multihash = done ? read(this.rest).multihash : this.#received(); // the former throws
+      multihash = this.#received(done);
     }
     return multihash;
   }
@@ -98,8 +98,8 @@ export class MultihashReader {
   }
 
   /**
-   * Unlocks a `ReadableStream` for another reader: `rest` has the bytes received. From then on `read` rejects. The source
-   * is not cancelled.
+   * Unlocks a `ReadableStream` for another reader: `rest` has the bytes received. From then on `read` rejects. The
+   * source is not cancelled.
    */
   release() {
     this.#end ??= () => {

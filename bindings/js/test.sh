@@ -31,13 +31,12 @@ old_module() {
   wasm-validate ${later/--disable-bulk-memory/} "$here/multihash.wasm"
 }
 
-# The command of README.md installs the package in a folder of a user's own. Its links lead to no other file.
+# The command of README.md installs the package in a folder of a user's own.
 page_install() {
   mkdir "$work/own"
   cd "$work/own"
   npm_config_offline=true npm_config_cache=$work/npm MH=$top bash -c "$(block_of "$here/README.md" sh)"
   node --input-type=module -e "import 'verified-multihash'"
-  ! grep -nE '\]\(([^h#]|h[^t])' "$here/README.md" || return 1
 }
 
 # What is packed is installed elsewhere and imported from CommonJS.
@@ -49,7 +48,6 @@ packed_script() {
   npm_config_offline=true npm_config_cache=$work/npm npm install --loglevel=error "$work"/verified-multihash-*.tgz
   block_of "$here/README.md" html > page.html
   cmp "$top/LICENSE" node_modules/verified-multihash/LICENSE
-  has_all_but '^tests/|\.sh$|^beside_plain' "$here" node_modules/verified-multihash
   node --no-warnings --input-type=commonjs -e "
     require('verified-multihash/package.json');
     if (process.features.require_module) require('verified-multihash/inline').decode(Uint8Array.of(1, 0));
@@ -88,8 +86,8 @@ test_browser() {
   needs=$tools try "the packed package's page in $name" packed_page "$name"
 }
 
-# shellcheck source=tools/makers
-. tools/makers
+# shellcheck source=tools/tool_versions
+. tools/tool_versions
 needs="rt wasm-opt=$binaryen wasm2wat=$wabt" try "the WebAssembly built anew" "$here/build.sh" --check
 needs=wasm-validate try "the WebAssembly for old engines" old_module
 needs="$node npm" try "in Node.js" npm_test "$here"

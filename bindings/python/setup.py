@@ -15,7 +15,6 @@ COPIES = {
     "LICENSE": "LICENSE",
     "multihash_c/multihash.c": "bindings/c/src/multihash.c",
     "multihash_c/multihash.h": "bindings/c/include/multihash.h",
-    "tests/codes.tsv": "crates/vectors/data/codes.tsv",
     "tests/hashes.tsv": "crates/vectors/data/hashes.tsv",
     "tests/rows.tsv": "crates/mh_show/rows.tsv",
     "tests/values.tsv": "crates/vectors/data/values.tsv",

@@ -6,27 +6,12 @@ here=$(dirname "$(readlink -f "${BASH_SOURCE[0]}")")
 # shellcheck source=checks/lib/tap.sh
 . "$here/../../checks/lib/tap.sh"
 require cc /usr/bin/python3 /usr/include/python3*/Python.h python:{_testcapi,build,ensurepip,setuptools,wheel}
-clone=$work/clone
 python=$work/venv/bin/python
 export MULTIHASH_VERDICTS=$PWD/crates/vectors/data/verdicts.tsv
 
-# The module has no warnings. A clone with another owner and mode, and what an earlier build left, makes the same, and
-# leaves no other file.
+# The module has no warnings.
 warnings="-std=c89 -Wall -Wextra -Wshadow -Wconversion -Wsign-conversion -Werror"
-builds() {
-  mkdir -p "$clone"/bindings/python/{multihash_c,src/verified_multihash.egg-info}
-  tar -c LICENSE bindings/{c,python} crates/mh_show/rows.tsv crates/vectors/data | tar -x -C "$clone"
-  env -C "$clone/bindings/python" tee LICENSE multihash_c/multihash.{c,h} \
-    tests/{earlier.pyc,{hashes,rows,values,verdicts}.tsv} src/verified_multihash.egg-info/PKG-INFO < /dev/null
-  echo pack.sh > "$clone/bindings/python/src/verified_multihash.egg-info/SOURCES.txt"
-  touch "$clone/bindings/python/src/verified_multihash/_core.abi3.so" # of pip install -e
-  [ $UID != 0 ] || chown -R 1:2 "$clone"
-  chmod -R g+w "$clone"
-  CC="cc $warnings" "$here/pack.sh" "$work/dist" "$(uname -m)"
-  (umask 077; cd "$clone"; TMPDIR=$work/again bindings/python/pack.sh "$work/again" "$(uname -m)")
-  diff -r "$work/dist" "$work/again"
-  tar -xOf "$work"/dist/*.tar.gz --wildcards '*[0-9]/PKG-INFO' | grep -xF "$(head -n 1 "$here/README.md")"
-}
+builds() { CC="cc $warnings" "$here/pack.sh" "$work/dist" "$(uname -m)"; }
 
 # Installs what is named without a network, in place of what was installed.
 installs() {
@@ -50,17 +35,10 @@ unit_tests() {
   grep '^Ran [1-9]' "$work/tested"
 }
 
-# A wheel installs the package and, beside it, the licence of the repository, which it states.
+# A wheel has the licence of the repository, and states it.
 has_licence() {
   diff LICENSE "$(find "$1" -name LICENSE)"
   sed -nE 's/^License(-Expression)?: //p' "$1/METADATA" | diff - <(echo MIT)
-}
-licences() {
-  local installed
-  installed=$(echo "$work"/venv/lib/python3*/site-packages/verified_multihash-*.dist-info)
-  has_all_but '\.[ch]$' "$here/src" "${installed%/*}"
-  awk -F, '$1 !~ /^verified_multihash[/-]/' "$installed/RECORD" | diff /dev/null - # no file elsewhere
-  has_licence "$installed"
 }
 
 # All tests of the wheel. CPython's debug allocator sees a write after a block.
@@ -77,13 +55,6 @@ drawn() {
   "$python" -m unittest discover -s "$here/tests" -k Vectors
 }
 
-# The module keeps nothing between calls but CPython's version, in a variable that is zero at first, beside one of the C
-# library: interpreters and threads share them.
-keeps_nothing() {
-  nm "$work"/venv/lib/python3*/site-packages/verified_multihash/_core.abi3.so |
-    sed -nE '/ completed/d; s/.* [bB] ([a-z]\w*).*/\1/p' | diff - <(echo version)
-}
-
 # The sdist is all that is needed: what is in the folders above it is not used.
 sdist() {
   mkdir "$work/sdist"
@@ -93,20 +64,7 @@ sdist() {
   touch "$work/above/LICENSE"
   imports "$work/above/folder/sdist"
   cmp "$here/../../LICENSE" "$work/sdist/LICENSE"
-  has_all_but '\.sh$|^beside_plain' "$here" "$work/sdist"
   unit_tests "$work/sdist/tests" -u MULTIHASH_VERDICTS
-}
-
-# A folder that was installed before is installed as it is now, also if a file has the date of that of before.
-built_before() {
-  local at=$work/before module=$work/before/src/verified_multihash/__init__.py
-  cp -r "$work/sdist" "$at"
-  touch -d @315532800 "$module"
-  installs "$at"
-  echo 'later = True' >> "$module"
-  touch -d @315532800 "$module"
-  imports "$at"
-  "$python" -c 'from verified_multihash import later'
 }
 
 # The module, built with sanitizers, which the interpreter loads first.
@@ -115,6 +73,16 @@ under_sanitizers() {
   CFLAGS=$sanitize installs "$1"
   unit_tests "$here/tests" LD_PRELOAD="$(cc -print-file-name=libasan.so) $(cc -print-file-name=libubsan.so)" \
     ASAN_OPTIONS=detect_leaks=0:allocator_may_return_null=1 PYTHONMALLOC=malloc
+}
+
+# A folder that was installed before is installed as it is now, also if a file is older than its build.
+built_before() {
+  local module=$work/sdist/src/verified_multihash/__init__.py
+  installs "$work/sdist"
+  echo 'later = True' >> "$module"
+  touch -d @315532800 "$module"
+  imports "$work/sdist"
+  "$python" -c 'from verified_multihash import later'
 }
 
 # The package is typed, and the module has the names of its stub. mypy accepts typed.py and the examples of README.md,
@@ -136,17 +104,15 @@ END
   "${strict[@]}" page.py
 }
 
-ONLY='' try "the sdist and the wheel, built twice" builds
+ONLY='' try "the sdist and the wheel" builds
 ONLY='' try "an environment" /usr/bin/python3 -m venv --clear --system-site-packages "$work/venv"
 ONLY='' try "the wheel, installed" imports "$work"/dist/*.whl
-try "its licence" licences
-needs="nm" try "no state" keeps_nothing
+try "its licence" has_licence "$work"/venv/lib/python3*/site-packages/verified_multihash-*.dist-info
 try "the tests" all_tests
 try "drawn inputs" drawn
 needs="mypy stubtest" try "types" types
 try "the results of plain Python, in less CPU time" "$python" -I "$here/beside_plain.py"
-try "the folder, installed" imports "$here"
 ONLY='' try "the sdist, installed" sdist
-try "a folder that was built before" built_before
 try "sanitizers" under_sanitizers "$work/sdist"
+try "a folder that was built before" built_before
 finish

@@ -1,6 +1,5 @@
 # shellcheck shell=bash
-# Sourced after tap.sh: what checks of the library for C share: warnings of compilers, each of which is an error,
-# sanitizers, the functions of the header, and what an object has.
+# For the checks of the library for C, after tap.sh: options of compilers, whose warnings are errors, and the tests.
 # shellcheck disable=SC2034,SC2154 # what others use, or have set
 warnings=(-Wall -Wextra -Wpedantic -Wconversion -Wsign-conversion -Wshadow -Wcast-qual -Werror)
 c_flags=(-std=c11 "${warnings[@]}" -Wstrict-prototypes -Wmissing-prototypes)
@@ -10,7 +9,7 @@ ulimit -c 0
 top=$PWD
 c=$top/bindings/c
 source=$c/src/multihash.c
-tests=("$c"/tests/{test,verdicts,models,draws,buffer}.c)
+tests=("$c"/tests/{test,verdicts,models,draws,messages,buffer}.c)
 list=$top/crates/vectors/data/verdicts.tsv
 values=$top/crates/vectors/data/values.tsv
 # what Clang needs for sanitizers and the fuzzer
@@ -27,12 +26,4 @@ build_and_run() {
   prints "$(($(wc -l < "$list") - 1)) lines, drawn: 20000" $2 "$work/$1" "$list" 1 20000
   # shellcheck disable=SC2086
   prints "$(($(wc -l < "$values") - 1)) lines" $2 "$work/$1" "$values" 0 0 vectors
-}
-
-# An object, or those of an archive, need no other functions than these, and have no section that is written.
-keeps_no_state() {
-  nm --undefined-only -j "$1" | awk 'NF && !/:$|^_GLOBAL_OFFSET_TABLE_$/' | sort -u |
-    comm -23 - <(printf '%s\n' "${@:2}" | sort) | diff /dev/null -
-  objdump -h "$1" | awk '$2 ~ /^\./ { name = $2; size = $3 }
-    /ALLOC/ && !/READONLY/ && size !~ /^0+$/ { print name }' | diff /dev/null -
 }

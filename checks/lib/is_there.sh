@@ -1,5 +1,6 @@
 # shellcheck shell=bash
-# Whether what a check needs is there: tap.sh sources it; tap.py runs it with words, and it prints what is not there.
+# Tests whether what a check needs is there. tap.sh sources it; tap.py and .ci/run run it with words, and it prints those
+# that are missing.
 #
 #   NAME            a command; NAME=VERSION of that version, NAME=VERSION+ of this one or a later one
 #   /PATH           a file, which a pattern may name
@@ -30,7 +31,7 @@ is_version() {
 missing() {
   local tool
   for tool in "$@"; do
-    # shellcheck disable=SC2310 # what it says is its status
+    # shellcheck disable=SC2310 # its status is what it returns
     is_there "$tool" > /dev/null 2>&1 || echo "$tool"
   done
 }

@@ -1,35 +1,27 @@
 # shellcheck shell=bash
-# Sourced after tap.sh: what packages of the library for C and of a release have to have, and programs that use them.
+# For debian.t and release.t, after tap.sh: what packages have, and that they work.
 # shellcheck disable=SC2154,SC2164 # tap.sh has set the work folder, and ends at a failure
 # shellcheck source=checks/lib/installed.sh
 . checks/lib/installed.sh
 # shellcheck disable=SC2034 # release.t
 upstream=$(sed -n 's/^version = "\(.*\)"/\1/p' bindings/rust/multihash/Cargo.toml)
 
-# The packages of a folder for an architecture, unpacked together: the shared library, and the licence of each.
+# Unpacks the packages of a folder for an architecture together. They have the shared library.
 has_packages() {
   local root=$work/root-$2 package needed=()
   for package in mh-show libmultihash-c1 libmultihash-c-dev; do
     dpkg -x "$1/${package}_$version-1_$2.deb" "$root"
-    cmp LICENSE "$root/usr/share/doc/$package/copyright"
   done
   # the stack protector of aarch64 is in the dynamic linker
   [ "$2" != arm64 ] || needed=(ld-linux-aarch64.so.1)
   has_shared_library "$root/usr/lib/$3/libmultihash_c.so" "${needed[@]}"
 }
 
-# Both libraries and the program work from where the packages were unpacked.
+# The installed test passes where the packages were unpacked, and the program works there.
 try_packages() {
-  local root=$work/root-$1 flags option
-  local -x PKG_CONFIG_SYSROOT_DIR=$root PKG_CONFIG_LIBDIR=$root/usr/lib/$2/pkgconfig
-  flags=$(pkg-config --cflags --libs multihash_c)
-  eval "flags=($flags)"
-  for option in -O2 -static; do
-    "$3" "$option" bindings/c/examples/mh_show.c "${flags[@]}" -L"$root/usr/lib/$2" -o "$work/packaged"
-    "${@:4}" -E LD_LIBRARY_PATH="$root/usr/lib/$2" "$work/packaged" < crates/mh_show/stdin | diff - "$expected"
-    readelf -d "$work/packaged" | sed -n "s/.*NEEDED.*\[\(libmultihash.*\)\]/$option \1/p" >> "$work/needed-$1"
-  done
-  diff "$work/needed-$1" <(echo "-O2 libmultihash_c.so.$major")
+  local root=$work/root-$1
+  CC="$3 -L$root/usr/lib/$2" RUN=${*:4} PKG_CONFIG_SYSROOT_DIR=$root \
+    "$root/usr/share/doc/libmultihash-c-dev/examples/test.sh" "$root"
   "${@:4}" "$root/usr/bin/mh_show" < crates/mh_show/stdin | diff - "$expected"
 }
 

@@ -1,4 +1,5 @@
-"""Prints results as TAP, for prove. Builds what checks run."""
+"""For checks in Python, verdicts.py of crates/vectors and count.py of crates/speed: prints results as TAP, for prove, and
+builds the programs that checks run."""
 
 import os
 import subprocess

@@ -33,26 +33,18 @@ require() { without=$(missing "$@"); }
 # Joins lines that are not empty.
 list() { sed '/^$/d' | paste -sd, | sed 's/,/, /g'; }
 
-# Runs a command, what it prints goes to a file, and sets `ended` to its status.
+# Runs a command, what it prints goes to a file, and sets `ended` to its status. If it fails, the file ends with the
+# places in scripts where it did, from the innermost call.
 run() {
   local -
-  set +eE
-  (set -e; "${@:2}") > "$1" 2>&1
+  set +e
+  (set -eE; trap trace ERR; "${@:2}") > "$1" 2>&1
   ended=$?
 }
-
-# Runs a command, and prints which line of a script fails first: of what this file runs, the line that calls it.
-placed() {
-  trap 'place >&2' ERR
-  set -E
-  "$@"
-}
-place() {
-  local at=0
-  [ "${FUNCNAME[1]}" != run ] || return 0
+trace() {
+  local at
   trap - ERR
-  while [[ ${BASH_SOURCE[at]-} = */tap.sh ]]; do at=$((at + 1)); done
-  echo "${BASH_SOURCE[at]-}:${BASH_LINENO[at - 1]}: it failed"
+  for at in "${!BASH_LINENO[@]}"; do echo "${BASH_SOURCE[at + 1]-}:${BASH_LINENO[at]}"; done | grep -v '/tap\.sh:\|^:'
 }
 
 try() {
@@ -66,7 +58,7 @@ try() {
     echo "$result $number - $1 # SKIP no $(list <<< "$lack")"
     return
   fi
-  run "$work/log" placed "${@:2}"
+  run "$work/log" "${@:2}"
   [ "$ended" = 0 ] || result="not ok" failed=1
   echo "$result $number - $1"
   [ "$ended" = 0 ] || sed 's/^/# /' "$work/log" >&2

@@ -23,9 +23,6 @@ from collections.abc import Callable, Iterator
 from pathlib import Path
 
 TOP = Path(__file__).resolve().parents[2]
-sys.path.append(str(TOP / "checks" / "lib"))
-import tap
-
 DEFINITIONS = (TOP / "crates/multihash/specs/Varint.antt").read_text("utf-8")
 STORED = TOP / "crates/vectors/data/verdicts.tsv"
 COLUMNS = ("S", "input", "read", "read_taken", "from_bytes", "scale_decode", "scale_taken")
@@ -229,7 +226,7 @@ def error_of(path: Path, make: Callable[[str], str]) -> str:
         lines, made = stored.split("\n"), make(stored).split("\n")
         differences = [*difflib.unified_diff(lines, made, lineterm="", n=0)][2:]
         if differences:
-            differences.append(f"crates/vectors/verdicts.py --write writes the results of {path.name}")
+            differences.append(f"tools/generate vectors writes the results of {path.name}")
         return "\n".join(differences)
     except ValueError as error:
         return str(error)
@@ -250,8 +247,9 @@ def main() -> int:
         case [_, *_]:
             print(__doc__, file=sys.stderr)
             return 2
-    results = [(f"the results in {path.name}", error_of(path, made)) for path, made in lists.items()]
-    return tap.report(results)
+    errors = [error for path, made in lists.items() if (error := error_of(path, made))]
+    print("\n".join(errors), end="\n" * bool(errors))
+    return 1 if errors else 0
 
 
 if __name__ == "__main__":

@@ -51,6 +51,21 @@ static int print_multihash(multihash_decoded found, const uint8_t *digest)
     return fflush(stdout) == 0 && !ferror(stdout);
 }
 
+/* Returns the reason of a failed decoding, in the words of the Rust crate multihash, which mh_show has in Rattle too. */
+static const char *reason_of(multihash_status status)
+{
+    switch (status) {
+    case MULTIHASH_INSUFFICIENT:
+        return "not enough input bytes";
+    case MULTIHASH_OVERFLOW:
+        return "input bytes exceed maximum";
+    case MULTIHASH_NOT_MINIMAL:
+        return "encoding is not minimal";
+    default: /* MULTIHASH_UNEXPECTED_EOF */
+        return "failed to fill whole buffer";
+    }
+}
+
 /* Prints the reason of a failure to standard error. Returns the exit status. */
 static int fail(const char *reason)
 {
@@ -72,9 +87,9 @@ int main(void)
 
     multihash_decoded found = decode_multihash(text, length / 2);
     if (found.status == MULTIHASH_INVALID_SIZE) {
-        fprintf(stderr, "mh_show: %s %" PRIu64 ".\n", multihash_status_text(found.status), found.size);
+        fprintf(stderr, "mh_show: Invalid multihash size %" PRIu64 ".\n", found.size);
         return 1;
     }
-    if (found.status != MULTIHASH_OK) return fail(multihash_status_text(found.status));
+    if (found.status != MULTIHASH_OK) return fail(reason_of(found.status));
     return print_multihash(found, text + found.digest_offset) ? 0 : fail("output not written");
 }

@@ -1,7 +1,7 @@
 /* Shows the multihashes of standard input. The reader reads no byte after a multihash, rejects a digest that is too long
  * before it reads it, and continues where a stream was truncated or had to wait. */
 #define _POSIX_C_SOURCE 200809L
-#include "multihash.h"
+#include "multihash_message.h"
 
 #include <errno.h>
 #include <inttypes.h>
@@ -64,8 +64,11 @@ int main(void)
         for (size_t i = 0; i < found.digest_length; i++) printf("%02x", from.bytes[found.digest_offset + i]);
         printf("\n");
     }
-    if (result == STREAM_REJECTED) fprintf(stderr, "%s\n", multihash_status_text(found.status));
-    if (result == STREAM_CUT) fprintf(stderr, "the input ends within a multihash\n");
+    if (result == STREAM_REJECTED || result == STREAM_CUT) {
+        char text[MULTIHASH_MESSAGE_SIZE];
+        multihash_message(text, sizeof text, from.bytes, from.have, from.limit);
+        fprintf(stderr, "%s\n", text);
+    }
     if (result == STREAM_FAILED) perror("read");
     return result != STREAM_END;
 }

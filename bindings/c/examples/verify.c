@@ -1,5 +1,5 @@
 /* Verifies content by a multihash: verify HEX < CONTENT. The hash functions are those of OpenSSL 3. */
-#include "multihash.h"
+#include "multihash_message.h"
 
 #include <openssl/crypto.h>
 #include <openssl/evp.h>
@@ -42,7 +42,11 @@ static unsigned hash_stream(FILE *from, const EVP_MD *function, uint8_t *digest)
 static int verify(const uint8_t *bytes, size_t length)
 {
     multihash_decoded found = multihash_from_bytes(bytes, length);
-    if (found.status != MULTIHASH_OK) return fprintf(stderr, "%s\n", multihash_status_text(found.status)), 2;
+    if (found.status != MULTIHASH_OK) {
+        char text[MULTIHASH_MESSAGE_SIZE];
+        multihash_message(text, sizeof text, bytes, length, MULTIHASH_DIGEST_MAX);
+        return fprintf(stderr, "%s\n", text), 2;
+    }
     EVP_MD *function = function_of(found.code);
     if (function == NULL) return fprintf(stderr, "no hash function has that code\n"), 2;
     uint8_t digest[EVP_MAX_MD_SIZE];

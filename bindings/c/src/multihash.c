@@ -461,7 +461,7 @@ MH_COLD mh_head_or_error_at mh_head_read_counted(const uint8_t *bytes, size_t by
 }
 
 /* ---- multihash_c/src/lib.rt
- * The library for C: what `include/multihash.h` declares. */
+ * The library for C: the functions that `multihash.h` declares. */
 
 /* The maximum length of a digest: `MULTIHASH_DIGEST_MAX` in the header. */
 #define MH_DIGEST_MAX ((size_t)255)
@@ -754,7 +754,7 @@ multihash_decoded multihash_scale_decode(const uint8_t *bytes, size_t bytes_leng
 }
 
 /* ---- multihash_c/src/encode.rt
- * Encoding for C, and the texts of statuses, which are written to a buffer like encodings. */
+ * Encoding, for C. */
 
 /* The usual length of a digest. */
 #define MH_USUAL_DIGEST ((size_t)32)
@@ -773,7 +773,7 @@ MH_INLINE void mh_put_digest(const uint8_t *digest, size_t digest_length, uint8_
     }
 }
 
-/* The result for an encoding of that length and a buffer that has room for that many bytes. */
+/* The result for an encoding or a text of that length and a buffer that has room for that many bytes. */
 static inline multihash_encoded mh_count(size_t length, size_t room)
 {
     const uint32_t status = length <= room ? MULTIHASH_OK : MULTIHASH_NO_ROOM;
@@ -970,36 +970,11 @@ multihash_encoded multihash_encoded_len(uint64_t code, size_t digest_length)
 }
 
 /* Copies a text to the front of `out`, if it fits. */
-MH_INLINE multihash_encoded mh_put_text(const uint8_t *text, size_t text_length, uint8_t *out,
+MH_INLINE multihash_encoded mh_encode_put_text(const uint8_t *text, size_t text_length, uint8_t *out,
     size_t out_length)
 {
     if (text_length <= out_length) mh_copy(out, text, text_length);
     return mh_count(text_length, out_length);
-}
-
-/* Writes the text of a status to the front of `out`: ASCII, with no zero byte at its end. */
-multihash_encoded multihash_put_status_text(uint32_t status, uint8_t *out, size_t out_length)
-{
-    switch (status) {
-    case MULTIHASH_OK:
-        return mh_put_text(MH_TEXT("ok"), out, out_length);
-    case MULTIHASH_INSUFFICIENT:
-        return mh_put_text(MH_TEXT("not enough input bytes"), out, out_length);
-    case MULTIHASH_OVERFLOW:
-        return mh_put_text(MH_TEXT("input bytes exceed maximum"), out, out_length);
-    case MULTIHASH_NOT_MINIMAL:
-        return mh_put_text(MH_TEXT("encoding is not minimal"), out, out_length);
-    case MULTIHASH_INVALID_SIZE:
-        return mh_put_text(MH_TEXT("Invalid multihash size"), out, out_length);
-    case MULTIHASH_INVALID_CODE:
-        return mh_put_text(MH_TEXT("Invalid multihash code"), out, out_length);
-    case MULTIHASH_UNEXPECTED_EOF:
-        return mh_put_text(MH_TEXT("failed to fill whole buffer"), out, out_length);
-    case MULTIHASH_NO_ROOM:
-        return mh_put_text(MH_TEXT("failed to write whole buffer"), out, out_length);
-    default:
-        return mh_put_text(MH_TEXT("unknown status"), out, out_length);
-    }
 }
 
 /* ---- multihash_c/src/many.rt
@@ -1050,6 +1025,36 @@ multihash_batch multihash_read_many(const uint8_t *bytes, size_t bytes_length, m
         }
     }
     return (multihash_batch){.status = MULTIHASH_OK, .size = 0, .count = count, .taken = taken};
+}
+
+/* ---- multihash_c/src/status.rt
+ * The statuses that a C caller gets, and their texts. */
+
+/* Writes the text of a status to the front of `out`: ASCII, with no zero byte at its end. */
+multihash_encoded multihash_put_status_text(uint32_t status, uint8_t *out, size_t out_length)
+{
+    switch (status) {
+    case MULTIHASH_OK:
+        return mh_encode_put_text(MH_TEXT("ok"), out, out_length);
+    case MULTIHASH_INSUFFICIENT:
+        return mh_encode_put_text(MH_TEXT("the input ends before or inside a varint"), out, out_length);
+    case MULTIHASH_OVERFLOW:
+        return mh_encode_put_text(MH_TEXT("a varint has more than nine bytes"), out, out_length);
+    case MULTIHASH_NOT_MINIMAL:
+        return mh_encode_put_text(MH_TEXT("a varint is not minimal: it ends in a zero byte"), out,
+            out_length);
+    case MULTIHASH_INVALID_SIZE:
+        return mh_encode_put_text(MH_TEXT("the digest is too long, or bytes follow the multihash"), out,
+            out_length);
+    case MULTIHASH_INVALID_CODE:
+        return mh_encode_put_text(MH_TEXT("the code is 2^63 or more"), out, out_length);
+    case MULTIHASH_UNEXPECTED_EOF:
+        return mh_encode_put_text(MH_TEXT("the input ends before the end of the digest"), out, out_length);
+    case MULTIHASH_NO_ROOM:
+        return mh_encode_put_text(MH_TEXT("the buffer is too small"), out, out_length);
+    default:
+        return mh_encode_put_text(MH_TEXT("unknown status"), out, out_length);
+    }
 }
 
 /* ---- multihash_c/src/version.rt

@@ -1,6 +1,6 @@
-/* Runs the tests over two builds of the library at once. The linker's option --wrap leads each call of the library to
- * this file, which makes it of the build in the program and of another one, whose functions begin with `proved_`: the
- * results and the bytes that they write are the same. */
+/* Compares two builds of the library, while the tests run: the C source, and the archive of the compiled proved
+ * functions, renamed to `proved_..`. The linker's option --wrap replaces each call of the tests by one of a function of
+ * this file, which calls both: they return the same and write the same bytes. */
 #include "check.h"
 
 #include <stddef.h>

@@ -1,4 +1,5 @@
-/* Buffers that have exactly their length on the heap, for sanitizers and valgrind. */
+/* Allocates the buffers of the tests, each with exactly its length, so that sanitizers and valgrind see an access after
+ * its end. */
 #ifndef _GNU_SOURCE
 #define _GNU_SOURCE
 #endif

@@ -1,4 +1,4 @@
-/* What the tests in C share. */
+/* What the files of the tests share: the macro CHECK, and functions. */
 #ifndef CHECK_H
 #define CHECK_H
 
@@ -33,7 +33,8 @@ void check_length(uint64_t code, size_t length);
 void check_text(multihash_status status, size_t room);
 void check_input(uint64_t code, const uint8_t *bytes, size_t length, size_t limit);
 
-/* draws.c and verdicts.c */
+/* messages.c, draws.c and verdicts.c */
+void check_messages(void);
 void draw_inputs(uint64_t seed, unsigned long count);
 void replay(const char *name);
 

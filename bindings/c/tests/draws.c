@@ -1,4 +1,4 @@
-/* Inputs that are drawn: the same ones on every machine, or with FUZZ by libFuzzer. */
+/* Random inputs for the tests: the same ones on every machine, or, if FUZZ is defined, those of libFuzzer. */
 #include "check.h"
 
 #define HEAD 9

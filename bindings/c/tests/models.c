@@ -1,5 +1,6 @@
-/* The results of each call by docs/FORMAT.md, stated apart from the library, with which it is compared: each field,
- * and each byte of a buffer. What was decoded is encoded to the same bytes, and what was encoded is decoded again. */
+/* Models: functions that compute the result of each call from docs/FORMAT.md, independently of the library. The checks
+ * compare each field, and each byte of a buffer. What was decoded is encoded to the same bytes, and what was encoded is
+ * decoded again. */
 #include "check.h"
 
 /* The value of each byte that a call must not write. */
@@ -242,7 +243,7 @@ void check_input(uint64_t code, const uint8_t *bytes, size_t length, size_t limi
     check_length(code, length);
     check_encodings(code, bytes, length, room);
     check_encodings(code, bytes, length, limit);
-    check_text((multihash_status)code, room % 40);
+    check_text((multihash_status)code, room % 60);
     uint8_t *other = copy_of(bytes, length);
     check_order(code, bytes, length, code ^ (uint64_t)(limit % 2) << limit % 64, other, length);
     if (length == 0) return;

@@ -1,7 +1,7 @@
-/* Calls the reader of a stream that is installed as an example, over pipes that are cut at each byte: by a pause
- * and by an end, after which the pipe continues. C11 on POSIX. Exits with status 1 at the first error. */
+/* Calls the reader of the example stream.c over pipes that pause and end at each byte, and continue. C11 on POSIX. Exits
+ * with status 1 at the first error. */
 int example_main(void);
-#define main example_main
+#define main example_main /* the example's own main, which is not called */
 #include <stream.c>
 #undef main
 
@@ -11,24 +11,11 @@ int example_main(void);
 #include <signal.h>
 #include <sys/time.h>
 
-#define ITEMS 6
-
-/* A stream of multihashes, of which each ends at a byte. */
-static uint8_t whole[512];
-static size_t ends[ITEMS + 1];
+/* A stream of multihashes, and where each ends: the last one has a digest of 128 bytes. */
+enum { ITEMS = 4 };
+static uint8_t whole[149] = "\x12\3abc" "\0\0" "\xff\xff\xff\xff\xff\xff\xff\xff\x7f\1z" "\x13\x80\1";
+static const size_t ends[ITEMS + 1] = {0, 5, 7, 18, sizeof whole};
 static int empty;
-
-static void put_together(void)
-{
-    static const uint64_t codes[ITEMS] = {18, 0, 8242, 22, INT64_MAX, 257};
-    static const size_t lengths[ITEMS] = {32, 0, 1, 64, 255, 0};
-    uint8_t digest[MULTIHASH_DIGEST_MAX];
-    for (size_t i = 0; i < sizeof digest; i++) digest[i] = (uint8_t)(0x80 + i);
-    for (size_t i = 0; i < ITEMS; i++) {
-        uint8_t *to = whole + ends[i];
-        ends[i + 1] = ends[i] + multihash_encode(codes[i], digest, lengths[i], to, MULTIHASH_LENGTH_MAX).length;
-    }
-}
 
 /* A pipe that holds the bytes: its end for reading, which does not block, and the one for writing. */
 static void open_pipe(int pair[2], const void *bytes, size_t length)
@@ -37,7 +24,7 @@ static void open_pipe(int pair[2], const void *bytes, size_t length)
     CHECK(write(pair[1], bytes, length) == (ssize_t)length);
 }
 
-/* Reads all multihashes that are complete: each is the next item, and no byte after it was read. */
+/* Reads the multihashes that are complete: each is the next item, and no byte after it was read. */
 static stream_result read_on(stream *from, size_t *at)
 {
     multihash_decoded found;
@@ -66,7 +53,7 @@ static void check_cut(size_t cut)
         CHECK(read_on(&from, &at) == (ends[complete] == cut ? STREAM_END : STREAM_CUT) && at == complete);
     }
     from.descriptor = pair[0];
-    CHECK(write(pair[1], whole + cut, ends[ITEMS] - cut) == (ssize_t)(ends[ITEMS] - cut));
+    CHECK(write(pair[1], whole + cut, sizeof whole - cut) == (ssize_t)(sizeof whole - cut));
     CHECK(close(pair[1]) == 0 && read_on(&from, &at) == STREAM_END && at == ITEMS && close(pair[0]) == 0);
 }
 
@@ -76,7 +63,7 @@ static int written_at;
 static void write_whole(int number)
 {
     (void)number;
-    if (write(written_at, whole, ends[ITEMS]) > 0) close(written_at);
+    if (write(written_at, whole, sizeof whole) > 0) close(written_at);
 }
 
 /* A read that a signal interrupts goes on. */
@@ -110,8 +97,8 @@ static void check_rejected(const char *bytes, size_t length, multihash_status st
 int main(void)
 {
     empty = open("/dev/null", O_RDONLY);
-    put_together();
-    for (size_t cut = 0; cut <= ends[ITEMS]; cut++) check_cut(cut);
+    for (size_t i = ends[3] + 3; i < sizeof whole; i++) whole[i] = (uint8_t)i;
+    for (size_t cut = 0; cut <= sizeof whole; cut++) check_cut(cut);
     check_interrupted();
     check_rejected("\x12\x41\x07\x07", 4, MULTIHASH_INVALID_SIZE, 2);
     check_rejected("\x12\xff\xff\xff\xff\xff\xff\xff\xff\x7f\x07", 11, MULTIHASH_INVALID_SIZE, 10);

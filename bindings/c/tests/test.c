@@ -1,6 +1,6 @@
-/* Compares each export with the models: prefixes of encodings, every capacity, each error of an encoding, null with
- * length 0, the test vectors, whose file is the first argument, and drawn inputs. Valid C11 and C++17. Exits with
- * status 1 at the first error.
+/* The tests of the library: each function is compared with the models, over prefixes of encodings, every capacity, null
+ * with length 0, the test vectors and random inputs, and messages with a table. C11 and C++17. Exits with status 1 at
+ * the first error.
  *
  *   test VECTORS SEED COUNT          runs all cases
  *   test VECTORS SEED COUNT CASE     runs one of them */
@@ -104,7 +104,7 @@ static void check_large(void)
 
 static void check_texts(void)
 {
-    for (size_t room = 0; room <= 40; room++) {
+    for (size_t room = 0; room <= 60; room++) {
         for (multihash_status i = 0; i < 300; i++) check_text(i, room);
         for (unsigned bits = 9; bits < 32; bits++) check_text((multihash_status)1 << bits, room);
         check_text(UINT32_MAX, room);
@@ -146,6 +146,7 @@ static const struct {
     {"large", check_large},
     {"texts", check_texts},
     {"version", check_version},
+    {"messages", check_messages},
     {"vectors", check_vectors},
     {"draws", check_draws},
 };

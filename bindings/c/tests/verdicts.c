@@ -1,4 +1,4 @@
-/* The test vectors: each line's results are compared with those of the library, those of inputs with the models too. */
+/* The test vectors, verdicts.tsv and values.tsv of crates/vectors: the library has the results of each line. */
 #include "check.h"
 
 #include <inttypes.h>
@@ -98,13 +98,10 @@ static void check_line(char *text)
 
 void replay(const char *name)
 {
-    static const char inputs[] = "S\tinput\tread\tread_taken\tfrom_bytes\tscale_decode\tscale_taken\n";
-    static const char values[] = "kind\tlimit\tcode\tdigest\tencoding\tscale\n";
     static char text[LINE_MAX_BYTES];
     size_t lines = 0;
     FILE *list = fopen(name, "r");
     CHECK(list != NULL && fgets(text, sizeof text, list) != NULL);
-    CHECK(strcmp(text, inputs) == 0 || strcmp(text, values) == 0);
     for (; fgets(text, sizeof text, list) != NULL; lines++) check_line(text);
     CHECK(fclose(list) == 0);
     printf("%zu lines, ", lines);

@@ -1,6 +1,6 @@
 // Arguments of wrong types and ranges, and what results and errors are.
 import base64 from '../bytes.js';
-import { fails, gone, hex, same, unhex } from './check.js';
+import { fails, hex, same, unhex, withoutMemory } from './check.js';
 import { Lying } from './vectors.js';
 
 let turn = 0; // a module is imported anew each time
@@ -15,7 +15,7 @@ function noBytes() {
     new Uint8ClampedArray(2)];
   const feigned = [new Proxy(new Uint8Array(2), {}), Object.create(Uint8Array.prototype),
     { __proto__: new Uint8Array(2) }];
-  return [...others, ...buffers, ...feigned, ...gone()];
+  return [...others, ...buffers, ...feigned];
 }
 
 /** Bytes are a Uint8Array. The error names the argument. */
@@ -26,15 +26,18 @@ export function bytesAlone({ Multihash, MultihashReader, decode, encode, head, r
     ...[encode, scaleEncode, Multihash.of].map((call) => ['digest', (bytes) => call(18, bytes)]),
     ['rest', (bytes) => new MultihashReader(nothing, { rest: bytes ?? null })],
   ];
-  for (const wrong of noBytes()) {
+  const gone = withoutMemory();
+  for (const wrong of [...noBytes(), ...gone]) {
     const what = kindOf(wrong);
     for (const [name, call] of calls) {
       const { message } = fails(TypeError, () => call(wrong), `${name} ${what}`);
-      if (what !== '[object Uint8Array]') same(message.startsWith(`${name} must be a Uint8Array, got `), true, message);
+      const start = `${name} ${gone.includes(wrong) ? 'is a Uint8Array that is detached' : 'must be a Uint8Array, got '}`;
+      same(message.startsWith(start), true, message);
     }
   }
-  const received = [['1620', 'string'], [null, 'null'], [34, '34'], [34n, '34'], [[22, 0], 'Array'],
-    [() => 0, 'function'], [new ArrayBuffer(4), 'ArrayBuffer'], [undefined, 'undefined'], [Symbol('bytes'), 'symbol']];
+  const received = [[null, 'null'], [34, '34'], [34n, '34'], [[22, 0], 'Array'], [() => 0, 'function'],
+    ['1620', 'string: Multihash.fromHex(text) decodes hexadecimal'], [undefined, 'undefined'],
+    [new ArrayBuffer(4), 'ArrayBuffer: new Uint8Array(buffer) makes one'], [Symbol('bytes'), 'symbol']];
   for (const [value, text] of received)
     fails(TypeError, () => decode(value), text, `bytes must be a Uint8Array, got ${text}`);
 }
@@ -50,7 +53,8 @@ export function numbers({ Multihash, MultihashError, encode, encodedLength, read
   for (const [name, call] of calls) {
     const text = `${name} must be`;
     for (const [wrong, kind] of [['18', 'string'], [null, 'null'], [{}, 'Object'], [[18], 'Array'], [true, 'true']])
-      fails(TypeError, () => call(wrong), kind, `${text} a number or a bigint, got ${kind}`);
+      same(fails(TypeError, () => call(wrong), kind).message.replace(': CODES has the codes of names', ''),
+        `${text} a number or a bigint, got ${kind}`, kind);
     for (const wrong of [-1, 1.5, NaN, Infinity, 2 ** 53])
       fails(RangeError, () => call(wrong), `${wrong}`,
         `${text} a whole number from 0 to 2^53 - 1, or a bigint, got ${wrong}`);
@@ -70,34 +74,6 @@ export function numbers({ Multihash, MultihashError, encode, encodedLength, read
   same(fails(MultihashError, () => encodedLength(code, long), 'a length').size, long, 'a length');
   same(read(EXAMPLE, (1n << 64n) - 1n).taken, 34, 'the largest limit');
   same(fails(MultihashError, () => read(EXAMPLE, 0), 'limit 0').size, 32, 'size at limit 0');
-}
-
-/** A digest that is too long is rejected before it is copied. */
-export function noCopy(module) {
-  const { Uint8Array } = globalThis;
-  const digest = new Uint8Array(256);
-  globalThis.Uint8Array = undefined; // a copy is a TypeError
-  try {
-    fails(module.MultihashError, () => module.Multihash.of(1, digest), 'a long digest');
-  } finally {
-    globalThis.Uint8Array = Uint8Array;
-  }
-}
-
-/** A digest that grows while it is copied has its length of before. */
-export function growing(module) {
-  const buffer = new ArrayBuffer(4, { maxByteLength: 64 });
-  const prototype = Object.getPrototypeOf(Uint8Array.prototype);
-  const { set } = prototype;
-  prototype.set = function (...words) {
-    set.apply(this, words);
-    buffer.resize(12);
-  };
-  try {
-    same(`${hex(module.encode(18, new Uint8Array(buffer)))} ${buffer.byteLength}`, '120400000000 12', 'growing');
-  } finally {
-    prototype.set = set;
-  }
 }
 
 /** An error's fields are its own, whatever Object.prototype has. */
@@ -123,7 +99,8 @@ export function equality(module) {
   for (const value of [null, undefined, 22, 'text', {}, EXAMPLE])
     same(multihash.equals(value), false, `equals ${kindOf(value)}`);
   const empty = module.Multihash.of(18, new Uint8Array());
-  for (const digest of gone()) fails(TypeError, () => empty.equals({ code: 18, digest }), 'a digest that is gone');
+  for (const digest of withoutMemory())
+    fails(TypeError, () => empty.equals({ code: 18, digest }), 'a digest that is gone');
 }
 
 /** The order by the code, the digest's length, and the digest. */
@@ -168,8 +145,9 @@ export function multihashes(module) {
   same(`${multihash} ${new Map([[`${multihash}`, 1]]).get(hex(EXAMPLE))}`, `${hex(EXAMPLE)} 1`, 'as text');
   for (const text of [`${multihash}`, `${multihash}`.toUpperCase()])
     same(Multihash.fromHex(text).equals(multihash), true, 'from text');
-  for (const [text, message] of [['162', 'an odd number of digits, 3'], ['1g01', 'no hexadecimal digit at index 1'],
-    ['0x1600', 'no hexadecimal digit at index 1'], [' 1600', 'no hexadecimal digit at index 0']]) {
+  const no = 'which is no hexadecimal digit';
+  for (const [text, message] of [['162', 'an odd number of digits, 3'], ['1g01', `"g" at index 1, ${no}`],
+    ['0x1600', `"x" at index 1, ${no}`], [' 1600', `" " at index 0, ${no}`]]) {
     const error = fails(MultihashError, () => Multihash.fromHex(text), text, `the text has ${message}`);
     same(`${error.status} ${error.isIncomplete}`, 'not_hexadecimal false', text);
   }
@@ -182,7 +160,7 @@ export function multihashes(module) {
   same(`${shown}`, `Multihash(0x16, ${hex(EXAMPLE.subarray(2))}),Multihash(0x12, empty)`, 'console.log');
   same(multihash.narrow(), multihash, 'a code that is a number');
   fails(RangeError, () => Multihash.of(2n ** 53n, EXAMPLE).narrow(), 'narrow',
-    'the code 9007199254740992 is 2^53 or more');
+    'the code 9007199254740992 is 2^53 or more, so it is a bigint');
   fails(TypeError, () => new Multihash(Symbol('making'), 22, EXAMPLE), 'constructor',
     'Multihash.of(code, digest) makes a multihash');
   same(Object.is(Multihash.of(-0, EXAMPLE).code, 0), true, 'code -0');
@@ -204,6 +182,7 @@ const CASES = [
   ['1280', "the input ends inside the digest's length", 'insufficient'],
   ['8000', 'the varint of the code is not minimal: it ends in a zero byte', 'not_minimal'],
   ['01808000', "the varint of the digest's length is not minimal: it ends in a zero byte", 'not_minimal'],
+  [`${'ff'.repeat(8)}7f8100`, "the varint of the digest's length is not minimal: it ends in a zero byte", 'not_minimal'],
   ['ff'.repeat(9), 'the varint of the code has more than nine bytes', 'overflow'],
   [`01${'ff'.repeat(9)}`, "the varint of the digest's length has more than nine bytes", 'overflow'],
   ['010200', 'the input ends inside the digest (1 of 2 bytes)', 'unexpected_eof'],
@@ -221,7 +200,7 @@ export function errors({ MultihashError, decode, encode, head, read, scaleDecode
   const cases = [
     ...[decode, read].flatMap((call) => CASES.map(([input, message, status, size]) =>
       [() => call(unhex(input)), message, `"${status}"${size ? `,"size":${size}` : ''}`])),
-    ...CASES.slice(0, 8).map(([input, message, status]) => [() => head(unhex(input)), message, `"${status}"`]),
+    ...CASES.slice(0, 9).map(([input, message, status]) => [() => head(unhex(input)), message, `"${status}"`]),
     ...DECODED.map(([input, message, size]) => sized(() => decode(unhex(input)), message, size)),
     sized(() => read(EXAMPLE, 31), 'the digest has 32 bytes, and the limit is 31', 32),
     sized(() => read(unhex('018002'), 2n ** 60n), 'the digest has 256 bytes, and the limit is 255', 256),
@@ -257,7 +236,7 @@ export async function both() {
   const core = await import(`../core.js?${turn++}`);
   const { exports } = new WebAssembly.Instance(new WebAssembly.Module(bytes));
   const own = exports.multihash_version();
-  for (const number of [undefined, 1, own - 1, own + 1, own + 100, own + 10000])
+  for (const number of [undefined, own + 1])
     fails(TypeError, () => core.connectTo({ ...exports, multihash_version: () => number }), `version ${number}`,
       `the module is not multihash.wasm of version ${core.version}`);
   fails(RangeError, () => core.connectTo({ ...exports, memory: {} }), 'no memory');

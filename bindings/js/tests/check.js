@@ -30,7 +30,7 @@ export function fails(kind, call, what, text) {
 }
 
 /** Arrays without their memory: it was moved, or has shrunk. */
-export function gone() {
+export function withoutMemory() {
   const moved = new Uint8Array(8);
   structuredClone(moved.buffer, { transfer: [moved.buffer] });
   const buffer = new ArrayBuffer(8, { maxByteLength: 16 });

@@ -122,7 +122,7 @@ async function nodeStreams(module) {
 
 /** The names and numbers that *.d.ts state, the version of package.json, and the entries that connect. */
 function declared(module, which) {
-  const texts = ['index.d.ts', 'hashes.d.ts'].map((file) => bytesOf(file).toString()).join('');
+  const texts = ['index.d.ts', 'hashes.d.ts', 'codes.d.ts'].map((file) => bytesOf(file).toString()).join('');
   const stated = [...texts.matchAll(/^export (?:const|class|function) (\w+)(?:: (\d+);)?/gm)];
   const own = which === 'module' ? ['connect'] : [];
   const names = stated.map(([, name]) => name);
@@ -133,20 +133,6 @@ function declared(module, which) {
     same(types, code?.replace(/js$/, 'd.ts'), 'types in package.json');
   same(module.version, version, 'the version');
   same(sideEffects.includes(`./${which}.js`), which !== 'module', `sideEffects: ${which}.js`);
-}
-
-/** Names and codes of functions that no platform here has. */
-function names({ CODES, NAMES }) {
-  const listed = new Set();
-  for (const file of ['codes.tsv', 'hashes.tsv']) {
-    const text = readFileSync(new URL(`../../../crates/vectors/data/${file}`, import.meta.url), 'utf8');
-    for (const [code, name] of text.trim().split('\n').slice(1).map((row) => row.split('\t'))) {
-      same(`${CODES[name]} ${NAMES[Number(code)]}`, `${Number(code)} ${name}`, file);
-      listed.add(name);
-    }
-  }
-  const others = Object.keys(CODES).filter((name) => !listed.has(name) && !/^(blake2[bs]|skein\d+)-\d+$/.test(name));
-  same(`${others}`, '', 'names of no list');
 }
 
 /** Each entry compiles in its own way, if it does: index.js also in pages of Chrome before 115, with this error. */
@@ -169,6 +155,6 @@ export async function run(which) {
   const texts = [vectors, ...beside].map((path) => readFileSync(path, 'utf8'));
   test('declared', () => declared(module, which));
   if (compiled) for (const check of [compiledBefore, unfit, webCrypto]) test(check.name, () => check(texts[1]));
-  if (which === 'index') for (const check of [largeContent, names, nodeStreams]) test(check.name, () => check(module));
+  if (which === 'index') for (const check of [largeContent, nodeStreams]) test(check.name, () => check(module));
   for (const [name, check] of testsOf(which)) test(name, () => check(module, ...texts));
 }

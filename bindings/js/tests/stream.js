@@ -193,6 +193,7 @@ async function wrongSources(module, stream) {
     same(`${text.error} ${text.found.length} ${text.rest.length}`,
       'TypeError: a chunk of the source must be a Uint8Array, got string 0 9', 'a chunk that is text');
   const kinds = [[null, 'null'], [3, '3'], ['ab', 'string'], [[stream], 'Array'],
+    [new Response(), 'Response: its body is one'], [new Blob([]), 'Blob: its stream() is one'],
     [{ [Symbol.asyncIterator]: () => null }, 'Object'], [{ [Symbol.asyncIterator]: () => ({}) }, 'Object']];
   for (const [source, kind] of kinds)
     fails(TypeError, () => new module.MultihashReader(source), 'a source',

@@ -1,4 +1,4 @@
-/* Arguments of functions, and in words what is wrong with them. */
+/* Arguments of functions, and their errors. */
 #include "core.h"
 
 PyObject *attribute_of(PyObject *object, const char *text)
@@ -25,13 +25,33 @@ PyObject *wrong_type(const char *name, const char *expected, PyObject *argument)
     return NULL;
 }
 
-/* The same in place of CPython's TypeError, which does not name the argument. */
+/* The same in place of CPython's TypeError, which does not name the argument. A text has a hint. */
 static void rename_error(const char *name, const char *expected, PyObject *argument)
 {
-    if (PyErr_ExceptionMatches(PyExc_TypeError)) {
-        PyErr_Clear();
-        wrong_type(name, expected, argument);
+    static const char *hints[][2] = {
+        {"data", "bytes (Multihash.fromhex takes text)"},
+        {"digest", "bytes (bytes.fromhex takes hexadecimal)"},
+        {"code", "an int (hashes.CODES has the codes of names)"},
+        {RESULT_OF_READ, "bytes (open the file in binary mode)"},
+    };
+    if (!PyErr_ExceptionMatches(PyExc_TypeError)) return;
+    PyErr_Clear();
+    for (size_t at = 0; PyUnicode_Check(argument) && at < sizeof hints / sizeof *hints; at++) {
+        if (strcmp(name, hints[at][0]) == 0) expected = hints[at][1];
     }
+    wrong_type(name, expected, argument);
+}
+
+/* Of a number that is negative. CPython may refuse to convert one with thousands of decimal digits. */
+static void raise_negative(const char *name, PyObject *number)
+{
+    PyObject *shown = PyObject_Str(number);
+    if (shown == NULL && PyErr_ExceptionMatches(PyExc_ValueError)) {
+        PyErr_Clear();
+        shown = PyNumber_ToBase(number, 16);
+    }
+    if (shown != NULL) PyErr_Format(PyExc_ValueError, "%s must be 0 or more, not %U", name, shown);
+    Py_XDECREF(shown);
 }
 
 /* An attribute of a memoryview, which is negative with an error set. */
@@ -68,8 +88,7 @@ int get_input(PyObject *argument, const char *name, Py_ssize_t most, input *to)
     } else {
         PyObject *view = PyMemoryView_FromObject(argument); /* rejects numbers, texts and lists */
         if (view == NULL) {
-            int is_hex = PyUnicode_Check(argument) && strcmp(name, "data") == 0;
-            rename_error(name, is_hex ? "bytes (Multihash.fromhex takes text)" : "a bytes-like object", argument);
+            rename_error(name, "a bytes-like object", argument);
             return -1;
         }
         whole = number_of_view(view, "nbytes");
@@ -100,14 +119,13 @@ int get_number(PyObject **argument, const char *name, uint64_t *number)
 {
     PyObject *index = PyNumber_Index(*argument);
     if (index == NULL) {
-        int is_name = PyUnicode_Check(*argument) && strcmp(name, "code") == 0;
-        rename_error(name, is_name ? "an int (hashes.CODES has the codes of names)" : "an int", *argument);
+        rename_error(name, "an int", *argument);
         return -1;
     }
     int overflow;
     long long value = PyLong_AsLongLongAndOverflow(index, &overflow);
     int is_wrong = overflow < 0 || (overflow == 0 && value < 0);
-    if (is_wrong) PyErr_Format(PyExc_ValueError, "%s must not be negative", name);
+    if (is_wrong) raise_negative(name, index);
     *number = (uint64_t)value;
     if (overflow > 0) {
         *number = PyLong_AsUnsignedLongLong(index);
@@ -137,58 +155,4 @@ int get_pair(PyObject *arguments, PyObject *named, const char *format, PyObject 
     if (get_input(argument, "digest", MULTIHASH_DIGEST_MAX + 1, digest) == 0) return 0;
     Py_DECREF(*code);
     return -1;
-}
-
-/* ---- what is wrong with an input or a pair */
-
-/* Which varint of an encoding is malformed, and how. */
-static PyObject *reason_of_varint(const input *from, multihash_front front)
-{
-    size_t complete = 0; /* the number of varints before it, of which each has one byte below 128 */
-    for (size_t at = 0; at < front.taken; at++) complete += from->bytes[at] < 128;
-    if (front.status == MULTIHASH_NOT_MINIMAL) complete--; /* its own last byte */
-    const char *number = complete == 0 ? "code" : "digest's length";
-    if (front.status == MULTIHASH_OVERFLOW) {
-        return Py_BuildValue("(ss)", "the varint of the %s has more than nine bytes", number);
-    }
-    if (front.status == MULTIHASH_NOT_MINIMAL) {
-        return Py_BuildValue("(ss)", "the varint of the %s is not minimal: its last byte is zero", number);
-    }
-    const char *where = from->bytes[from->length - 1] < 128 ? "before" : "inside";
-    return Py_BuildValue("(sss)", "the input ends %s the varint of the %s", where, number);
-}
-
-static PyObject *reason_of_end(size_t there, unsigned long long length)
-{
-    return Py_BuildValue("(snK)", "the input ends inside the digest (%s of %s bytes)", (Py_ssize_t)there, length);
-}
-
-PyObject *reason_of(const input *from, size_t limit, multihash_status status)
-{
-    if (status == MULTIHASH_OK) return NULL;
-    multihash_front front = multihash_head(from->bytes, from->length);
-    if (from->length == 0) return Py_BuildValue("(s)", "the input is empty");
-    if (front.status != MULTIHASH_OK) return reason_of_varint(from, front);
-    if (status == MULTIHASH_UNEXPECTED_EOF) return reason_of_end(from->length - front.taken, front.digest_length);
-    unsigned long long length = front.digest_length, most = limit < MULTIHASH_DIGEST_MAX ? limit : MULTIHASH_DIGEST_MAX;
-    if (length > most) return Py_BuildValue("(sKK)", "the digest has %s bytes, and the limit is %s", length, most);
-    Py_ssize_t more = (Py_ssize_t)(from->whole - front.taken - (size_t)length);
-    return Py_BuildValue("(sns)", "%s byte%s the multihash", more, more == 1 ? " follows" : "s follow");
-}
-
-PyObject *reason_of_scale(const input *from, multihash_decoded found)
-{
-    Py_ssize_t length = (Py_ssize_t)from->length;
-    if (found.status == MULTIHASH_OK) return NULL;
-    if (length == 0) return Py_BuildValue("(s)", "the input is empty");
-    if (length < 8) return Py_BuildValue("(sn)", "the input ends inside the code (%s of 8 bytes)", length);
-    if (found.status == MULTIHASH_INVALID_CODE) return reason_of_pair(0, PyLong_FromUnsignedLongLong(found.code));
-    if (length == 8) return Py_BuildValue("(s)", "the input ends before the digest's length");
-    return reason_of_end(from->length - 9, from->bytes[8]);
-}
-
-PyObject *reason_of_pair(int is_size, PyObject *number)
-{
-    return Py_BuildValue("(sN)", is_size ? "the digest has %s bytes, and the limit is 255"
-                                         : "the code is %s, and the largest is 2**63 - 1", number);
 }

@@ -14,6 +14,8 @@ typedef struct state {
     PyObject *names;    /* and the names of an error's attributes */
 } state;
 
+#define FIELDS 4 /* of an error: its status, size, code and taken */
+
 static struct PyModuleDef definition;
 
 PyObject *module_of_type(PyTypeObject *type)
@@ -26,23 +28,22 @@ PyObject *module_of_type(PyTypeObject *type)
 }
 
 /* Raises a MultihashError, without its __init__, which takes longer. It steals the references to the numbers and the
- * reason, of which a null one has raised an error. */
+ * facts, of which a null one has raised an error. */
 static PyObject *raise_error(PyObject *module, multihash_status status, PyObject *size, PyObject *code, size_t taken,
-                             PyObject *reason)
+                             PyObject *facts)
 {
     const state *own = module == NULL ? NULL : PyModule_GetState(module);
     if (own != NULL && own->statuses == NULL) {
         PyErr_SetString(PyExc_RuntimeError, "verified_multihash was not imported");
         own = NULL;
     }
-    int is_ready = own != NULL && size != NULL && code != NULL && reason != NULL;
+    int is_ready = own != NULL && size != NULL && code != NULL && facts != NULL;
     PyObject *count = is_ready ? PyLong_FromSize_t(taken) : NULL, *error = NULL;
-    PyObject *values[] = {count == NULL ? NULL : PyTuple_GetItem(own->statuses, (Py_ssize_t)status), size, code, count,
-                          status == MULTIHASH_INSUFFICIENT || status == MULTIHASH_UNEXPECTED_EOF ? Py_True : Py_False};
-    PyObject *arguments = values[0] == NULL ? NULL : PyTuple_Pack(5, values[0], size, code, count, reason);
+    PyObject *values[] = {count == NULL ? NULL : PyTuple_GetItem(own->statuses, (Py_ssize_t)status), size, code, count};
+    PyObject *arguments = values[0] == NULL ? NULL : PyTuple_Pack(5, values[0], size, code, count, facts);
     if (arguments != NULL) error = own->new_error((PyTypeObject *)own->error, arguments, NULL);
     int is_whole = error != NULL;
-    for (Py_ssize_t at = 0; is_whole && at < 5; at++) {
+    for (Py_ssize_t at = 0; is_whole && at < FIELDS; at++) {
         is_whole = PyObject_SetAttr(error, PyTuple_GetItem(own->names, at), values[at]) == 0;
     }
     if (is_whole) PyErr_SetObject(own->error, error);
@@ -51,7 +52,7 @@ static PyObject *raise_error(PyObject *module, multihash_status status, PyObject
     Py_XDECREF(count);
     Py_XDECREF(size);
     Py_XDECREF(code);
-    Py_XDECREF(reason);
+    Py_XDECREF(facts);
     return NULL;
 }
 
@@ -60,9 +61,16 @@ PyObject *encoding_error(PyObject *module, multihash_status status, PyObject *le
     int is_size = status == MULTIHASH_INVALID_SIZE;
     PyObject *wrong = is_size ? length : code, *none = PyLong_FromLong(0);
     Py_XDECREF(is_size ? code : length);
-    Py_XINCREF(wrong);
-    PyObject *reason = wrong == NULL ? NULL : reason_of_pair(is_size, wrong);
-    return raise_error(module, status, is_size ? wrong : none, is_size ? none : wrong, 0, reason);
+    return raise_error(module, status, is_size ? wrong : none, is_size ? none : wrong, 0, PyTuple_New(0));
+}
+
+/* What the text of an error depends on: the length of the input, the start of it, and the limit. */
+static PyObject *facts_of(const input *from, const size_t *limit)
+{
+    Py_ssize_t whole = (Py_ssize_t)from->whole;
+    Py_ssize_t length = (Py_ssize_t)(from->length < MULTIHASH_HEAD_MAX ? from->length : MULTIHASH_HEAD_MAX);
+    if (limit == NULL) return Py_BuildValue("(ny#)", whole, from->bytes, length);
+    return Py_BuildValue("(ny#K)", whole, from->bytes, length, (unsigned long long)*limit);
 }
 
 /* For the package: the class of errors, the members of Status, and the names of an error's attributes. */
@@ -75,7 +83,7 @@ static PyObject *set_error(PyObject *module, PyObject *arguments)
         return NULL;
     }
     newfunc new_error = (newfunc)PyType_GetSlot((PyTypeObject *)class, Py_tp_new);
-    if (new_error == NULL || PyTuple_Size(names) != 5) return PyErr_Format(PyExc_TypeError, "not a class of errors");
+    if (new_error == NULL || PyTuple_Size(names) != FIELDS) return PyErr_Format(PyExc_TypeError, "not a class of errors");
     own->new_error = new_error;
     Py_INCREF(own->error = class);
     Py_INCREF(own->statuses = statuses);
@@ -91,30 +99,32 @@ static PyTypeObject *type_of_module(PyObject *module)
     return (PyTypeObject *)((state *)PyModule_GetState(module))->type;
 }
 
-PyObject *decoded(PyObject *module, const uint8_t *bytes, multihash_decoded found, PyObject *reason)
+static const size_t longest = MULTIHASH_DIGEST_MAX;
+
+PyObject *decoded(PyObject *module, const input *from, multihash_decoded found, const size_t *limit)
 {
     if (found.status != MULTIHASH_OK) {
         PyObject *size = PyLong_FromUnsignedLongLong(found.size), *code = PyLong_FromUnsignedLongLong(found.code);
-        return raise_error(module, found.status, size, code, found.taken, reason);
+        return raise_error(module, found.status, size, code, found.taken, facts_of(from, limit));
     }
-    const char *digest = (const char *)bytes + found.digest_offset;
+    const char *digest = (const char *)from->bytes + found.digest_offset;
     PyObject *code = PyLong_FromUnsignedLongLong(found.code);
     PyObject *copied = code == NULL ? NULL : PyBytes_FromStringAndSize(digest, (Py_ssize_t)found.digest_length);
     return new_multihash(type_of_module(module), found.code, code, copied);
 }
 
 /* The same for an input, which it steals, with the number of bytes consumed. */
-static PyObject *decoded_front(PyObject *module, input *from, multihash_decoded found, PyObject *reason)
+static PyObject *decoded_front(PyObject *module, input *from, multihash_decoded found, const size_t *limit)
 {
-    PyObject *multihash = decoded(module, from->bytes, found, reason);
+    PyObject *multihash = decoded(module, from, found, limit);
     Py_DECREF(from->owner);
     return multihash == NULL ? NULL : Py_BuildValue("Nn", multihash, (Py_ssize_t)found.taken);
 }
 
 PyObject *decoded_whole(PyObject *module, input *from)
 {
-    multihash_decoded found = multihash_from_prefix(from->bytes, from->length, from->whole);
-    PyObject *multihash = decoded(module, from->bytes, found, reason_of(from, MULTIHASH_DIGEST_MAX, found.status));
+    PyObject *multihash =
+        decoded(module, from, multihash_from_prefix(from->bytes, from->length, from->whole), &longest);
     Py_DECREF(from->owner);
     return multihash;
 }
@@ -133,14 +143,13 @@ static PyObject *read_front(PyObject *module, PyObject *arguments, PyObject *nam
 {
     static char *names[] = {"data", "limit", NULL};
     PyObject *data, *most = NULL;
-    size_t limit = MULTIHASH_DIGEST_MAX;
+    size_t limit = longest;
     input from;
     if (!get_arguments(arguments, named, "O|O:read", names, &data, &most)) return NULL;
     if (most != NULL && get_size(&most, "limit", &limit) < 0) return NULL;
     Py_XDECREF(most);
     if (get_input(data, "data", MULTIHASH_HEAD_MAX + MULTIHASH_DIGEST_MAX, &from) < 0) return NULL;
-    multihash_decoded found = multihash_read_limit(from.bytes, from.length, limit);
-    return decoded_front(module, &from, found, reason_of(&from, limit, found.status));
+    return decoded_front(module, &from, multihash_read_limit(from.bytes, from.length, limit), &limit);
 }
 
 static PyObject *scale_decode(PyObject *module, PyObject *arguments, PyObject *named)
@@ -150,8 +159,7 @@ static PyObject *scale_decode(PyObject *module, PyObject *arguments, PyObject *n
     input from;
     if (!get_arguments(arguments, named, "O:scale_decode", names, &data, NULL)) return NULL;
     if (get_input(data, "data", MULTIHASH_SCALE_LENGTH_MAX, &from) < 0) return NULL;
-    multihash_decoded found = multihash_scale_decode(from.bytes, from.length);
-    return decoded_front(module, &from, found, reason_of_scale(&from, found));
+    return decoded_front(module, &from, multihash_scale_decode(from.bytes, from.length), NULL);
 }
 
 static PyObject *head(PyObject *module, PyObject *data)
@@ -159,10 +167,10 @@ static PyObject *head(PyObject *module, PyObject *data)
     input from;
     if (get_input(data, "data", MULTIHASH_HEAD_MAX, &from) < 0) return NULL;
     multihash_front found = multihash_head(from.bytes, from.length);
-    PyObject *reason = reason_of(&from, MULTIHASH_DIGEST_MAX, found.status);
+    PyObject *facts = found.status == MULTIHASH_OK ? NULL : facts_of(&from, &longest);
     Py_DECREF(from.owner);
     if (found.status != MULTIHASH_OK) {
-        return raise_error(module, found.status, PyLong_FromLong(0), PyLong_FromLong(0), found.taken, reason);
+        return raise_error(module, found.status, PyLong_FromLong(0), PyLong_FromLong(0), found.taken, facts);
     }
     unsigned long long code = found.code, length = found.digest_length;
     return Py_BuildValue("KKn", code, length, (Py_ssize_t)found.taken);
@@ -267,7 +275,6 @@ static PyMethodDef functions[] = {
      "Returns the length of the encoding of a code and a digest of that length."},
     {"compare", WITH_NAMES(compare),
      "compare(left, right)\n--\n\nReturns -1, 0 or 1: the order of two multihashes."},
-    {"read_once", read_once, METH_VARARGS, NULL},
     {"set_error", set_error, METH_VARARGS, NULL},
     {"status_text", status_text, METH_O, NULL},
     {NULL, NULL, 0, NULL},

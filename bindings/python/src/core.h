@@ -27,6 +27,9 @@ typedef struct input {
 /* Raises a TypeError, `name must be expected, not its type`, and returns null. */
 PyObject *wrong_type(const char *name, const char *expected, PyObject *argument);
 
+/* The name of what a file returned, as an argument. */
+#define RESULT_OF_READ "the result of read"
+
 /* Takes any object with the buffer protocol. Copies some `most` bytes of what is no bytes object. */
 int get_input(PyObject *argument, const char *name, Py_ssize_t most, input *to);
 
@@ -46,14 +49,6 @@ int get_size(PyObject **argument, const char *name, size_t *size);
 int get_pair(PyObject *arguments, PyObject *named, const char *format, PyObject **code, uint64_t *number,
              input *digest);
 
-/* What is wrong with an encoding: a format and its values, which MultihashError puts together if it is asked for the
- * text. Null if nothing is wrong, or with an error set. */
-PyObject *reason_of(const input *from, size_t limit, multihash_status status);
-PyObject *reason_of_scale(const input *from, multihash_decoded found);
-
-/* The same for a digest of that length, or for that code: steals the reference to the number. */
-PyObject *reason_of_pair(int is_size, PyObject *number);
-
 /* ---- core.c */
 
 extern long version; /* of CPython, as sys.hexversion */
@@ -64,8 +59,8 @@ PyObject *module_of_type(PyTypeObject *type);
 /* Raises the error of an encoding. It steals the references to the length, which may be null, and to the code. */
 PyObject *encoding_error(PyObject *module, multihash_status status, PyObject *length, PyObject *code);
 
-/* The multihash that a decoding found in these bytes, or an error with that reason, whose reference it steals. */
-PyObject *decoded(PyObject *module, const uint8_t *bytes, multihash_decoded found, PyObject *reason);
+/* The multihash that a decoding found in an input, or its error. The limit of a digest is null for SCALE. */
+PyObject *decoded(PyObject *module, const input *from, multihash_decoded found, const size_t *limit);
 
 /* The multihash whose encoding is the whole of an input, which it steals. */
 PyObject *decoded_whole(PyObject *module, input *from);
@@ -84,6 +79,3 @@ int order_of(PyObject *left, PyObject *right);
 /* ---- reader.c */
 
 extern PyType_Spec reader_spec;
-
-/* Reads the next multihash of a file, by a reader that is no object. */
-PyObject *read_once(PyObject *module, PyObject *arguments);

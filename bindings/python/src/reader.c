@@ -1,4 +1,4 @@
-/* Readers of files: the base of both classes, and `read_once`, which is read_from. */
+/* Readers of files: the base of both classes. */
 #include "core.h"
 
 typedef struct reader_object {
@@ -6,8 +6,8 @@ typedef struct reader_object {
     PyObject *module;
     PyObject *read; /* of the file */
     size_t limit;
+    size_t wanted; /* the number of bytes that a call of the file was asked for which has not returned, or 0 */
     char has_lost; /* whether the file may have lost bytes */
-    char is_busy;  /* whether a call of the file has not returned */
     size_t length; /* of the bytes that were read and belong to no multihash that was returned */
     uint8_t rest[MULTIHASH_HEAD_MAX + MULTIHASH_DIGEST_MAX];
 } reader_object;
@@ -18,13 +18,13 @@ static PyObject *read_of(PyObject *file)
     PyObject *read = attribute_of(file, "read");
     if (read != NULL || !PyErr_ExceptionMatches(PyExc_AttributeError)) return read;
     PyErr_Clear();
-    return wrong_type("file or stream", "an object with a method read", file);
+    return wrong_type("file or stream", "an object with a method read, such as open(path, 'rb')", file);
 }
 
 /* Raises an error if a call of the file has not returned. */
 static int check_idle(const reader_object *reader)
 {
-    if (!reader->is_busy) return 0;
+    if (reader->wanted == 0) return 0;
     PyErr_SetString(PyExc_RuntimeError, "another call of the reader has not ended");
     return -1;
 }
@@ -88,9 +88,9 @@ static size_t missing(const reader_object *reader)
     return found.taken + (size_t)found.digest_length - reader->length;
 }
 
-/* Begins a call of the file: the number of bytes to read, none if the next result is known; negative with an error
+/* Begins a call of the file for the bytes that are wanted: 1, or 0 if the next result is known; negative with an error
  * set. */
-static Py_ssize_t begin(reader_object *reader)
+static int begin(reader_object *reader)
 {
     size_t count = missing(reader);
     if (count == 0) return 0;
@@ -100,8 +100,8 @@ static Py_ssize_t begin(reader_object *reader)
                                                                : "the file failed before, so bytes may be lost");
         return -1;
     }
-    reader->is_busy = 1;
-    return (Py_ssize_t)count;
+    reader->wanted = count;
+    return 1;
 }
 
 /* Ends it with what the file returned: 1, or 0 if that is empty, at the end of the file; negative with an error set. */
@@ -110,10 +110,10 @@ static int end(reader_object *reader, PyObject *chunk)
     input from;
     reader->has_lost = chunk != Py_None;
     if (chunk == Py_None) PyErr_SetString(PyExc_BlockingIOError, "the file has no bytes now");
-    int is_there = chunk != Py_None && get_input(chunk, "the result of read", sizeof reader->rest, &from) == 0;
-    reader->is_busy = 0;
+    int is_there = chunk != Py_None && get_input(chunk, RESULT_OF_READ, sizeof reader->rest, &from) == 0;
+    size_t most = reader->wanted;
+    reader->wanted = 0;
     if (!is_there) return -1;
-    size_t most = missing(reader);
     reader->has_lost = from.whole > most;
     if (reader->has_lost) {
         PyErr_Format(PyExc_ValueError, "the file returned %zu bytes to read(%zu)", from.whole, most);
@@ -125,17 +125,17 @@ static int end(reader_object *reader, PyObject *chunk)
     return reader->has_lost ? -1 : from.whole > 0;
 }
 
-/* Reads at most that many bytes, after `begin`, and keeps them. */
-static int read_chunk(reader_object *reader, Py_ssize_t count)
+/* Calls the file, after `begin`, and keeps what it returned. */
+static int read_chunk(reader_object *reader)
 {
-    PyObject *number = PyLong_FromSsize_t(count), *read = reader->read;
+    PyObject *number = PyLong_FromSize_t(reader->wanted), *read = reader->read;
     Py_INCREF(read);
     PyObject *chunk = number == NULL ? NULL : PyObject_CallFunctionObjArgs(read, number, NULL);
     int kept = -1;
     if (chunk != NULL) {
         kept = end(reader, chunk);
     } else {
-        reader->is_busy = 0;
+        reader->wanted = 0;
         reader->has_lost = number != NULL && !PyErr_ExceptionMatches(PyExc_BlockingIOError);
     }
     Py_XDECREF(chunk);
@@ -148,54 +148,34 @@ static int read_chunk(reader_object *reader, Py_ssize_t count)
 static PyObject *take_multihash(reader_object *reader)
 {
     if (reader->length == 0) Py_RETURN_NONE;
-    multihash_decoded found = multihash_read_limit(reader->rest, reader->length, reader->limit);
     input from = {NULL, reader->rest, reader->length, reader->length};
-    PyObject *reason = reason_of(&from, reader->limit, found.status);
-    PyObject *multihash = decoded(reader->module, reader->rest, found, reason);
+    multihash_decoded found = multihash_read_limit(from.bytes, from.length, reader->limit);
+    PyObject *multihash = decoded(reader->module, &from, found, &reader->limit);
     if (multihash != NULL) reader->length = 0;
-    return multihash;
-}
-
-static PyObject *next_multihash(reader_object *reader)
-{
-    Py_ssize_t count;
-    int kept = 1;
-    while ((count = begin(reader)) > 0 && (kept = read_chunk(reader, count)) > 0) continue;
-    return count < 0 || kept < 0 ? NULL : take_multihash(reader);
-}
-
-/* The reader exists for this call alone, so after an error the bytes read are lost. */
-PyObject *read_once(PyObject *module, PyObject *arguments)
-{
-    PyObject *file, *most;
-    reader_object reader = {.module = module};
-    if (!PyArg_UnpackTuple(arguments, "read_once", 2, 2, &file, &most)) return NULL;
-    if (get_size(&most, "limit", &reader.limit) < 0) return NULL;
-    Py_DECREF(most);
-    if ((reader.read = read_of(file)) == NULL) return NULL;
-    PyObject *multihash = next_multihash(&reader);
-    Py_DECREF(reader.read);
     return multihash;
 }
 
 static PyObject *reader_next(PyObject *self, PyObject *unused)
 {
+    reader_object *reader = (reader_object *)self;
+    int begun, kept = 1;
     (void)unused;
-    return next_multihash((reader_object *)self);
+    while ((begun = begin(reader)) > 0 && (kept = read_chunk(reader)) > 0) continue;
+    return begun < 0 || kept < 0 ? NULL : take_multihash(reader);
 }
 
-/* The steps of `next_multihash`, for a call of the file that is awaited: to begin, end or fail, and the result. */
+/* The steps of `reader_next`, for a call of the file that is awaited: to begin, end or fail, and the result. */
 static PyObject *reader_begin(PyObject *self, PyObject *unused)
 {
-    Py_ssize_t count = begin((reader_object *)self);
+    int begun = begin((reader_object *)self);
     (void)unused;
-    return count < 0 ? NULL : PyLong_FromSsize_t(count);
+    return begun < 0 ? NULL : PyLong_FromSize_t(begun ? ((reader_object *)self)->wanted : 0);
 }
 
 static PyObject *reader_end(PyObject *self, PyObject *chunk)
 {
     reader_object *reader = (reader_object *)self;
-    if (!reader->is_busy) return PyErr_Format(PyExc_RuntimeError, "no call of the file has begun");
+    if (reader->wanted == 0) return PyErr_Format(PyExc_RuntimeError, "no call of the file has begun");
     int kept = end(reader, chunk);
     return kept < 0 ? NULL : PyBool_FromLong(kept);
 }
@@ -203,7 +183,7 @@ static PyObject *reader_end(PyObject *self, PyObject *chunk)
 static PyObject *reader_fail(PyObject *self, PyObject *error)
 {
     reader_object *reader = (reader_object *)self;
-    reader->is_busy = 0;
+    reader->wanted = 0;
     /* A call that was cancelled has lost nothing, and its error is no Exception. */
     reader->has_lost = PyErr_GivenExceptionMatches(error, PyExc_Exception) &&
                        !PyErr_GivenExceptionMatches(error, PyExc_BlockingIOError);

@@ -15,10 +15,15 @@ from verified_multihash import Multihash, MultihashError, hashes
 HERE = Path(__file__).resolve().parent
 # in the repository, or beside this file in an sdist
 DATA = next(path for path in (HERE / "../../../crates/vectors/data", HERE) if path.exists())
-ROWS, NAMED = (
-    [line.split("\t") for line in (DATA / name).read_text("ascii").splitlines()[1:]]
-    for name in ("hashes.tsv", "codes.tsv")
-)
+# code, name and digest of abc
+ROWS = [line.split("\t") for line in (DATA / "hashes.tsv").read_text("ascii").splitlines()[1:]]
+# published digests of abc by functions that some builds of hashlib have
+MORE = {
+    "dbl-sha2-256": "4f8b42c22dd3729b519ba6f68d2da7cc5b2d606d05daed5ad5128cc03e6c6358",
+    "md4": "a448017aaf21d8525fc10ae87aa6729d",
+    "ripemd-160": "8eb208f7e05d987a9b044a8e98c6b087f15a0bfc",
+    "sm3-256": "66c7f0f462eeedd9d1f2d46bdc10e4e24167c4875cf2f7a2297da02b8f4ba8e0",
+}
 # of the tests of the Rust crate multihash 0.11.4, which hashed
 THEIRS = {
     "11147c8357577f51d4f0a8d393aa1aaafb28863d9421": b"beep boop",
@@ -32,36 +37,22 @@ class Hashes(unittest.TestCase):
         """Some builds of hashlib lack what it does not guarantee."""
         theirs = {"sha2-512-224": "sha512_224", "sha2-512-256": "sha512_256", "md5": "md5"}
         lacks = {name for name, their in theirs.items() if their not in hashlib.algorithms_available}
-        listed = {name: int(code, 16) for code, name, _ in ROWS}
-        self.assertEqual(listed, {name: hashes.CODES[name] for name in listed})
         self.assertEqual(hashes.NAMES, {code: name for name, code in hashes.CODES.items()})
-        for _, name, text in ROWS:
+        for code, name, text in ROWS:
             for data in (b"abc", bytearray(b"abc"), memoryview(b"abc")) if name not in lacks else ():
                 found = hashes.digest(data, name)
-                self.assertEqual((found.code, found.hexdigest()), (listed[name], text))
+                self.assertEqual((found.code, found.hexdigest()), (int(code, 16), text))
                 self.assertIs(hashes.verify(found, data), True)
                 self.assertIs(hashes.verify(bytes(found), bytes(data) + b"d"), False)
 
-    def test_names(self):
-        """All names are in a list, or of a family that is. Some builds of hashlib have the functions of `digests`."""
-        self.assertEqual({name: int(code, 16) for code, name in NAMED}, {name: hashes.CODES[name] for _, name in NAMED})
-        families = "blake2b", "blake2s", "skein256", "skein512", "skein1024"
-        listed = {row[1] for row in (*NAMED, *ROWS)}
-        others = {name for name in hashes.CODES if name.rpartition("-")[0] not in families}
-        self.assertLessEqual(others, listed)
-        digests = {
-            "dbl-sha2-256": "4f8b42c22dd3729b519ba6f68d2da7cc5b2d606d05daed5ad5128cc03e6c6358",
-            "md4": "a448017aaf21d8525fc10ae87aa6729d",
-            "ripemd-160": "8eb208f7e05d987a9b044a8e98c6b087f15a0bfc",
-            "sm3-256": "66c7f0f462eeedd9d1f2d46bdc10e4e24167c4875cf2f7a2297da02b8f4ba8e0",
-        }
-        for name in others:
+    def test_other_names(self):
+        """A function is that of the name, or is lacking."""
+        known = {**MORE, **{name: text for _, name, text in ROWS}}
+        for name in (name for name in hashes.CODES if name in known or not name.startswith("blake2")):
             try:
-                found = hashes.digest(b"abc", name).hexdigest()
+                self.assertEqual(hashes.digest(b"abc", name).hexdigest(), known.get(name))
             except ValueError as error:
                 self.assertEqual(str(error), "hashlib does not have %s here" % name)
-            else:
-                self.assertIn(found, (digests.get(name), *(text for _, other, text in ROWS if other == name)))
 
     def test_parts(self):
         """Data in parts, or read from a file in parts, have the multihash of the whole."""
@@ -125,4 +116,7 @@ class Hashes(unittest.TestCase):
         self.assertRaises(MultihashError, hashes.verify, b"\x12", b"abc")
         for name in ("identity", "sha2-256", "shake-128", "blake2b-256"):
             for wrong in ("abc", 3, None, [1]):
-                self.assertRaises(TypeError, hashes.digest, wrong, name)
+                text = "^d[a-z]+ must be a bytes-like object, not %s$" % type(wrong).__name__
+                self.assertRaisesRegex(TypeError, text, hashes.digest, wrong, name)
+        text = "must be bytes .open the file in binary mode., not str"
+        self.assertRaisesRegex(TypeError, text, hashes.digest_file, io.StringIO("abc"), "sha1")

@@ -1,13 +1,11 @@
 """Calls whose allocations fail, one after the other, and calls that keep what they allocated."""
 
-import contextlib
 import functools
 import gc
-import importlib.util
 import io
 import sys
 import unittest
-from unittest.mock import ANY, patch
+from unittest.mock import ANY
 
 import verified_multihash as vm
 from test_package import NAMED_CALLS, Named
@@ -129,32 +127,3 @@ class Memory(unittest.TestCase):
         for name, call in CALLS.items():
             with self.subTest(call=name):
                 self.assertFalse(keeps(call)[0], "it is kept")
-
-    def test_modules(self):
-        """Of a package that was imported anew no type and name is left, though its module has a reader with it."""
-
-        def types():
-            gc.collect()
-            names = {"Multihash", "MultihashError", "MultihashReader", "Reader", "Status"}
-            return sum(isinstance(it, type) and it.__name__ in names for it in gc.get_objects())
-
-        def use(again):
-            again.reader = again.MultihashReader(io.BytesIO(bytes(again.Multihash(1, b"abc"))))
-            self.assertEqual(again.read_from(io.BytesIO(bytes(2))).digest, b"")
-            self.assertRaises(again.MultihashError, again.Multihash, 1, LONG)
-            return again.MultihashError.__slots__
-
-        def import_core():
-            vm._core.__loader__.exec_module(importlib.util.module_from_spec(vm._core.__spec__))
-
-        before, alone = types(), []
-        with patch.dict(sys.modules):
-            for name in [name for name in sys.modules if name.startswith(vm.__name__)]:
-                del sys.modules[name]
-            names = use(importlib.import_module(vm.__name__))
-            self.assertGreater(types(), before + 4)
-        # CPython 3.13 crashes at such imports, of its own modules too
-        for number in range(300 if set_nomemory and sys.version_info[:2] != (3, 13) else 0):
-            with contextlib.suppress(SystemError):  # of CPython, which sets no error for some
-                result_of(functools.partial(failing, import_core, number))
-        self.assertEqual((types(), sys.getrefcount(names)), (before, sys.getrefcount(alone)))

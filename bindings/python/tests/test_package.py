@@ -1,34 +1,23 @@
-"""Wrong arguments, errors, values, costs, the names of the package, README.md's examples."""
+"""Arguments, errors and values."""
 
-import abc
 import array
-import collections.abc
 import copy
 import ctypes
-import doctest
-import importlib.util
-import inspect
 import io
 import itertools
 import mmap
 import os
 import pickle
 import resource
-import subprocess
 import sys
 import tempfile
-import typing
 import unittest
 import weakref
-from concurrent.futures import ThreadPoolExecutor
-from pathlib import Path
-from unittest.mock import MagicMock
 
 import verified_multihash as vm
 from test_readers import Awaited
 from verified_multihash import Multihash, MultihashError, Status, hashes
 
-README = Path(__file__).resolve().parents[1] / "README.md"
 BYTES_CALLS = [
     vm.decode, vm.read, vm.head, vm.scale_decode,
     lambda data: vm.encode(1, data), lambda data: vm.scale_encode(1, data), lambda data: Multihash(1, data),
@@ -54,6 +43,7 @@ def shown(number):
         return hex(number)
 
 
+LONGEST = b"\xff" * 8 + b"\x7f"  # varint
 # What each wrong call says: its text alone has to be enough.
 TEXTS = [
     (vm.decode, [b""], "the input is empty"),
@@ -64,6 +54,8 @@ TEXTS = [
     (vm.head, [b"\x12" + b"\xff" * 9], "the varint of the digest's length has more than nine bytes"),
     (vm.head, [b"\x92\0\1"], "the varint of the code is not minimal: its last byte is zero"),
     (vm.decode, [b"\x12\x81\0a"], "the varint of the digest's length is not minimal: its last byte is zero"),
+    (vm.decode, [LONGEST + b"\x81\0"], "the varint of the digest's length is not minimal: its last byte is zero"),
+    (vm.decode, [LONGEST * 2], "the digest has 9223372036854775807 bytes, and the limit is 255"),
     (vm.decode, [b"\x12\xac\2"], "the digest has 300 bytes, and the limit is 255"),
     (vm.decode, [b"\x12\3ab"], "the input ends inside the digest (2 of 3 bytes)"),
     (vm.decode, [b"\x12\1ab"], "1 byte follows the multihash"),
@@ -81,39 +73,37 @@ TEXTS = [
     (vm.decode, ["1220"], "data must be bytes (Multihash.fromhex takes text), not str"),
     (vm.read, [3], "data must be a bytes-like object, not int"),
     (Multihash.fromhex, [b"1220"], "text must be a str (decode takes bytes), not bytes"),
-    (Multihash, [18, "abc"], "digest must be a bytes-like object, not str"),
+    (Multihash, [18, "abc"], "digest must be bytes (bytes.fromhex takes hexadecimal), not str"),
     (Multihash, ["sha2-256", b"abc"], "code must be an int (hashes.CODES has the codes of names), not str"),
     (vm.encode, [1.5, b""], "code must be an int, not float"),
+    (vm.encode, [-(10**5000), b""], "code must be 0 or more, not %s" % shown(-(10**5000))),
     (vm.encoded_len, [18, b""], "digest_length must be an int, not bytes"),
     (vm.read, [b"\0\0", "9"], "limit must be an int, not str"),
-    (vm.MultihashReader, ["path"], "file or stream must be an object with a method read, not str"),
-    (vm.read_from, [io.StringIO("1220")], "the result of read must be a bytes-like object, not str"),
+    (
+        vm.MultihashReader,
+        ["path"],
+        "file or stream must be an object with a method read, such as open(path, 'rb'), not str",
+    ),
+    (vm.read_from, [io.StringIO("1220")], "the result of read must be bytes (open the file in binary mode), not str"),
     (hashes.digest, [b"", "sha256"], "name must be in hashes.CODES, such as 'sha2-256', not 'sha256'"),
     (hashes.digest, [b"", "blake3"], "hashlib does not have blake3 here"),
     (hashes.verify, [Multihash(1, b""), b""], "the code 0x1 has no name in hashes.NAMES"),
     (hashes.verify, ["1220", b""], "multihash must be a Multihash or its encoding, not str"),
-    (hashes.digest_file, ["path", "sha1"], "file must be an object with a method read, not str"),
+    (
+        hashes.digest_file,
+        ["path", "sha1"],
+        "file must be an object with a method read, such as open(path, 'rb'), not str",
+    ),
 ]
 
 
-def parameters_of(call):
-    """The parameters that a function shows; CPython 3.8 and 3.9 find none of a class in C."""
-    is_found = call is not Multihash or sys.version_info > (3, 10)
-    return inspect.signature(call).parameters if is_found else dict.fromkeys(Multihash.__match_args__)
-
-
 def attributes_of(error):
-    return [getattr(error, name) for name in (*MultihashError.__slots__, "args", "__dict__")]
+    return [getattr(error, name) for name in (*MultihashError.__slots__, "args", "__dict__")] + [str(error)]
 
 
 def copies(value):
     """Copies, and what each protocol of pickle makes of a value."""
     return [copy.copy(value), copy.deepcopy(value), *(pickle.loads(pickle.dumps(value, n)) for n in range(6))]
-
-
-def once(number):
-    """A number that can be asked for once."""
-    return MagicMock(**{"__index__.side_effect": [number]})
 
 
 class Named(Multihash):
@@ -162,9 +152,8 @@ class Arguments(unittest.TestCase):
         self.assertEqual([vm.encode(0, empty) for empty in (b"", bytearray(), array.array("I"))], [b"\0\0"] * 3)
         for kind in (ctypes.c_uint8, ctypes.c_uint16, ctypes.c_uint64):  # buffers of no dimension
             self.assertEqual(vm.encode(0, kind(7)), vm.encode(0, bytes(kind(7))))
-        longest = b"\xff" * 8 + b"\x7f"
         for kind in "HIQ":  # what a call reads ends within an item
-            for call, front in ((vm.head, longest * 2), (vm.read, longest + b"\xff\1" + bytes(255))):
+            for call, front in ((vm.head, LONGEST * 2), (vm.read, LONGEST + b"\xff\1" + bytes(255))):
                 self.assertEqual(call(array.array(kind, front + bytes(6))), call(front))
         for call in BYTES_CALLS[:3]:
             self.assertEqual(self.error_of(call, memoryview(b""))[0], Status.INSUFFICIENT)
@@ -174,19 +163,17 @@ class Arguments(unittest.TestCase):
             for wrong in (18.0, "18", None, b"\x12"):
                 self.assertRaises(TypeError, call, wrong, b"")
             for code in NEGATIVE:
-                self.assertRaisesRegex(ValueError, "^code must not be negative$", call, code, b"")
+                self.assertRaisesRegex(ValueError, "^code must be 0 or more, not %d$" % code, call, code, b"")
             for code in (1 << 63, (1 << 64) - 1, 1 << 64, (1 << 64) + 18, 1 << 700, 10**5000):
                 text = "the code is %s, and the largest is 2**63 - 1" % shown(code)
                 self.assertEqual(self.error_of(call, code, bytes(255)), (Status.INVALID_CODE, 0, code, text))
                 text = "the digest has 256 bytes, and the limit is 255"
                 self.assertEqual(self.error_of(call, code, bytes(256)), (Status.INVALID_SIZE, 256, 0, text))
-            self.assertEqual(self.error_of(call, once(code), b"")[2], code)
-        self.assertEqual(self.error_of(vm.encoded_len, 1, once(256))[1], 256)
         self.assertEqual(self.error_of(vm.scale_decode, bytes(7) + b"\x80\0")[2], 1 << 63)
         for length in (256, 1 << 63, 1 << 64, (1 << 64) + 5, 1 << 700):
             self.assertEqual(self.error_of(vm.encoded_len, 18, length)[:3], (Status.INVALID_SIZE, length, 0))
         for length in NEGATIVE:
-            self.assertRaisesRegex(ValueError, "^digest_length must not be negative$", vm.encoded_len, 18, length)
+            self.assertRaisesRegex(ValueError, "^digest_length must be 0 or more, not ", vm.encoded_len, 18, length)
         self.assertRaises(TypeError, vm.encoded_len, 18, 2.0)
 
     def test_limits(self):
@@ -204,7 +191,7 @@ class Arguments(unittest.TestCase):
             self.assertEqual(self.error_of(call, data[3], 2)[:2], (Status.INVALID_SIZE, 3))
             self.assertEqual(self.error_of(call, b"\x01\x80\x02" + bytes(256), 1 << 64)[:2], (Status.INVALID_SIZE, 256))
             for limit in NEGATIVE:
-                self.assertRaisesRegex(ValueError, "^limit must not be negative$", call, b"", limit)
+                self.assertRaisesRegex(ValueError, "^limit must be 0 or more, not ", call, b"", limit)
             for wrong in (3.0, "3"):
                 self.assertRaises(TypeError, call, data[3], wrong)
 
@@ -229,10 +216,11 @@ class Arguments(unittest.TestCase):
         for wrong, text in ((0, "^OK is the status of no error$"), (8, ""), (-1, "")):
             self.assertRaisesRegex(ValueError, text, MultihashError, wrong)
         large = MultihashError(5, 0, 10**4300)
-        text = "Invalid multihash code %s." % shown(large.code)  # of the C library
+        text = "the code is 2^63 or more (%s)" % shown(large.code)  # of the C library
         self.assertEqual(repr(large), "MultihashError(%r, 0, %s, 0, %r)" % (large.status, shown(large.code), text))
         made = [str(MultihashError(*numbers)) for numbers in ((1,), (4, 3), (4, 3, 0, 2, "own"))]
-        self.assertEqual(made, [vm._core.status_text(1), "Invalid multihash size 3.", "own"])
+        size = "the digest is too long, or bytes follow the multihash (3)"
+        self.assertEqual(made, [vm._core.status_text(1), size, "own"])
 
     def test_texts(self):
         for call, arguments, text in TEXTS:
@@ -274,18 +262,15 @@ class Values(unittest.TestCase):
                     self.assertRaises(AttributeError, call, value, name, 2)
                 self.assertRaises(AttributeError, delattr, value, name)
 
-    def test_modules(self):
-        """A subclass that has another module than Multihash makes no error and no reader."""
-        for module in (sys, None, 3):
-            for kind, *arguments in ((Multihash, 1, bytes(256)), (vm.MultihashReader, io.BytesIO())):
-                own = type("Own", (kind,), {"_core": module})
-                self.assertRaisesRegex(TypeError, "not the module of", own, *arguments)
-
     def test_copies(self):
         """They keep all attributes, those of subclasses and errors too, which may have other parameters."""
-        value, error = Sha256(b"abc"), MultihashError(Status.INVALID_CODE, 2, 1 << 64, 8, ("no %s", 3))
+        value = Sha256(b"abc")
+        with self.assertRaises(MultihashError) as raised:
+            vm.decode(b"\1\2a")
+        error = raised.exception
         value.more, value.slot, error.more = "kept", 3, "kept"
-        self.assertEqual(repr(error), "MultihashError(%r, 2, %d, 8, 'no %d')" % (Status.INVALID_CODE, 1 << 64, 3))
+        text = "the input ends inside the digest (1 of 2 bytes)"
+        self.assertEqual(repr(error), "MultihashError(%r, 0, 0, 3, '%s')" % (Status.UNEXPECTED_EOF, text))
         self.assertEqual(copies(VALUE), [VALUE] * 8)
         for again in copies(value):
             self.assertEqual((type(again), again, again.more, again.slot), (Sha256, Multihash(18, b"abc"), "kept", 3))
@@ -330,114 +315,3 @@ class Values(unittest.TestCase):
         values = [Multihash(1 << bit, b"") for bit in range(63)]
         values += [Multihash(1, (1 << bit).to_bytes(32, "big")) for bit in range(256)]
         self.assertGreater(len({hash(value) & 0xFFFFFF for value in values}), len(values) - 5)
-
-    def test_hash_of_errors(self):
-        """The hash that stands for an error in CPython, -1, is another one: here for codes that are mixed to -1."""
-        mixed = (1 << 64) - 1
-        for factor in (0xC4CEB9FE1A85EC53, 0xFF51AFD7ED558CCD):
-            mixed = (mixed ^ mixed >> 33) * pow(factor, -1, 1 << 64) % (1 << 64)
-        for digest in (bytes([n]) for n in range(256)):
-            code = mixed ^ mixed >> 33 ^ hash(digest) & (1 << 64) - 1
-            if code < 1 << 63:
-                self.assertEqual(hash(Multihash(code, digest)), -2)
-
-
-class Module(unittest.TestCase):
-    def test_interpreters(self):
-        """Two at once, from CPython 3.12 on with locks of their own."""
-        interpreters = importlib.import_module("_interpreters" if sys.version_info > (3, 13) else "_xxsubinterpreters")
-        program = "import sys; sys.path[:] = %r\nimport verified_multihash as vm\n" % (sys.path,)
-        program += "for n in range(20000): assert vm.decode(vm.encode(n, b'abc')) == vm.Multihash(n, b'abc')\n"
-        program += "try: vm.decode(b'')\nexcept vm.MultihashError as error: assert error.is_incomplete\n"
-
-        def run(_):
-            number = interpreters.create()
-            result = interpreters.run_string(number, program)
-            interpreters.destroy(number)
-            return result
-
-        with ThreadPoolExecutor(2) as threads:
-            self.assertEqual(list(threads.map(run, range(2))), [None, None])
-
-    def test_versions(self):
-        """From CPython 3.12 on the module asks for locks of its own, by a slot that an earlier one does not know."""
-        program = "import sys; sys.path[:] = %r; sys.hexversion = %d; import verified_multihash"
-        for version in (0x3080000, 0x3090000, 0x30A0000, 0x30B0FF0, 0x30C0000, 0x30D0000, 0x3100000, 0x4000000):
-            words = [sys.executable, "-c", program % (sys.path, version)]
-            ended = subprocess.run(words, stderr=subprocess.PIPE, check=False)
-            found = ended.returncode, b"unknown slot ID 3" in ended.stderr
-            self.assertEqual(found, (version >= 0x30C0000 > sys.hexversion,) * 2, version)
-
-    def test_another_module(self):
-        """A module that the package has not imported knows no error, or another one."""
-        again = importlib.util.module_from_spec(vm._core.__spec__)
-        vm._core.__loader__.exec_module(again)
-        for call, arguments in ((again.decode, [b""]), (again.head, [b""]), (again.encode, [1 << 63, b""])):
-            self.assertRaisesRegex(RuntimeError, "^verified_multihash was not imported$", call, *arguments)
-        generator = type(each for each in ())  # which has no instances
-        names = MultihashError.__slots__
-        for kind, *wrong in (
-            (MultihashError, [1], names),
-            ("Own", (), names),
-            (generator, (), names),
-            (int, (), names[1:]),
-        ):
-            self.assertRaises(TypeError, again.set_error, kind, *wrong)
-        own = type("Own", (ValueError,), {"__slots__": names})
-        for statuses, names, error in (((1,), names, IndexError), ((1, 2), (1,) * 5, TypeError), ((1, 2), names, own)):
-            again.set_error(own, statuses, names)
-            self.assertRaises(error, again.decode, b"")
-
-    def test_abstract_classes(self):
-        """An abstract class may be a base too: CPython 3.8 has the flag in its own headers, later ones do not."""
-        for kind in (Multihash, vm._core.Reader):
-            self.assertTrue(kind.__flags__ & 1 << 18, "Py_TPFLAGS_HAVE_VERSION_TAG")
-        for kind in (Multihash, vm.MultihashReader, vm.AsyncMultihashReader):
-            own = type("Own", (kind, collections.abc.Sized), {"__len__": id})
-            self.assertTrue(issubclass(own, collections.abc.Sized))
-            self.assertFalse(issubclass(abc.ABCMeta("Other", (), {}), own))
-
-    def test_hints(self):
-        """Tools that evaluate annotations find what they name."""
-        tried = 0
-        for module in (vm, hashes):
-            public = [vars(module)[name] for name in module.__all__]
-            methods = [it for each in public if isinstance(each, type) for it in vars(each).values()]
-            for call in filter(inspect.isfunction, public + methods):
-                tried += "return" in typing.get_type_hints(call)
-        self.assertGreater(tried, 9)
-
-    def test_exports(self):
-        module = ctypes.CDLL(vm._core.__file__)
-        names = "PyInit__core", "multihash_read", "get_input"
-        self.assertEqual([hasattr(module, name) for name in names], [True, False, False])
-
-    def test_names(self):
-        """All that is public is exported, and each parameter has the name that it shows."""
-        own = {name for name, it in vars(vm).items() if getattr(it, "__module__", "").startswith(vm.__name__)}
-        public = {name for name in own if not name.startswith("_")}
-        constants = {name for name in vars(vm) if name.endswith("_MAX")} | {"__version__"}
-        self.assertEqual(sorted(vm.__all__), sorted(public | constants))
-        classes = [each for each in map(vars(vm).get, public) if isinstance(each, type)]
-        self.assertEqual({each.__module__ for each in classes}, {vm.__name__})  # that pickled values name
-        self.assertEqual(Multihash.__match_args__, tuple(parameters_of(Multihash)))
-        for call in (*NAMED_CALLS, vm.MultihashReader, vm.AsyncMultihashReader):
-            limit = parameters_of(call).get("limit")
-            self.assertIn(limit and limit.default, (None, vm.DIGEST_MAX))
-        for call, arguments in NAMED_CALLS.items():
-            names = list(parameters_of(call))
-            by_name, by_position = call(**dict(zip(names, arguments))), call(*arguments)
-            self.assertEqual((str(by_name), len(names)), (str(by_position), len(arguments)))
-            required = [name for name, it in parameters_of(call).items() if not it or it.default is it.empty]
-            for wrong in ([*arguments, 1], arguments[: len(required) - 1]):
-                with self.assertRaises(TypeError):  # by itself, as assertRaises would pass keywords on
-                    call(*wrong)
-            for lacking in required if call is not MultihashError else ():
-                others = {name: it for name, it in zip(names, arguments) if name != lacking}
-                self.assertRaisesRegex(TypeError, r"^%s\(\)" % call.__name__, call, **others)
-
-    def test_examples(self):
-        text = "\n".join("" if line.startswith("```") else line for line in README.read_text("utf-8").splitlines())
-        test = doctest.DocTestParser().get_doctest(text, {}, "README.md", str(README), 0)
-        failed, tried = doctest.DocTestRunner().run(test)
-        self.assertEqual((failed, tried > 0), (0, True))

@@ -142,6 +142,8 @@ class Readers(unittest.TestCase):
             self.assertRaises(error, vm.MultihashReader(turns(error)).read)
 
         async def run():
+            with self.assertRaisesRegex(TypeError, "a MultihashReader reads from a file$"):
+                await vm.AsyncMultihashReader(io.BytesIO(b"\0\0")).read()
             reader = vm.AsyncMultihashReader(Mock(read=AsyncMock(side_effect=[b"\0\0", b"\1"])))
             found = []
             with self.assertRaisesRegex(RuntimeError, "^the stream raised StopAsyncIteration$"):

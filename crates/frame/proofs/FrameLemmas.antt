@@ -1,13 +1,13 @@
 -- Frames: how they are split and made; what is known of reading one.
 use Rattle.std.proofs.Common.{◌≡◌, ◌<◌, ◌≤◌, ◌⊎◌, ℕ, List, ◌++◌, Option, Some, length, inl, inr, refl, sym, ap, ◌∙◌, subst, arith, append_assoc, length-append}
 use Rattle.multihash.specs.Varint.{IsVarint, varint_limit}
-use Rattle.multihash.specs.Refusal.{Refusal, IsOutOfMemory, IsReaderError}
+use Rattle.multihash.specs.Refusal.{IsOutOfMemory, IsReaderError}
 use Rattle.multihash.specs.Consuming.{ConsumesVarint}
-use Rattle.multihash.proofs.CallingLemmas.{number_read, number_in_part, number_found, number_truncated, exact_found, exact_truncated, front_no_error}
+use Rattle.multihash.proofs.CallingLemmas.{number_read, number_in_part, number_found, number_truncated, exact_found, exact_truncated}
 use Rattle.multihash.proofs.VarintLemmas.{varint_same, varint_unique, varint_some}
 use Rattle.multihash.proofs.VarintWriteLemmas.{varint_exists}
 use Rattle.multihash.proofs.EncodingLemmas.{same_cut}
-use Rattle.frame.specs.Frame.{IsFramed, IsFailed, IsTruncatedOrMemory, FrameFails, FrontFails, BeginsFramed, MayFailWith}
+use Rattle.frame.specs.Frame.{IsFramed, IsFailed, IsTruncatedOrMemory, FrameFails, MayFailWith}
 use Rattle.frame.specs.declared.error.FrameError.{FrameError}
 
 -- the parts of a frame and of what follows it
@@ -114,20 +114,3 @@ module _ (limit before after : ℕ) (same : after ≡ before) (e : FrameError) w
         (memory.0.0, memory.0.1, inr (inr memory.0.2))
     frame_truncated part more new cut (inr (n, mid, first, inr (_, inr (r, is, fails)))) =
         (r, is, inr (inl (exact_truncated before after same r n mid new fails)))
-
-module _ (block front more bytes : List ℕ) (h : IsFramed block front) where
-  module _ (cut : bytes ≡ front ++ more) where
-    -- bytes that start with a frame have no error of a frame at their front
-    pub front_found : (e : Refusal) → FrontFails bytes e → ⊥
-    front_found e (inl bad) =
-        let split = cut ∙ framed_cut block front more h in
-        front_no_error (length block) h.len (block ++ more) bytes e h.is_len split bad
-    front_found e (inr (n, len, rest, is, split, short, _)) =
-        let both = varint_unique n (length block) len h.len rest (block ++ more) is h.is_len
-        (sym split ∙ (cut ∙ framed_cut block front more h)) in
-        omega (arith, short, both.0, ap length both.2, length-append block more)
-
-    -- what holds of the block of a frame at the front holds of this block
-    pub front_rejected : (P : List ℕ → Type 0) → BeginsFramed P bytes → P block
-    front_rejected P (other, start, rest, is, split, holds) =
-        subst P (framed_unique other block start front rest more is h (sym split ∙ cut)).0 holds

@@ -58,8 +58,3 @@ IsTruncated input e = (n : ℕ) × (len : List ℕ) × (rest : List ℕ) × IsVa
 -- no frame is at the front of the input
 abbrev pub FrontFails : List ℕ → Refusal → Type 0
 FrontFails input e = IsFrontError input e ⊎ IsTruncated input e
-
--- a frame is at the front of the input, and P holds of its block
-abbrev pub BeginsFramed : (List ℕ → Type 0) → List ℕ → Type 0
-BeginsFramed P input = (block : List ℕ) × (front : List ℕ) × (rest : List ℕ) × IsFramed block front
-    × (input ≡ front ++ rest) × P block

@@ -173,7 +173,8 @@ fn same_ends_of_32(a: &[u8], b: &[u8]) -> bool
     (front & back).all()
 }
 
-// How 33 to 64 bytes compare: the first 32, and then the last 32.
+// How 33 to 64 bytes compare: by the first word, by which random ones differ, and then by whether the first 32
+// are equal as vectors, as those are which differ only near the end.
 #[inline(always)]
 #[tactic(auto, using(crate::proofs::WordOrderLemmas::shorter_front))]
 fn order_of_many(a: &[u8], b: &[u8]) -> Ordering
@@ -185,16 +186,16 @@ fn order_of_many(a: &[u8], b: &[u8]) -> Ordering
     if !same_word(a, b, 0) {
         return order_at(a, b, 0);
     }
+    if same_ends_of_16(&a[..32], &b[..32]) {
+        return order_from(a, b, a.len() - 32);
+    }
     if !same_word(a, b, 8) {
         return order_at(a, b, 8);
     }
     if !same_word(a, b, 16) {
         return order_at(a, b, 16);
     }
-    if !same_word(a, b, 24) {
-        return order_at(a, b, 24);
-    }
-    order_from(a, b, a.len() - 32)
+    order_at(a, b, 24)
 }
 
 // How bytes compare that are equal before an index, with 16 to 32 from there on.

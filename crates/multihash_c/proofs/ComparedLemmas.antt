@@ -1,4 +1,4 @@
--- Words of eight bytes, which are compared as numbers.
+-- For `same_word` and `sign_at` of `compare.rt`: words of eight bytes, which are compared as numbers.
 use Rattle.std.proofs.Common.{◌≡◌, ◌≢◌, ◌+◌, ◌<◌, ◌≤◌, ℕ, List, length, take, get_or, refl, sym, ap, ◌∙◌, w64}
 use Rattle.std.proofs.lemmas.Map.Lookups.{exact_bytes}
 use Rattle.std.proofs.lemmas.Nat.{le_bytes_8}

@@ -1,4 +1,4 @@
--- Where the digest is in the input, what decoding the SCALE form consumed, and what an error reports.
+-- For `multihash_scale_decode`: where the digest is in the input, what was consumed, and what an error reports.
 use Rattle.std.proofs.Common.{◌≡◌, ℕ, ◌+◌, ◌<◌, ◌≤◌, ◌^◌, List, [], ◌∷◌, ◌++◌, length, get_or, take, drop, ap, sym, ◌∙◌, subst, arith, refl, inl, inr, append_assoc, append-nil, take-append-drop, length-drop}
 use Rattle.std.specs.Int.{from_le_bytes, w64}
 use Rattle.std.proofs.lemmas.List.{length-take-le, take_all, get_or-drop, drop_more, drop-drop}

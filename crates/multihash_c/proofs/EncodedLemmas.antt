@@ -1,4 +1,4 @@
--- What encoding returns and writes, whether the bytes fit or not.
+-- For the functions of `encode.rt`: what they return and write, whether the bytes fit or not.
 use Rattle.std.proofs.Common.{◌≡◌, ℕ, ◌<◌, ◌≤◌, List, [], ◌∷◌, ◌++◌, length, map, drop, arith, ◌+◌, ◌^◌, ◌⊎◌, take, ap, sym, refl, ◌∙◌, inl, inr, append_assoc, add-one}
 use Rattle.std.proofs.Math.ListN.{set}
 use Rattle.std.proofs.Math.Nat.{lt_of_not-le, pow-le-pow_right, mul-le-mul_right}

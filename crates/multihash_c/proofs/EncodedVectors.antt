@@ -1,18 +1,18 @@
 -- What encoding known pairs returns to a C caller and writes to a buffer, that it is one outcome, the sign of an
 -- order, and the texts of statuses.
-use Rattle.std.proofs.Common.{◌≡◌, ◌-◌, ℕ, List, [], ◌∷◌, length, get_or, inl, inr, sym, ap, ◌∙◌, arith, refl}
+use Rattle.std.proofs.Common.{◌≡◌, ◌-◌, ℕ, List, [], ◌∷◌, length, get_or, inl, inr, sym, ap, ◌∙◌, arith}
 use Rattle.std.proofs.lemmas.Bool.{cases_lt}
-use Rattle.multihash.specs.Varint.{varint_limit, insufficient, overflow, not_minimal}
+use Rattle.multihash.specs.Varint.{varint_limit}
 use Rattle.multihash.specs.Pair.{Pair}
 use Rattle.multihash.specs.Encoding.{IsEncoding}
 use Rattle.multihash_c.specs.declared.encode.Encoded.{Encoded}
 use Rattle.multihash_c.specs.Encoded.{IsTooLong, IsLargeCode, IsPut, ReportsLength, Puts, WritesForm}
 use Rattle.multihash.proofs.EncodingLemmas.{encoding_same}
-use Rattle.std.specs.Prelude.{ℤ, codes}
+use Rattle.std.specs.Prelude.{ℤ}
 use Rattle.std.specs.declared.cmp.Ordering.{Ordering}
 use Rattle.std.specs.declared.cmp.Ordering.TheVariants.{Less, Equal, Greater}
 use Rattle.multihash_c.specs.Compared.{IsSign}
-use Rattle.multihash_c.specs.Status.{IsStatusText}
+use Rattle.multihash_c.specs.Status.{IsStatusText, status_no_room}
 
 abbrev outcome : ℕ → ℕ → ℕ → Encoded
 outcome status size length = record { status = status; size = size; length = length }
@@ -87,24 +87,9 @@ one_sign Greater a b h k = h ∙ sym k
 
 -- ---- statuses
 
--- each status has one text
-texts : (text : List ℕ) → (IsStatusText 0 text → text ≡ codes "ok")
-    × (IsStatusText 1 text → text ≡ codes "not enough input bytes")
-    × (IsStatusText 2 text → text ≡ codes "input bytes exceed maximum")
-    × (IsStatusText 3 text → text ≡ codes "encoding is not minimal")
-    × (IsStatusText 4 text → text ≡ codes "Invalid multihash size")
-    × (IsStatusText 5 text → text ≡ codes "Invalid multihash code")
-    × (IsStatusText 6 text → text ≡ codes "failed to fill whole buffer")
-    × (IsStatusText 7 text → text ≡ codes "failed to write whole buffer")
-    × (IsStatusText 8 text → text ≡ codes "unknown status")
-texts text = (
-  (λ h. h.ok refl),
-  (λ h. h.error insufficient refl),
-  (λ h. h.error overflow refl),
-  (λ h. h.error not_minimal refl),
-  (λ h. h.size refl),
-  (λ h. h.code refl),
-  (λ h. h.eof refl),
-  (λ h. h.no_room refl),
-  λ h. h.unknown (omega arith),
-)
+-- a status has one text
+one_text : (status : ℕ) (a b : List ℕ) → IsStatusText status a → IsStatusText status b → a ≡ b
+one_text status a b h k = elim (cases_lt status_no_room status) [
+  | inl over ↦ h.unknown over ∙ sym (k.unknown over)
+  | inr within ↦ h.known within ∙ sym (k.known within)
+]

@@ -1,4 +1,4 @@
--- The encodings of items, one after another: one more, which was read. Then the buffer has one more item.
+-- For `multihash_read_many`: one more multihash that was read is one more item, and its encoding follows the others.
 use Rattle.std.proofs.Common.{◌≡◌, ℕ, ◌+◌, ◌≤◌, ◌-◌, ◌<◌, List, [], ◌∷◌, ◌++◌, length, take, drop, slice_set, refl, sym, ap, ◌∙◌, subst, arith, length-drop}
 use Rattle.std.proofs.lemmas.Grind.{drop_more_same}
 use Rattle.std.proofs.lemmas.List.{drop-drop, take_more_set, drop-set-lt, take_all}

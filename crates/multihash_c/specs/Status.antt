@@ -1,8 +1,6 @@
 -- The statuses that a C caller gets.
-use Rattle.std.specs.Prelude.{◌≡◌, ◌<◌, ℕ, List, codes}
+use Rattle.std.specs.Prelude.{◌≡◌, ◌<◌, ◌≤◌, ℕ, List, [], ◌∷◌, codes, get_or}
 use Rattle.multihash.specs.Varint.{VarintError, insufficient, overflow, not_minimal}
-use Rattle.multihash.specs.Fault.{printed, UnexpectedEof, WriteZero}
-use Rattle.multihash.specs.Refusal.{varint_text}
 
 -- success
 abbrev pub status_ok : ℕ
@@ -30,12 +28,19 @@ status_unexpected_eof = 6
 abbrev pub status_no_room : ℕ
 status_no_room = 7
 
--- the text of a status, in the library's words, without the invalid size or code
+-- the texts of the statuses, in the order of their numbers. Each is true of every call that returns its status
+abbrev pub status_texts : List (List ℕ)
+status_texts = codes "ok"
+    ∷ codes "the input ends before or inside a varint"
+    ∷ codes "a varint has more than nine bytes"
+    ∷ codes "a varint is not minimal: it ends in a zero byte"
+    ∷ codes "the digest is too long, or bytes follow the multihash"
+    ∷ codes "the code is 2^63 or more"
+    ∷ codes "the input ends before the end of the digest"
+    ∷ codes "the buffer is too small"
+    ∷ []
+
+-- the text of a status
 pub record IsStatusText (status : ℕ) (text : List ℕ) : Type 0 where
-  pub ok : status ≡ status_ok → text ≡ codes "ok"
-  pub error : (error : VarintError) → status ≡ status_of_error error → text ≡ varint_text error
-  pub size : status ≡ status_invalid_size → text ≡ codes "Invalid multihash size"
-  pub code : status ≡ status_invalid_code → text ≡ codes "Invalid multihash code"
-  pub eof : status ≡ status_unexpected_eof → text ≡ printed UnexpectedEof
-  pub no_room : status ≡ status_no_room → text ≡ printed WriteZero
+  pub known : status ≤ status_no_room → text ≡ get_or status_texts status []
   pub unknown : status_no_room < status → text ≡ codes "unknown status"

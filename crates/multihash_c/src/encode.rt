@@ -1,10 +1,10 @@
-//! Encoding for C, and the texts of statuses, which are written to a buffer like encodings.
+//! Encoding, for C.
 ghost use Rattle.std.specs.Prelude.{◌≡◌, ◌+◌, ◌<◌, ◌≤◌, ℕ, List, [], ◌∷◌, ◌++◌, length, drop};
 ghost use Rattle.multihash.specs.Varint.{IsVarint, varint_limit};
 ghost use Rattle.multihash.specs.Encoding.{IsEncoding};
 ghost use Rattle.multihash.specs.Scale.{IsScale};
-ghost use Rattle.multihash_c.specs.Encoded.{IsTooLong, IsLargeCode, ReportsLength, WritesForm, IsPut, Puts};
-ghost use Rattle.multihash_c.specs.Status.{status_ok, status_no_room, IsStatusText};
+ghost use Rattle.multihash_c.specs.Encoded.{IsTooLong, IsLargeCode, ReportsLength, WritesForm, IsPut};
+ghost use Rattle.multihash_c.specs.Status.{status_ok, status_no_room};
 
 use crate::{CODE_LEN, DIGEST_MAX, SCALE_HEAD, status};
 use multihash::varint;
@@ -70,24 +70,6 @@ pub extern "C" fn multihash_encoded_len(code: u64, digest_length: usize) -> Enco
     match varint::len(code) {
         Ok(code_length) => count_parts(code_length, digest_length),
         Err(_) => rejected_code(),
-    }
-}
-
-/// Writes the text of a status to the front of `out`: ASCII, with no zero byte at its end.
-#[unsafe(no_mangle)]
-pub extern "C" fn multihash_put_status_text(status: u32, out: &mut [u8]) -> Encoded
-    ensures { Puts (IsStatusText status) result out.old out.new }
-{
-    match status {
-        status::OK => put_text(b"ok", out),
-        status::INSUFFICIENT => put_text(b"not enough input bytes", out),
-        status::OVERFLOW => put_text(b"input bytes exceed maximum", out),
-        status::NOT_MINIMAL => put_text(b"encoding is not minimal", out),
-        status::INVALID_SIZE => put_text(b"Invalid multihash size", out),
-        status::INVALID_CODE => put_text(b"Invalid multihash code", out),
-        status::UNEXPECTED_EOF => put_text(b"failed to fill whole buffer", out),
-        status::NO_ROOM => put_text(b"failed to write whole buffer", out),
-        _ => put_text(b"unknown status", out),
     }
 }
 
@@ -200,7 +182,7 @@ fn rejected_code() -> Encoded
     }
 }
 
-// The result for an encoding of that length and a buffer that has room for that many bytes.
+// The result for an encoding or a text of that length and a buffer that has room for that many bytes.
 fn count(length: usize, room: usize) -> Encoded
     ensures length { result.length ≡ length }
     ensures no_size { result.size ≡ 0 }
@@ -221,7 +203,7 @@ fn count(length: usize, room: usize) -> Encoded
 
 // Copies a text to the front of `out`, if it fits.
 #[inline(always)]
-fn put_text(text: &[u8], out: &mut [u8]) -> Encoded
+pub(crate) fn put_text(text: &[u8], out: &mut [u8]) -> Encoded
     ensures { IsPut text.now result out.old out.new }
 {
     if text.len() <= out.len() {

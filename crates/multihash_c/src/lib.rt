@@ -1,4 +1,4 @@
-//! The library for C: what `include/multihash.h` declares.
+//! The library for C: the functions that `multihash.h` declares.
 //!
 //! Each export meets a contract over the definitions that the library has.
 #![tactic(auto)]

@@ -3,12 +3,18 @@
 Functions that take bytes accept any object that supports the buffer protocol, and raise TypeError for anything else.
 Invalid input, and a code or digest that is too large, raise MultihashError, a subclass of ValueError. The module
 verified_multihash.hashes has the names of codes, and makes and verifies multihashes with hashlib.
+
+    from verified_multihash import decode, hashes
+
+    multihash = hashes.digest(b"hello", "sha2-256")
+    assert decode(bytes(multihash)) == multihash and hashes.verify(multihash, b"hello")
 """
 
 from __future__ import annotations
 
 import enum
 import io
+import re
 from typing import TYPE_CHECKING, AsyncIterator, Iterator, NamedTuple, Optional, Protocol, Tuple, Union
 
 from . import _core
@@ -35,33 +41,44 @@ SCALE_LENGTH_MAX = 264
 
 
 class Status(enum.IntEnum):
-    """The result of a call, with the numbers of the C library."""
+    """Why a call failed, with the numbers of the C library.
+
+    INSUFFICIENT: the input ends before or inside a varint.
+    OVERFLOW: a varint has more than nine bytes; numbers of 2^63 and above do.
+    NOT_MINIMAL: a varint of more than one byte ends in a zero byte.
+    INVALID_SIZE: the digest is too long, and `size` is its length; or bytes follow the multihash, and `size` is their
+    number.
+    INVALID_CODE: `code` is 2^63 or more.
+    UNEXPECTED_EOF: the input ends inside the digest or, in SCALE, before it.
+    OK and NO_ROOM, a buffer of C that is too small, are not raised.
+    """
 
     OK = 0
-    INSUFFICIENT = 1  # the input ends before or inside a varint
-    OVERFLOW = 2  # a varint has more than nine bytes; numbers of 2^63 and above do
-    NOT_MINIMAL = 3  # a varint of more than one byte ends in a zero byte
-    # the digest is too long, and `size` is its length; or bytes follow the multihash, and `size` is their number
+    INSUFFICIENT = 1
+    OVERFLOW = 2
+    NOT_MINIMAL = 3
     INVALID_SIZE = 4
-    INVALID_CODE = 5  # `code` is 2^63 or more
-    UNEXPECTED_EOF = 6  # the input ends inside the digest or, in SCALE, before it
-    NO_ROOM = 7  # not raised: a buffer of C is too small
+    INVALID_CODE = 5
+    UNEXPECTED_EOF = 6
+    NO_ROOM = 7
 
 
-_Text = Union[str, Tuple[Union[int, str], ...]]  # a text, or a format and its values
+# A text, or what it depends on: nothing for a code and a digest; for an input its length, its start, and a limit of
+# the digest, which SCALE does not have.
+_Text = Union[str, Tuple[()], Tuple[int, bytes], Tuple[int, bytes, int]]
+_VARINT = re.compile(b"[\x80-\xff]{1,8}[\1-\x7f]|[\0-\x7f]")
 
 
 class MultihashError(ValueError):
     """The error of invalid input, or of a code or digest that is too large. Its text says what is wrong.
 
+    `status` is the kind of the error, a Status.
     `size` is, at INVALID_SIZE, the length of the digest or the number of trailing bytes, otherwise 0.
     `code` is, at INVALID_CODE, the code, otherwise 0.
     `taken` is the number of bytes that were consumed.
-    `is_incomplete` is true if the input is truncated. In `read`, `head`, `scale_decode` and the readers, only then can
-    more input change the result.
     """
 
-    __slots__ = ("status", "size", "code", "taken", "is_incomplete")
+    __slots__ = ("status", "size", "code", "taken")
 
     def __init__(self, status: int, size: int = 0, code: int = 0, taken: int = 0, text: _Text = "") -> None:
         self.status = Status(status)
@@ -70,8 +87,13 @@ class MultihashError(ValueError):
         self.size = size
         self.code = code
         self.taken = taken
-        self.is_incomplete = self.status in (Status.INSUFFICIENT, Status.UNEXPECTED_EOF)
         super().__init__(self.status, size, code, taken, text)
+
+    @property
+    def is_incomplete(self) -> bool:
+        """Whether the input is truncated. In `read`, `head`, `scale_decode` and the readers, only then can more input
+        change the result."""
+        return self.status in (Status.INSUFFICIENT, Status.UNEXPECTED_EOF)
 
     def __repr__(self) -> str:
         numbers = tuple(map(_shown, (self.size, self.code, self.taken)))
@@ -80,26 +102,55 @@ class MultihashError(ValueError):
     def __str__(self) -> str:
         """Returns the text, or else that of the C library."""
         text: _Text = self.args[4]
-        if not text:
-            numbers = {Status.INVALID_SIZE: [self.size], Status.INVALID_CODE: [self.code]}.get(self.status, [])
-            text = (_core.status_text(self.status) + " %s." * len(numbers), *numbers)
-        return text if isinstance(text, str) else str(text[0]) % tuple(map(_shown, text[1:]))
+        if isinstance(text, tuple):
+            return self._text(*text)
+        numbers = {Status.INVALID_SIZE: " (%s)" % _shown(self.size), Status.INVALID_CODE: " (%s)" % _shown(self.code)}
+        return text or _core.status_text(self.status) + numbers.get(self.status, "")
+
+    def _text(self, length: int = 0, start: bytes = b"", limit: Optional[int] = None) -> str:
+        if self.status is Status.INVALID_CODE:
+            return "the code is %s, and the largest is 2**63 - 1" % _shown(self.code)
+        if self.status is Status.INVALID_SIZE and not start:
+            return "the digest has %s bytes, and the limit is %d" % (_shown(self.size), DIGEST_MAX)
+        if length == 0:
+            return "the input is empty"
+        if limit is None:
+            if length < 8:
+                return "the input ends inside the code (%d of 8 bytes)" % length
+            if length == 8:
+                return "the input ends before the digest's length"
+            return "the input ends inside the digest (%d of %d bytes)" % (length - 9, start[8])
+        code = _VARINT.match(start)
+        name = "digest's length" if code else "code"
+        if self.status is Status.OVERFLOW:
+            return "the varint of the %s has more than nine bytes" % name
+        if self.status is Status.NOT_MINIMAL:
+            return "the varint of the %s is not minimal: its last byte is zero" % name
+        if self.status is Status.INSUFFICIENT:
+            where = "before" if code and code.end() == length else "inside"
+            return "the input ends %s the varint of the %s" % (where, name)
+        _, size, end = _core.head(start)
+        if self.status is Status.UNEXPECTED_EOF:
+            return "the input ends inside the digest (%d of %d bytes)" % (length - end, size)
+        if size > min(limit, DIGEST_MAX):
+            return "the digest has %d bytes, and the limit is %d" % (size, min(limit, DIGEST_MAX))
+        return "%d byte%s the multihash" % (self.size, " follows" if self.size == 1 else "s follow")
 
 
 # The library's errors are made by _core, as __init__ does it.
 _core.set_error(MultihashError, tuple(Status), MultihashError.__slots__)
 
 
-def _shown(value: Union[int, str]) -> str:
-    """A text, or a number in decimal digits; in hexadecimal ones if it has too many for Python to convert."""
+def _shown(number: int) -> str:
+    """A number in decimal digits, or in hexadecimal ones if it has too many for Python to convert."""
     try:
-        return str(value)
+        return str(number)
     except ValueError:
-        return hex(int(value))
+        return hex(number)
 
 
 class Head(NamedTuple):
-    """The code and the digest's length at the start of an encoding, and the number of bytes of both varints."""
+    """The two varints at the start of an encoding: the code, the digest's length, and the `length` of both in bytes."""
 
     code: int
     digest_length: int
@@ -167,7 +218,10 @@ class AsyncMultihashReader(_core.Reader):
         """Returns the next multihash, or None at the end of the stream."""
         while wanted := self._begin():
             try:
-                chunk = await self._read(wanted)
+                called = self._read(wanted)
+                if isinstance(called, bytes):
+                    raise TypeError("read of the stream must be awaited: a MultihashReader reads from a file")
+                chunk = await called
             except BaseException as error:
                 self._fail(error)
                 raise
@@ -196,6 +250,6 @@ def read_from(file: _Readable, limit: int = DIGEST_MAX) -> Optional[Multihash]:
     file does not block and has no bytes yet.
     """
     try:
-        return _core.read_once(file, limit)
+        return _core.Reader(file, limit)._next()
     except BlockingIOError as error:
         raise io.UnsupportedOperation("the file does not block: use a MultihashReader") from error

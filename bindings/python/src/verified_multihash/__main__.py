@@ -14,6 +14,14 @@ import sys
 from . import MultihashError, Status, read
 
 MOST_INPUT = 65536
+# The reasons that mh_show prints, in the words of the Rust crate multihash; {} is the size.
+REASONS = {
+    Status.INSUFFICIENT: "not enough input bytes",
+    Status.OVERFLOW: "input bytes exceed maximum",
+    Status.NOT_MINIMAL: "encoding is not minimal",
+    Status.INVALID_SIZE: "Invalid multihash size {}.",
+    Status.UNEXPECTED_EOF: "failed to fill whole buffer",
+}
 
 
 def _input() -> bytes:
@@ -58,7 +66,7 @@ def main() -> int:
     except OSError:
         pass
     except MultihashError as error:
-        reason = str(MultihashError(error.status, error.size, error.code))  # the text of mh_show
+        reason = REASONS[error.status].format(error.size)
     except ValueError as error:
         reason = str(error)
     try:

@@ -7,8 +7,9 @@ use verified_multihash::{upstream, Multihash as Proved};
 
 /// A code, which names the hash function, and a digest of at most `S` bytes.
 ///
-/// The code is below 2^63, and the digest has at most 255 bytes. Values of different `S` with the same code
-/// and digest are equal and have the same hash. Only functions of this type make a value:
+/// `S` is the longest digest that you accept: 64 suffices for SHA2-512 and BLAKE2b-512, 32 for SHA2-256. The code
+/// is below 2^63, and the digest has at most 255 bytes. Values of different `S` with the same code and digest are
+/// equal and have the same hash. Only functions of this type make a value:
 ///
 /// ```compile_fail,E0423
 /// fn multihash(value: verified_multihash::Multihash<64>) -> multihash::Multihash<64> {
@@ -53,12 +54,12 @@ impl<const S: usize> Multihash<S> {
         }
     }
 
-    /// Returns the code.
+    /// Returns the code, which names the hash function: less than 2^63.
     pub const fn code(&self) -> u64 {
         upstream::code(&self.0)
     }
 
-    /// Returns the length of the digest.
+    /// Returns the length of the digest in bytes, at most `S` and at most 255.
     pub const fn size(&self) -> u8 {
         upstream::size(&self.0)
     }
@@ -71,6 +72,8 @@ impl<const S: usize> Multihash<S> {
     /// Reads the next multihash, and stops right after it.
     ///
     /// # Errors
+    ///
+    /// The bytes that were read before an error are consumed.
     ///
     /// - The reader's error, if it fails.
     /// - An error if the next bytes are not a multihash with a digest of at most `S` bytes. No byte of a digest
@@ -144,7 +147,7 @@ impl<const S: usize> Multihash<S> {
         self.0.write(&mut writer).map_err(|error| writer.error(error))
     }
 
-    /// Returns the length of the encoding.
+    /// Returns the length of the encoding in bytes, at most 266.
     pub fn encoded_len(&self) -> usize {
         self.0.encoded_len()
     }

@@ -32,7 +32,7 @@ pub trait Read {
     /// Reads up to `buf.len()` bytes into the front of `buf`, and returns their number. It returns 0 at the end.
     fn read(&mut self, buf: &mut [u8]) -> Result<usize, Error>;
 
-    /// Fills `buf`.
+    /// Fills `buf`. The bytes that were read before an error are consumed.
     fn read_exact(&mut self, mut buf: &mut [u8]) -> Result<(), Error> {
         while !buf.is_empty() {
             match self.read(buf)? {
@@ -49,7 +49,7 @@ pub trait Write {
     /// Writes some of the first bytes of `buf`, and returns their number. It returns 0 if the sink is full.
     fn write(&mut self, buf: &[u8]) -> Result<usize, Error>;
 
-    /// Writes all of `buf`.
+    /// Writes all of `buf`. Some of its first bytes may have been written before an error.
     fn write_all(&mut self, mut buf: &[u8]) -> Result<(), Error> {
         while !buf.is_empty() {
             match self.write(buf)? {

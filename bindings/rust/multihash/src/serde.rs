@@ -1,9 +1,10 @@
-//! Serializes the encoding as bytes, or as a sequence of numbers in formats without bytes.
+//! The encoding as bytes for serde.
 use crate::Multihash;
 use core::fmt;
 use serde::de::{Error, SeqAccess, Visitor};
 use serde::{Deserialize, Deserializer, Serialize, Serializer};
 
+/// The encoding as bytes. Formats without bytes, such as JSON, have a sequence of numbers.
 impl<const S: usize> Serialize for Multihash<S> {
     fn serialize<T: Serializer>(&self, serializer: T) -> Result<T::Ok, T::Error> {
         let mut bytes = [0; LENGTH_MAX];
@@ -12,23 +13,22 @@ impl<const S: usize> Serialize for Multihash<S> {
     }
 }
 
+/// From bytes, or a sequence of numbers, that are an encoding.
 impl<'de, const S: usize> Deserialize<'de> for Multihash<S> {
     fn deserialize<D: Deserializer<'de>>(deserializer: D) -> Result<Self, D::Error> {
         deserializer.deserialize_bytes(Bytes)
     }
 }
 
-/// The maximum length of an encoding, and of a digest, in bytes.
+/// The maximum length of an encoding in bytes.
 const LENGTH_MAX: usize = 266;
-const DIGEST_MAX: usize = 255;
 
 struct Bytes<const S: usize>;
 
 impl<const S: usize> Bytes<S> {
-    /// The maximum length of an encoding: nine bytes of the code, one of a length below 128 or two, and the digest.
-    const MOST: usize = if S < DIGEST_MAX { 10 + S / 128 + S } else { LENGTH_MAX };
-    /// The numbers of a sequence that are read before its length is an error: as many as upstream reads, or more.
-    const READ: usize = if 10 + S > Self::MOST { 10 + S } else { Self::MOST };
+    /// The numbers of a sequence that are read before its length is an error: those of the longest encoding, and for
+    /// capacities above 255, whose values have no longer one, as many as upstream reads.
+    const READ: usize = 10 + S + (S / 128 == 1) as usize;
 }
 
 impl<'de, const S: usize> Visitor<'de> for Bytes<S> {
@@ -53,9 +53,9 @@ impl<'de, const S: usize> Visitor<'de> for Bytes<S> {
             }
             length += 1;
         }
-        if length > Self::MOST {
-            return Err(A::Error::invalid_length(length, &self));
+        match bytes.get(..length) {
+            Some(bytes) => self.visit_bytes(bytes),
+            None => Err(A::Error::invalid_length(length, &self)),
         }
-        self.visit_bytes(&bytes[..length])
     }
 }

@@ -140,11 +140,11 @@ fn ends() {
     each_byte(end, |case, mut reader, mut writer| {
         let text = if case.is_head { INSUFFICIENT } else { UNEXPECTED_EOF };
         let source = if HAS_STD || !case.is_head { Some(text.into()) } else { None };
-        for failure in [Value::read(&mut reader), Value::from_bytes(&case.encoding[..case.at])] {
+        for failure in [Value::read(&mut reader as &mut dyn Read), Value::from_bytes(&case.encoding[..case.at])] {
             assert_eq!(texts(&failure.expect_err("an end")), (text.into(), source.clone()));
         }
         let mut out = [0; 204];
-        for failure in [case.value.write(&mut writer), case.value.write(&mut out[..case.at])] {
+        for failure in [case.value.write(&mut writer as &mut dyn Write), case.value.write(&mut out[..case.at])] {
             assert_eq!(texts(&failure.expect_err("it is full")), (NO_ROOM.into(), Some(NO_ROOM.into())));
         }
         for written in [&out[..case.at], &writer.bytes] {

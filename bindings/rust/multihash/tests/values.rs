@@ -6,8 +6,6 @@ use std::io::{Empty, Sink};
 
 type Value = Multihash<64>;
 
-const CODE_MAX: u64 = (1 << 63) - 1;
-
 // The arguments and results are of no other types, and callers can name the parameters.
 const WRAPPED: Result<Value, Error> = Value::wrap(0x12, b"abc");
 const _: fn(u64, &[u8]) -> Result<Value, Error> = Value::wrap;
@@ -66,103 +64,86 @@ fn text<T>(result: Result<T, Error>) -> String {
 fn parts() {
     let multihash = WRAPPED.expect("a multihash");
     assert_eq!((code_and_size(&multihash), multihash.digest()), ((0x12, 3), &b"abc"[..]));
-    assert_eq!(multihash.into_inner().1[..4], *b"abc\0");
     assert_eq!(Multihash::<3>::default().into_inner(), (0, [0; 3], 0));
-    assert_eq!(Multihash::<0>::default(), Multihash::<64>::default());
     assert_eq!(std::mem::size_of::<Multihash<64>>(), 80);
     assert_eq!(format!("{:?}", of::<4>(18, &[0, 255])), "Multihash { code: 18, size: 2, digest: [0, 255, 0, 0] }");
     #[allow(deprecated)] // earlier names
     let _: multihash::Result<multihash::MultihashGeneric<3>> = Multihash::<3>::wrap(0x12, b"abc");
 }
 
+/// Bytes that were removed are not copied.
 #[test]
-fn limits() {
-    assert_eq!(text(Multihash::<300>::wrap(1, &[7; 256])), "Invalid multihash size 256.");
-    assert_eq!(text(Multihash::<3>::wrap(u64::MAX, b"abcd")), "Invalid multihash size 4.");
-    assert_eq!(text(Multihash::<4>::wrap(CODE_MAX + 1, b"abcd")), "Invalid multihash code 9223372036854775808.");
-    assert_eq!(of::<4>(CODE_MAX, b"abcd").code(), CODE_MAX);
-}
-
-#[test]
-fn sizes() {
-    let long = of::<200>(0x12, &[7; 200]);
-    assert_eq!(long.truncate(127), of::<127>(0x12, &[7; 127]));
-    assert_eq!(long.truncate(201), long);
-    assert_eq!(long.resize::<300>().map(|large| (large == long, large.size())).expect("it fits"), (true, 200));
-    assert_eq!(text(long.truncate(199).resize::<198>()), "Invalid multihash size 199.");
-    let longest = of::<255>(0x12, &[7; 255]);
-    assert_eq!(longest.resize::<255>().expect("it fits"), longest);
-    // bytes that were removed are not copied
-    let short = long.truncate(20).resize::<30>().expect("it fits").into_inner();
+fn resized() {
+    let short = of::<64>(0x12, &[7; 64]).truncate(20).resize::<30>().expect("it fits").into_inner();
     assert_eq!((short.1, short.2), (std::array::from_fn(|at| if at < 20 { 7 } else { 0 }), 20));
+    assert_eq!(text(of::<255>(0x12, &[7; 200]).truncate(199).resize::<198>()), "Invalid multihash size 199.");
 }
 
 #[test]
 fn long_slices() {
-    // 2^32 and 1, or as much as fits: no page is touched but the first
-    let long = vec![0; 1_usize.checked_shl(32).unwrap_or(1 << 16) + 1];
-    let length = long.len();
-    assert_eq!(text(Multihash::<255>::wrap(1, &long)), format!("Invalid multihash size {length}."));
-    assert_eq!(text(Multihash::<64>::from_bytes(&long)), format!("Invalid multihash size {}.", length - 2));
-    let mut rest = &long[..];
-    assert_eq!(Multihash::<3>::read(&mut rest).map(|found| found.size()).ok(), Some(0));
-    assert_eq!(rest.len(), length - 2);
+    // 2^32 and 1, or as much as fits: no page is touched
+    let length = 1_usize.checked_shl(32).unwrap_or(1 << 16) + 1;
+    assert_eq!(text(Multihash::<255>::wrap(1, &vec![0; length])), format!("Invalid multihash size {length}."));
 }
 
-/// `serde`: the encoding as bytes, in JSON as an array of numbers.
 #[cfg(feature = "serde")]
-#[test]
-fn json() {
-    let full = of::<4>(CODE_MAX, b"abcd");
-    let text = serde_json::to_string(&full).expect("JSON");
-    assert_eq!(text, "[255,255,255,255,255,255,255,255,127,4,97,98,99,100]");
-    assert_eq!(serde_json::from_str::<Multihash<4>>(&text).expect("a multihash"), full);
-    // a text is accepted for bytes, and for nothing else that this could ask for
-    let found: Multihash<4> = serde_json::from_str(r#""\u0012\u0002ab""#).expect("a multihash");
-    assert_eq!(found, of::<2>(0x12, b"ab"));
-    let error = |text| serde_json::from_str::<Multihash<3>>(text).expect_err("an error").to_string();
-    assert!(error("[18,4,97,98,99,100]").starts_with("Invalid multihash size 4."));
-    assert!(error("[18,1]").starts_with("failed to fill whole buffer"));
-    assert!(error("[18,256]").contains("256"));
-    assert!(error("7").contains("expected a valid Multihash in bytes"));
-}
+mod serde {
+    use super::*;
 
-/// A sequence of more numbers than an encoding has is an error before its end, and the longest encoding is decoded.
-#[cfg(feature = "serde")]
-#[test]
-fn long_sequences() {
-    fn check<const S: usize>(longest: usize) {
-        let value = of::<S>(CODE_MAX, &[7; 255][..S.min(255)]);
-        let text = serde_json::to_string(&value).expect("JSON");
-        assert_eq!(value.encoded_len(), longest);
-        assert_eq!(serde_json::from_str::<Multihash<S>>(&text).expect("the longest"), value);
-        let zeros = format!("[0,0{}", ",0".repeat(longest - 2));
-        let error = |text: String| serde_json::from_str::<Multihash<S>>(&text).expect_err("an error");
-        assert!(error(zeros.clone() + "]").to_string().starts_with("Invalid multihash size"));
-        assert!(error(zeros.clone() + ",").is_eof());
-        let long = error(zeros + ",0,");
-        assert!(long.is_data(), "{long}");
-        assert!(long.to_string().starts_with(&format!("invalid length {}", longest + 1)));
+    const CODE_MAX: u64 = (1 << 63) - 1;
+
+    /// `serde`: the encoding as bytes, in JSON as an array of numbers.
+    #[test]
+    fn json() {
+        let full = of::<4>(CODE_MAX, b"abcd");
+        let text = serde_json::to_string(&full).expect("JSON");
+        assert_eq!(text, "[255,255,255,255,255,255,255,255,127,4,97,98,99,100]");
+        assert_eq!(serde_json::from_str::<Multihash<4>>(&text).expect("a multihash"), full);
+        // a text is accepted for bytes, and for nothing else that this could ask for
+        let found: Multihash<4> = serde_json::from_str(r#""\u0012\u0002ab""#).expect("a multihash");
+        assert_eq!(found, of::<2>(0x12, b"ab"));
+        let error = |text| serde_json::from_str::<Multihash<3>>(text).expect_err("an error").to_string();
+        assert!(error("[18,4,97,98,99,100]").starts_with("Invalid multihash size 4."));
+        assert!(error("[18,1]").starts_with("failed to fill whole buffer"));
+        assert!(error("[18,256]").contains("256"));
+        assert!(error("7").contains("expected a valid Multihash in bytes"));
     }
-    check::<3>(13);
-    check::<127>(137);
-    check::<128>(139);
-    check::<254>(265);
-    check::<255>(266);
-}
 
-/// Of a capacity above 255, as upstream, 10 more numbers are read: only then the length is an error before the end.
-#[cfg(feature = "serde")]
-#[test]
-fn cut_sequences() {
-    let error = |length: usize, end: &str| {
-        let text = format!("[0{}{end}", ",0".repeat(length - 1));
-        serde_json::from_str::<Multihash<300>>(&text).expect_err("an error")
-    };
-    for length in [2, 266, 267, 310] {
-        assert!(error(length, "").is_eof());
+    /// A sequence of more numbers than an encoding has is an error before its end, and the longest encoding is decoded.
+    #[test]
+    fn long_sequences() {
+        fn check<const S: usize>(longest: usize) {
+            let value = of::<S>(CODE_MAX, &[7; 255][..S.min(255)]);
+            let text = serde_json::to_string(&value).expect("JSON");
+            assert_eq!(value.encoded_len(), longest);
+            assert_eq!(serde_json::from_str::<Multihash<S>>(&text).expect("the longest"), value);
+            let zeros = format!("[0,0{}", ",0".repeat(longest - 2));
+            let error = |text: String| serde_json::from_str::<Multihash<S>>(&text).expect_err("an error");
+            assert!(error(zeros.clone() + "]").to_string().starts_with("Invalid multihash size"));
+            assert!(error(zeros.clone() + ",").is_eof());
+            let long = error(zeros + ",0,");
+            assert!(long.is_data(), "{long}");
+            assert!(long.to_string().starts_with(&format!("invalid length {}", longest + 1)));
+        }
+        check::<3>(13);
+        check::<127>(137);
+        check::<128>(139);
+        check::<254>(265);
+        check::<255>(266);
     }
-    assert!(error(311, "").is_data());
-    assert!(error(266, "]").to_string().starts_with("Invalid multihash size 264."));
-    assert!(error(267, "]").to_string().starts_with("invalid length 267"));
+
+    /// Of a capacity above 255, as upstream, 10 more numbers are read: only then the length is an error before the end.
+    #[test]
+    fn cut_sequences() {
+        let error = |length: usize, end: &str| {
+            let text = format!("[0{}{end}", ",0".repeat(length - 1));
+            serde_json::from_str::<Multihash<300>>(&text).expect_err("an error")
+        };
+        for length in [2, 266, 267, 310] {
+            assert!(error(length, "").is_eof());
+        }
+        assert!(error(311, "").is_data());
+        assert!(error(266, "]").to_string().starts_with("Invalid multihash size 264."));
+        assert!(error(267, "]").to_string().starts_with("invalid length 267"));
+    }
 }

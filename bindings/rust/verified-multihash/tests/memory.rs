@@ -64,13 +64,16 @@ fn to_bytes() {
 /// Capacity for exactly the list is allocated, once, before anything is read.
 #[test]
 fn read_list() {
-    let bytes = ENCODING.repeat(1001);
+    let all: Vec<Multihash<64>> = (0..1001).map(|code| Multihash::wrap(code, b"abc").expect("it fits")).collect();
+    let mut bytes = Vec::new();
+    list::write_list(&all, &mut bytes).expect("memory");
     for count in [1, 3, 1001] {
         let mut rest = &bytes[..];
         assert!(is_out_of_memory(with(0, || list::read_list::<64, _>(&mut rest, count))));
         assert_eq!(rest.len(), bytes.len());
         let read = with(1, || list::read_list::<64, _>(&mut rest, count)).expect("one allocation");
-        assert_eq!((read.len(), read.capacity()), (count, count));
+        assert_eq!((&read[..], read.capacity()), (&all[..count], count));
+        assert_eq!(rest.len(), all[count..].iter().map(Multihash::encoded_len).sum::<usize>());
     }
     assert!(is_out_of_memory(list::read_list::<64, _>(&mut &bytes[..], usize::MAX)));
     assert!(with(0, || list::read_list::<64, _>(&mut &bytes[..], 0)).is_ok());

@@ -1,22 +1,14 @@
-//! Values: what is implemented, limits, lists, and readers that break the laws of the traits.
+//! Values: what is implemented, limits, and readers that break the laws of the traits.
 #![cfg(feature = "std")]
 use verified_multihash::no_std_io::{self, Read, SliceWriter, Write};
 use verified_multihash::varint::{self, MAX as CODE_MAX};
-use verified_multihash::{list, Error, Head, Multihash};
+use verified_multihash::{Error, Head, Multihash};
 
 type Value = Multihash<64>;
 
 // These bounds are part of the API.
 fn is_value<T: Copy + Default + Eq + Ord + std::hash::Hash + std::fmt::Debug + Send + Sync + Unpin>() {}
 fn is_error<T: std::fmt::Debug + std::fmt::Display + Send + Sync + 'static>() {}
-
-fn of<const S: usize>(code: u64, digest: &[u8]) -> Multihash<S> {
-    Multihash::wrap(code, digest).expect("it fits")
-}
-
-fn text<T>(result: Result<T, Error>) -> String {
-    result.err().expect("an error").to_string()
-}
 
 #[test]
 fn implemented() {
@@ -25,8 +17,11 @@ fn implemented() {
     is_error::<no_std_io::Error>();
     let error: &dyn std::error::Error = &Value::from_bytes(b"").expect_err("an error");
     assert_eq!((error.to_string(), error.source().is_none()), ("not enough input bytes".into(), true));
-    assert_eq!(format!("{:?}", of::<4>(18, &[0, 255])), "Multihash { code: 18, size: 2, digest: [0, 255] }");
-    assert_eq!(Value::default(), of(0, b""));
+    assert_eq!(Value::default(), Value::wrap(0, b"").expect("it fits"));
+    // bytes that were removed are neither copied nor shown
+    let short = Multihash::<4>::wrap(18, &[0, 255, 1]).expect("it fits").truncate(2);
+    assert_eq!(short.into_inner(), (18, [0, 255, 0, 0], 2));
+    assert_eq!(format!("{short:?}"), "Multihash { code: 18, size: 2, digest: [0, 255] }");
 }
 
 #[test]
@@ -36,19 +31,11 @@ fn limits() {
 }
 
 #[test]
-fn sizes() {
-    let long = of::<255>(0x12, &[7; 255]);
-    // bytes that were removed are not copied
-    let (_, buffer, size) = long.truncate(20).into_inner();
-    assert_eq!((&buffer[..20], &buffer[20..], size), (&[7; 20][..], &[0; 235][..], 20));
-}
-
-#[test]
 fn long_slices() {
     // 2^32 and 1, or as much as fits: no page is touched but the first
     let long = vec![0; 1_usize.checked_shl(32).unwrap_or(1 << 16) + 1];
     let length = long.len();
-    assert_eq!(text(Value::from_bytes(&long)), format!("Invalid multihash size {}.", length - 2));
+    assert_eq!(Value::from_bytes(&long).expect_err("trailing bytes").invalid_size(), Some(length as u64 - 2));
     assert_eq!(Head::read_front(&long).map(|head| head.digest_offset).ok(), Some(2));
     let (mut rest, mut form) = (&long[..], &long[..]);
     assert_eq!(Value::read(&mut rest).map(|found| found.size()).ok(), Some(0));
@@ -57,23 +44,6 @@ fn long_slices() {
     // a length that a word of 32 bits does not have
     let head = Head::read_front(b"\x12\x83\x80\x80\x80\x10abc").expect("a head");
     assert_eq!(head.digest_len, (1 << 32) + 3);
-}
-
-/// A list of multihashes in a stream, written to each kind of writer.
-#[test]
-fn lists() {
-    let all = [&b"a"[..], b"", b"bcd"].map(|digest| of::<4>(0x1000, digest));
-    let encoded = b"\x80\x20\x01a\x80\x20\x00\x80\x20\x03bcd";
-    let mut out = [0; 32];
-    list::write_list(&all, &mut SliceWriter::new(&mut out)).expect("enough capacity");
-    assert_eq!(&out[..13], encoded);
-    let mut bytes = vec![];
-    list::write_list(&all, &mut bytes).expect("memory");
-    assert_eq!(bytes, encoded);
-    let mut rest = &out[..];
-    let read: Vec<Multihash<4>> = list::read_list(&mut rest, 3).expect("a list");
-    assert_eq!((&read[..], rest.len()), (&all[..], 32 - 13));
-    assert!(Multihash::<4>::read_next(&mut &b""[..]).expect("the end").is_none());
 }
 
 /// Returns a count that may be too large, and sets no byte.

@@ -1,4 +1,6 @@
-//! What tests of the test vectors share, without `std` but in tests.
+//! What the tests of both packages compare with the test vectors, without `std` but in tests. The module above has the
+//! package's types, and functions for what differs.
+use super::{Error, Multihash, Read};
 use core::fmt::{self, Display, Write as _};
 use core::hash::{Hash, Hasher};
 
@@ -22,22 +24,25 @@ const ERRORS: [(&str, &str); 5] = [
     ("unexpected_eof", "failed to fill whole buffer"),
 ];
 
-/// Panics if a result, a code and a digest or an error, is not that of a column.
-pub fn check_result<E: Display>(result: Result<(u64, &[u8]), E>, column: &str) {
+/// Panics if an error is not that of a column.
+pub fn check_error(error: &impl Display, column: &str) {
+    let mut text = Text([0; 64], 0);
+    write!(text, "{error}").expect("a text");
+    let text = core::str::from_utf8(&text.0[..text.1]).expect("a text");
+    let with_number = text.strip_prefix("Invalid multihash ").and_then(|text| text.strip_suffix('.'));
+    let of_column = column.strip_prefix("invalid_");
+    assert!(of_column.map_or(ERRORS.contains(&(column, text)), |number| with_number == Some(number)), "{text}");
+}
+
+/// Panics if a result is not that of a column: a code and a digest, or an error.
+pub fn check_result<const S: usize, E: Display>(result: &Result<Multihash<S>, E>, column: &str) {
     match result {
-        Ok((code, digest)) => {
+        Ok(found) => {
             let pair = column.strip_prefix("pair ").and_then(|pair| pair.split_once(' '));
-            let (number, digits) = pair.expect("an error");
-            assert_eq!((number.parse(), bytes_of(digits, &mut [0; 1024])), (Ok(code), digest));
+            let (code, digits) = pair.expect("an error");
+            assert_eq!((code.parse(), bytes_of(digits, &mut [0; 1024])), (Ok(found.code()), found.digest()));
         }
-        Err(error) => {
-            let mut text = Text([0; 64], 0);
-            write!(text, "{error}").expect("a text");
-            let text = core::str::from_utf8(&text.0[..text.1]).expect("a text");
-            let with_number = text.strip_prefix("Invalid multihash ").and_then(|text| text.strip_suffix('.'));
-            let of_column = column.strip_prefix("invalid_");
-            assert!(of_column.map_or(ERRORS.contains(&(column, text)), |number| with_number == Some(number)), "{text}");
-        }
+        Err(error) => check_error(error, column),
     }
 }
 
@@ -50,53 +55,131 @@ pub fn bytes_of<'a>(digits: &str, buffer: &'a mut [u8; 1024]) -> &'a [u8] {
     &buffer[..digits.len() / 2]
 }
 
-pub fn hash_of(value: impl Hash) -> u64 {
+fn hash_of(value: impl Hash) -> u64 {
     #[allow(deprecated)] // no other hasher is in `core`
     let mut hasher = core::hash::SipHasher::new();
     value.hash(&mut hasher);
     hasher.finish()
 }
 
-/// Splits a line of a list, and calls `check::<S>(input, results)`, `check_value::<S>(code, digest, encodings)` or
-/// `check_order(columns)`.
-macro_rules! check_columns {
-    ($line:expr, $check:ident, $check_value:ident, $check_order:ident) => {{
-        let mut columns = $line.split('\t');
-        let mut next = || columns.next().expect("a column");
-        let mut buffer = [0; 1024];
-        match next() {
-            "order" => $check_order([(); 5].map(|()| next())),
-            "value" => {
-                let (capacity, code) = (next(), next().parse().expect("a code"));
-                let digest = support::bytes_of(next(), &mut buffer);
-                support::with_capacity!(capacity, $check_value(code, digest, [next(), next()]))
-            }
-            capacity => {
-                let input = support::bytes_of(next(), &mut buffer);
-                support::with_capacity!(capacity, $check(input, [(); 5].map(|()| next())))
-            }
-        }
-    }};
+/// A reader that returns one byte a call, by the trait's own `read_exact`.
+struct Slow<'a>(&'a [u8]);
+
+impl Read for Slow<'_> {
+    fn read(&mut self, out: &mut [u8]) -> Result<usize, Error> {
+        self.0.read(&mut out[..1])
+    }
 }
-pub(crate) use check_columns;
+
+/// What is read and decoded from an input. A reader consumes `taken` bytes, or all if more can change the result.
+pub fn check<const S: usize>(input: &[u8], [read, taken, whole, ..]: [&str; 5]) {
+    let (mut rest, mut slow) = (input, Slow(input));
+    let found = Multihash::<S>::read(&mut rest);
+    check_result(&found, read);
+    check_result(&Multihash::<S>::read(&mut slow), read);
+    check_result(&Multihash::<S>::from_bytes(input), whole);
+    let count = taken.parse().unwrap_or(input.len());
+    assert_eq!(slow.0.len(), input.len() - count);
+    // a slice may keep a truncated digest: that of `std` does in some versions of Rust
+    assert!(rest.len() == slow.0.len() || read == "unexpected_eof");
+    if let Ok(multihash) = &found {
+        check_found(multihash, &input[..count]);
+    }
+}
+
+/// Each writer writes the encoding, and the value is that of its parts, and no other.
+fn check_found<const S: usize>(multihash: &Multihash<S>, encoding: &[u8]) {
+    let (length, mut out) = (encoding.len(), [0xa5; 267]);
+    assert!(multihash.write(&mut &mut out[..length - 1]).is_err());
+    assert_eq!((&out[..length - 1], out[length - 1]), (&encoding[..length - 1], 0xa5));
+    assert_eq!((multihash.write(&mut &mut out[..]).ok(), multihash.encoded_len()), (Some(length), length));
+    assert_eq!((&out[..length], &out[length..]), (encoding, &[0xa5; 267][length..]));
+    #[cfg(feature = "alloc")]
+    {
+        let mut written = b"before".to_vec();
+        assert_eq!(multihash.write(&mut written).ok(), Some(length));
+        assert_eq!((&written[6..], &super::bytes(multihash)[..]), (encoding, encoding));
+    }
+    let (code, digest, size) = multihash.into_inner();
+    assert_eq!((code, size, &digest[..size.into()]), (multihash.code(), multihash.size(), multihash.digest()));
+    assert_eq!(Multihash::<S>::wrap(code, &digest[..size.into()]).expect("it fits"), *multihash);
+    assert_eq!(digest[size.into()..], [0; S][size.into()..]);
+    assert!(multihash.resize::<32>().map_or(size > 32, |small| super::same(&small, multihash)));
+    assert!(super::same(&multihash.resize::<255>().expect("it fits"), multihash));
+    for at in 0..size.into() {
+        let mut other = digest;
+        other[at] ^= 1;
+        let unlike = Multihash::<S>::wrap(code, &other[..size.into()]).expect("it fits");
+        assert_eq!((unlike == *multihash, unlike.cmp(multihash)), (false, other.cmp(&digest)));
+    }
+}
+
+/// A code and a digest: the encoding, or the error. Returns the value, if they are one.
+pub fn check_value<const S: usize>(code: u64, digest: &[u8], [encoding, _]: [&str; 2]) -> Option<Multihash<S>> {
+    match Multihash::<S>::wrap(code, digest) {
+        Ok(multihash) => {
+            check_found(&multihash, bytes_of(encoding, &mut [0; 1024]));
+            Some(multihash)
+        }
+        Err(error) => {
+            check_error(&error, encoding);
+            None
+        }
+    }
+}
+
+/// How two multihashes compare, of other capacities and after `truncate` too, and their hashes: two codes and digests,
+/// and -1, 0 or 1.
+fn check_order([code, digest, other_code, other, order]: [&str; 5]) {
+    let order = order.parse::<i32>().expect("a number").cmp(&0);
+    let [(a, longer), (b, other_longer)] = [(code, digest), (other_code, other)].map(|(code, digits)| {
+        let (code, mut buffer) = (code.parse().expect("a code"), [0xa5; 1024]);
+        let length = bytes_of(digits, &mut buffer).len();
+        let multihash = Multihash::<255>::wrap(code, &buffer[..length]).expect("it fits");
+        assert_eq!(hash_of(multihash), hash_of((code, &buffer[..length])));
+        (multihash, Multihash::<300>::wrap(code, &buffer[..255]).expect("it fits").truncate(length as u8))
+    });
+    assert_eq!([a.cmp(&b), longer.cmp(&other_longer)], [order; 2]);
+    assert_eq!(a.partial_cmp(&b), Some(order));
+    assert_eq!([a == b, super::same(&a, &other_longer), longer == other_longer], [order.is_eq(); 3]);
+    assert_eq!([hash_of(b), hash_of(other_longer)].map(|hash| hash == hash_of(a)), [order.is_eq(); 2]);
+}
 
 /// Calls a function for the capacity that a column names.
 macro_rules! with_capacity {
     ($name:expr, $call:ident $arguments:tt) => {
-        support::with_capacity!($name, $call $arguments, 0 1 2 4 16 32 64 128 200 255 256 300)
+        with_capacity!($name, $call $arguments, 0 1 2 4 16 32 64 128 200 255 256 300)
     };
     ($name:expr, $call:ident $arguments:tt, $($capacity:literal)*) => {
         match $name {
-            $(stringify!($capacity) => $call::<$capacity> $arguments,)*
+            $(stringify!($capacity) => { super::$call::<$capacity> $arguments; })*
             name => panic!("a capacity that this test does not have: {name}"),
         }
     };
 }
-pub(crate) use with_capacity;
 
-/// Calls `check` with each line of the list that MULTIHASH_VERDICTS names, or of the list with this name beside it.
+/// Panics if a line of a list is not what the package finds.
+pub fn check_line(line: &str) {
+    let mut columns = line.split('\t');
+    let mut next = || columns.next().expect("a column");
+    let mut buffer = [0; 1024];
+    match next() {
+        "order" => check_order([(); 5].map(|()| next())),
+        "value" => {
+            let (capacity, code) = (next(), next().parse().expect("a code"));
+            let digest = bytes_of(next(), &mut buffer);
+            with_capacity!(capacity, check_value(code, digest, [next(), next()]))
+        }
+        capacity => {
+            let input = bytes_of(next(), &mut buffer);
+            with_capacity!(capacity, check(input, [(); 5].map(|()| next())))
+        }
+    }
+}
+
+/// Checks each line of the list that MULTIHASH_VERDICTS names, or of the list with this name beside it.
 #[cfg(test)]
-pub fn each_line(beside: Option<&str>, columns: &str, check: fn(&str)) {
+fn check_list(beside: Option<&str>, columns: &str) {
     let stored = concat!(env!("CARGO_MANIFEST_DIR"), "/../../../crates/vectors/data/verdicts.tsv");
     let path = std::path::PathBuf::from(std::env::var("MULTIHASH_VERDICTS").unwrap_or_else(|_| stored.into()));
     let path = beside.map_or(path.clone(), |name| path.with_file_name(name));
@@ -108,17 +191,17 @@ pub fn each_line(beside: Option<&str>, columns: &str, check: fn(&str)) {
     assert_eq!(lines.next(), Some(columns));
     for line in lines {
         println!("{line}"); // shown where the test fails
-        check(line);
+        check_line(line);
     }
 }
 
-#[cfg(test)]
-pub fn each_vector(check: fn(&str)) {
-    each_line(None, "S\tinput\tread\tread_taken\tfrom_bytes\tscale_decode\tscale_taken", check);
+#[test]
+fn vectors() {
+    check_list(None, "S\tinput\tread\tread_taken\tfrom_bytes\tscale_decode\tscale_taken");
 }
 
 /// Encodings, errors of values, and how values compare.
-#[cfg(test)]
-pub fn each_value(check: fn(&str)) {
-    each_line(Some("values.tsv"), "kind\tlimit\tcode\tdigest\tencoding\tscale", check);
+#[test]
+fn values() {
+    check_list(Some("values.tsv"), "kind\tlimit\tcode\tdigest\tencoding\tscale");
 }

@@ -4,18 +4,7 @@ use Rattle.examples.proofs.errors.count_kinds.Goals as goal
 
 pub returns : goal.returns
 returns c =
-    rw (
-      c.from.ensures,
-      c.from-2.ensures,
-      c.from-3.ensures,
-      c.from-4.ensures,
-      c.from-5.ensures,
-      c.from-6.ensures,
-      c.from-7.ensures,
-      c.is_some.ensures,
-      c.is_some-2.ensures,
-      c.is_some-3.ensures,
-    )
-    (one_kind c.args.e.now c.invalid_size.result c.invalid_code.result c.io.result _ _ _ _ c.invalid_size.ensures c.invalid_code.ensures
+    let one = one_kind c.args.e.now c.invalid_size.result c.invalid_code.result c.io.result _ _ _ _ c.invalid_size.ensures c.invalid_code.ensures
     (IfSome_then c.io.result c.io.ensures.some (λ x is. (x.now, is))) c.io.ensures.none
-    c.is_insufficient.ensures c.is_overflow.ensures c.is_not_minimal.ensures c.is_not_bytes.ensures)
+    c.is_insufficient.ensures c.is_overflow.ensures c.is_not_minimal.ensures c.is_not_bytes.ensures in
+    cc

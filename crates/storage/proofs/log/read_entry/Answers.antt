@@ -1,8 +1,5 @@
 use Rattle.std.proofs.Common.{inl, inr, refl}
-use Rattle.multihash.specs.Encoding.{IsEncoding}
-use Rattle.multihash.specs.Multihash.{pair_of}
 use Rattle.form.proofs.BothLemmas.{then_read}
-use Rattle.frame.specs.Frame.{IsFramed}
 use Rattle.multihash.proofs.OutcomeLemmas.{passed_on, only_error}
 use Rattle.frame.specs.declared.error.FrameError.TheVariants.{Failed}
 use Rattle.storage.proofs.LogLemmas.{entry_fails, entry_found}
@@ -22,9 +19,7 @@ returns-in_err-block-clause-err g c =
 -- ---- an entry that was read
 
 pub returns-clause-ok : goal.returns-clause-ok
-returns-clause-ok g c =
-    then_read (IsEncoding (pair_of c.in_ok-hash.hash)) (IsFramed c.in_ok-block.block.items) _ _ _ c.in_ok-hash.ensures.ok
-    c.in_ok-block.ensures.ok
+returns-clause-ok g c = then_read _ _ _ _ _ c.in_ok-hash.ensures.ok c.in_ok-block.ensures.ok
 
 -- ---- an entry that comes next
 

@@ -1,0 +1,127 @@
+/* SPDX-License-Identifier: MIT
+ * Copyright (c) 2026 The Gilmekhus developers */
+
+/* Messages for the errors of multihash.h, with the numbers that the text of a status lacks: "the input ends inside the
+ * digest (3 of 32 bytes)". These functions are defined in the header, over snprintf; they are tested, not proved.
+ *
+ * Call one after a call of multihash.h has failed. It writes the message to `text` as snprintf does: at most `text_size`
+ * bytes, of which the last is zero. If `text_size` is 0, `text` may be null. It returns the length of the whole message,
+ * without the zero byte: if that is `text_size` or more, the message was truncated. A buffer of MULTIHASH_MESSAGE_SIZE
+ * bytes is large enough for each. */
+#ifndef MULTIHASH_MESSAGE_H
+#define MULTIHASH_MESSAGE_H
+
+#include "multihash.h"
+
+#include <inttypes.h>
+#include <stdio.h>
+
+#ifdef __cplusplus
+extern "C" {
+#endif
+
+/* The size in bytes of a buffer for each message. */
+#define MULTIHASH_MESSAGE_SIZE 128
+
+/* The message for a part of an encoding that is truncated. */
+static inline int mh_message_cut(char *text, size_t text_size, const char *part, uint64_t there, uint64_t whole)
+{
+    return snprintf(text, text_size, "the input ends inside the %s (%" PRIu64 " of %" PRIu64 " bytes)", part, there,
+                    whole);
+}
+
+static inline int mh_message_too_long(char *text, size_t text_size, uint64_t length, uint64_t limit)
+{
+    return snprintf(text, text_size, "the digest has %" PRIu64 " byte%s, and the limit is %" PRIu64, length,
+                    length == 1 ? "" : "s", limit);
+}
+
+static inline int mh_message_large_code(char *text, size_t text_size, uint64_t code)
+{
+    return snprintf(text, text_size, "the code %" PRIu64 " is 2^63 or more", code);
+}
+
+/* The message for a malformed varint: `head` is what multihash_head returns for `bytes`, which are not empty. */
+static inline int mh_message_malformed(char *text, size_t text_size, const uint8_t *bytes, multihash_front head)
+{
+    size_t ended = 0; /* the number of varints that end in the bytes consumed: the malformed one, if it is not minimal */
+    for (size_t i = 0; i < head.taken; i++) ended += bytes[i] < 128;
+    int is_minimal = head.status != MULTIHASH_NOT_MINIMAL;
+    const char *number = ended == (is_minimal ? 0 : 1) ? "code" : "digest's length";
+
+    if (!is_minimal) {
+        return snprintf(text, text_size, "the varint of the %s is not minimal: it ends in a zero byte", number);
+    }
+    if (head.status == MULTIHASH_OVERFLOW) {
+        return snprintf(text, text_size, "the varint of the %s has more than nine bytes", number);
+    }
+    const char *where = bytes[head.taken - 1] < 128 ? "before" : "inside";
+    return snprintf(text, text_size, "the input ends %s the %s", where, number);
+}
+
+/* Writes why `bytes` is not exactly one multihash with a digest of at most `limit` bytes, after a call of
+ * multihash_from_bytes, multihash_from_prefix, multihash_read, multihash_read_limit or multihash_head has failed.
+ * `limit` is that of multihash_read_limit, and MULTIHASH_DIGEST_MAX for the others. After multihash_read_many has
+ * failed, `bytes` is what follows the items.
+ *
+ * Only the first MULTIHASH_HEAD_MAX bytes are accessed: for a caller of multihash_from_prefix they suffice, with the
+ * length of the whole input as `bytes_length`.
+ *
+ * Returns: the length of the message. */
+static inline int multihash_message(char *text, size_t text_size, const uint8_t *bytes, size_t bytes_length,
+                                    size_t limit)
+{
+    multihash_front head = multihash_head(bytes, bytes_length < MULTIHASH_HEAD_MAX ? bytes_length : MULTIHASH_HEAD_MAX);
+    uint64_t most = limit < MULTIHASH_DIGEST_MAX ? limit : MULTIHASH_DIGEST_MAX;
+    uint64_t there = bytes_length - head.taken, length = head.digest_length;
+
+    if (bytes_length == 0) return snprintf(text, text_size, "the input is empty");
+    if (head.status != MULTIHASH_OK) return mh_message_malformed(text, text_size, bytes, head);
+    if (length > most) return mh_message_too_long(text, text_size, length, most);
+    if (there < length) return mh_message_cut(text, text_size, "digest", there, length);
+    if (there == length) return snprintf(text, text_size, "ok");
+    return snprintf(text, text_size, "%" PRIu64 " byte%s the multihash", there - length,
+                    there - length == 1 ? " follows" : "s follow");
+}
+
+/* Writes why `bytes` does not start with the SCALE encoding of a multihash, after a call of multihash_scale_decode has
+ * failed.
+ *
+ * Returns: the length of the message. */
+static inline int multihash_scale_message(char *text, size_t text_size, const uint8_t *bytes, size_t bytes_length)
+{
+    multihash_decoded found = multihash_scale_decode(bytes, bytes_length);
+
+    if (found.status == MULTIHASH_OK) return snprintf(text, text_size, "ok");
+    if (found.status == MULTIHASH_INVALID_CODE) return mh_message_large_code(text, text_size, found.code);
+    if (bytes_length == 0) return snprintf(text, text_size, "the input is empty");
+    if (bytes_length < 8) return mh_message_cut(text, text_size, "code", bytes_length, 8);
+    if (bytes_length == 8) return snprintf(text, text_size, "the input ends before the digest's length");
+    return mh_message_cut(text, text_size, "digest", bytes_length - 9, bytes[8]);
+}
+
+/* Writes why a call of multihash_encode, multihash_scale_encode or multihash_encoded_len has failed: `made` is what it
+ * returned for that `code`, and `out_length` is the size of its `out`.
+ *
+ * Returns: the length of the message. */
+static inline int multihash_encode_message(char *text, size_t text_size, multihash_encoded made, uint64_t code,
+                                           size_t out_length)
+{
+    switch (made.status) {
+    case MULTIHASH_INVALID_SIZE:
+        return mh_message_too_long(text, text_size, made.size, MULTIHASH_DIGEST_MAX);
+    case MULTIHASH_INVALID_CODE:
+        return mh_message_large_code(text, text_size, code);
+    case MULTIHASH_NO_ROOM:
+        return snprintf(text, text_size, "the buffer has %" PRIu64 " byte%s, and %" PRIu64 " are needed",
+                        (uint64_t)out_length, out_length == 1 ? "" : "s", (uint64_t)made.length);
+    default:
+        return snprintf(text, text_size, "%s", multihash_status_text(made.status));
+    }
+}
+
+#ifdef __cplusplus
+}
+#endif
+
+#endif

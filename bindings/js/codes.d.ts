@@ -1,0 +1,63 @@
+// Names of hash functions in the multicodec table. Made by tools/generate names.
+
+/** The codes of the hash functions, by their names: those listed here, and BLAKE2 and Skein of other lengths. */
+export const CODES: Readonly<Record<string, number | undefined>> & {
+  readonly 'identity': 0x0;
+  readonly 'sha1': 0x11;
+  readonly 'sha2-256': 0x12;
+  readonly 'sha2-512': 0x13;
+  readonly 'sha3-512': 0x14;
+  readonly 'sha3-384': 0x15;
+  readonly 'sha3-256': 0x16;
+  readonly 'sha3-224': 0x17;
+  readonly 'shake-128': 0x18;
+  readonly 'shake-256': 0x19;
+  readonly 'keccak-224': 0x1a;
+  readonly 'keccak-256': 0x1b;
+  readonly 'keccak-384': 0x1c;
+  readonly 'keccak-512': 0x1d;
+  readonly 'blake3': 0x1e;
+  readonly 'sha2-384': 0x20;
+  readonly 'murmur3-x64-64': 0x22;
+  readonly 'murmur3-32': 0x23;
+  readonly 'dbl-sha2-256': 0x56;
+  readonly 'md4': 0xd4;
+  readonly 'md5': 0xd5;
+  readonly 'bmt': 0xd6;
+  readonly 'fr32-sha256-trunc254-padbintree': 0x1011;
+  readonly 'sha2-256-trunc254-padded': 0x1012;
+  readonly 'sha2-224': 0x1013;
+  readonly 'sha2-512-224': 0x1014;
+  readonly 'sha2-512-256': 0x1015;
+  readonly 'murmur3-x64-128': 0x1022;
+  readonly 'ripemd-128': 0x1052;
+  readonly 'ripemd-160': 0x1053;
+  readonly 'ripemd-256': 0x1054;
+  readonly 'ripemd-320': 0x1055;
+  readonly 'x11': 0x1100;
+  readonly 'kangarootwelve': 0x1d01;
+  readonly 'sm3-256': 0x534d;
+  readonly 'sha256a': 0x7012;
+  readonly 'blake2b-8': 0xb201;
+  readonly 'blake2b-256': 0xb220;
+  readonly 'blake2b-512': 0xb240;
+  readonly 'blake2s-8': 0xb241;
+  readonly 'blake2s-128': 0xb250;
+  readonly 'blake2s-256': 0xb260;
+  readonly 'skein256-8': 0xb301;
+  readonly 'skein256-256': 0xb320;
+  readonly 'skein512-8': 0xb321;
+  readonly 'skein512-512': 0xb360;
+  readonly 'skein1024-8': 0xb361;
+  readonly 'skein1024-1024': 0xb3e0;
+  readonly 'xxh-32': 0xb3e1;
+  readonly 'xxh-64': 0xb3e2;
+  readonly 'xxh3-64': 0xb3e3;
+  readonly 'xxh3-128': 0xb3e4;
+  readonly 'poseidon-bls12_381-a2-fc1': 0xb401;
+  readonly 'poseidon-bls12_381-a2-fc1-sc': 0xb402;
+  readonly 'ssz-sha2-256-bmt': 0xb502;
+  readonly 'sha2-256-chunked': 0xb510;
+};
+/** The names of these functions, by their codes. */
+export const NAMES: Readonly<Record<number, string | undefined>>;

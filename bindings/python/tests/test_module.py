@@ -1,0 +1,104 @@
+"""What the package exports, its texts and types, and that interpreters and abstract classes can use it."""
+
+import abc
+import ast
+import collections.abc
+import ctypes
+import doctest
+import importlib
+import inspect
+import sys
+import typing
+import unittest
+from concurrent.futures import ThreadPoolExecutor
+from pathlib import Path
+
+import verified_multihash as vm
+from test_package import NAMED_CALLS
+from verified_multihash import Multihash, hashes
+
+README = Path(__file__).resolve().parents[1] / "README.md"
+
+
+def parameters_of(call):
+    """The parameters that a function shows; CPython 3.8 and 3.9 find none of a class in C."""
+    is_found = call is not Multihash or sys.version_info > (3, 10)
+    return inspect.signature(call).parameters if is_found else dict.fromkeys(Multihash.__match_args__)
+
+
+class Module(unittest.TestCase):
+    def test_interpreters(self):
+        """Two at once, from CPython 3.12 on with locks of their own."""
+        interpreters = importlib.import_module("_interpreters" if sys.version_info > (3, 13) else "_xxsubinterpreters")
+        program = "import sys; sys.path[:] = %r\nimport verified_multihash as vm\n" % (sys.path,)
+        program += "for n in range(20000): assert vm.decode(vm.encode(n, b'abc')) == vm.Multihash(n, b'abc')\n"
+        program += "try: vm.decode(b'')\nexcept vm.MultihashError as error: assert error.is_incomplete\n"
+
+        def run(_):
+            number = interpreters.create()
+            result = interpreters.run_string(number, program)
+            interpreters.destroy(number)
+            return result
+
+        with ThreadPoolExecutor(2) as threads:
+            self.assertEqual(list(threads.map(run, range(2))), [None, None])
+
+    def test_abstract_classes(self):
+        """An abstract class may be a base too: CPython 3.8 has the flag in its own headers, later ones do not."""
+        for kind in (Multihash, vm._core.Reader):
+            self.assertTrue(kind.__flags__ & 1 << 18, "Py_TPFLAGS_HAVE_VERSION_TAG")
+        for kind in (Multihash, vm.MultihashReader, vm.AsyncMultihashReader):
+            own = type("Own", (kind, collections.abc.Sized), {"__len__": id})
+            self.assertTrue(issubclass(own, collections.abc.Sized))
+            self.assertFalse(issubclass(abc.ABCMeta("Other", (), {}), own))
+
+    def test_hints(self):
+        """Tools that evaluate annotations find what they name."""
+        tried = 0
+        for module in (vm, hashes):
+            public = [vars(module)[name] for name in module.__all__]
+            methods = [it for each in public if isinstance(each, type) for it in vars(each).values()]
+            for call in filter(inspect.isfunction, public + methods):
+                tried += "return" in typing.get_type_hints(call)
+        self.assertGreater(tried, 9)
+
+    def test_stub(self):
+        """Editors show the texts of the stub, help those of the module."""
+
+        def compare(node, found):
+            for part in node.body:
+                if isinstance(part, (ast.ClassDef, ast.FunctionDef)):
+                    text, own = ast.get_docstring(part), getattr(found, part.name)
+                    self.assertIn(text, (None, inspect.getdoc(own)), part.name)
+                    compare(part, own)
+
+        compare(ast.parse(Path(vm.__file__).with_name("_core.pyi").read_text("utf-8")), vm._core)
+
+    def test_exports(self):
+        module = ctypes.CDLL(vm._core.__file__)
+        names = "PyInit__core", "multihash_read", "get_input"
+        self.assertEqual([hasattr(module, name) for name in names], [True, False, False])
+
+    def test_names(self):
+        """All that is public is exported, and each parameter has the name that it shows."""
+        own = {name for name, it in vars(vm).items() if getattr(it, "__module__", "").startswith(vm.__name__)}
+        public = {name for name in own if not name.startswith("_")}
+        constants = {name for name in vars(vm) if name.endswith("_MAX")} | {"__version__"}
+        self.assertEqual(sorted(vm.__all__), sorted(public | constants))
+        classes = [each for each in map(vars(vm).get, public) if isinstance(each, type)]
+        self.assertEqual({each.__module__ for each in classes}, {vm.__name__})  # that pickled values name
+        self.assertEqual(Multihash.__match_args__, tuple(parameters_of(Multihash)))
+        for call, arguments in NAMED_CALLS.items():
+            names = list(parameters_of(call))
+            by_name, by_position = call(**dict(zip(names, arguments))), call(*arguments)
+            self.assertEqual((str(by_name), len(names)), (str(by_position), len(arguments)))
+            required = [name for name, it in parameters_of(call).items() if not it or it.default is it.empty]
+            for wrong in ([*arguments, 1], arguments[: len(required) - 1]):
+                with self.assertRaises(TypeError):  # by itself, as assertRaises would pass keywords on
+                    call(*wrong)
+
+    def test_examples(self):
+        text = "\n".join("" if line.startswith("```") else line for line in README.read_text("utf-8").splitlines())
+        test = doctest.DocTestParser().get_doctest(text, {}, "README.md", str(README), 0)
+        failed, tried = doctest.DocTestRunner().run(test)
+        self.assertEqual((failed, tried > 0), (0, True))
