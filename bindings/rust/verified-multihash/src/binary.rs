@@ -30,12 +30,11 @@ impl<const S: usize> Multihash<S> {
     }
 
     /// Reads the multihash whose encoding comes next, as [`Multihash::read`] does, but returns `None`
-    /// instead of an error if the input ended before the encoding: for a reader without known input, if
-    /// its `read` returns 0.
+    /// at the end of the input, where the reader's first `read` returns 0: for a loop over a stream.
     ///
     /// # Errors
     ///
-    /// Those of [`Multihash::read`], except that for an input that ended before the encoding.
+    /// Those of [`Multihash::read`], except that of an input which ends before the encoding.
     #[inline(always)]
     pub fn read_next<R: Read>(r: &mut R) -> Result<Option<Self>, Error> {
         match varint::read_next(r)? {

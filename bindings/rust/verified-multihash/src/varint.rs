@@ -166,12 +166,12 @@ pub fn read<R: Read>(r: &mut R) -> Result<u64, Error> {
     }
 }
 
-/// Reads the varint that comes next, as [`read`] does, but returns `None` instead of an error if the
-/// input ended before the varint: for a reader without known input, if its `read` returns 0.
+/// Reads the varint that comes next, as [`read`] does, but returns `None` at the end of the input, where
+/// the reader's first `read` returns 0: for a loop over a stream.
 ///
 /// # Errors
 ///
-/// Those of [`read`], except that for an input that ended before the varint.
+/// Those of [`read`], except that of an input which ends before the varint.
 #[inline(always)]
 pub fn read_next<R: Read>(r: &mut R) -> Result<Option<u64>, Error> {
     let first = match read_byte(r)? {
