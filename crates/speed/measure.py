@@ -110,7 +110,7 @@ def print_least(heads: list[str], programs: list[tuple[int, Iterable[str | Path]
     least: dict[str, list[float]] = {}
     for turn in range(turns):
         for column, words in programs[:: 1 if turn % 2 else -1]:
-            for name, times in re.findall(r"(?m)^(.+?)((?: [\d.]+\d)+)$", run(words)):
+            for name, times in re.findall(r"(?m)^(.+?)((?: \d+\.\d+)+)$", run(words)):
                 row = least.setdefault(name, [float("inf")] * len(heads))
                 for at, time in enumerate(times.split(), column):
                     row[at] = min(row[at], float(time))
