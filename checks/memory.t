@@ -82,7 +82,7 @@ def others(tests: Iterable[str]) -> str:
 
 def results(work: Path) -> Iterator[tap.Result]:
     counted = Counted(work)
-    program = tap.program("tests_callers", "test")
+    program = tap.program("tests", "test")
     listed = subprocess.run([program, "--list"], stdout=subprocess.PIPE, text=True).stdout
     tests = {path.rpartition("::")[2]: path for path in re.findall(r"(?m)^(\S+): test$", listed)}
     yield "the tests are those listed", others(tests)

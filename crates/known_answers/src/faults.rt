@@ -1,105 +1,133 @@
 //! Readers and writers that fail, are short or fill up, at each call.
+ghost use Rattle.std.specs.Prelude.{◌<◌};
 
 use crate::inputs::{Call, print_input};
-use crate::page::{Answers, Bytes, Page, Pairs, found, rows, written};
+use crate::page::{Outcome, Page};
 use crate::streams::STREAM;
-use anyhow::Result;
-use fakes::expect::ErrorKind;
-use fakes::streams::{Cuts, Drip, FailAt, FailWrite, Silent};
+use crate::values::value;
+use fakes::{Cuts, Drip, FailAt, FailWrite, OUT_OF_MEMORY, Silent};
 use multihash::list::write_list;
 use multihash::no_std_io::Write;
-use multihash::{Error, Multihash};
-use std::alloc::Global;
-
-type Mh = Multihash<4>;
 
 const SCALE: [u8; 12] = [44, 1, 0, 0, 0, 0, 0, 0, 2, 65, 66, 9];
 
 // The call that writes what the other reads.
-fn write<W: Write>(alloc: Global, call: Call, w: &mut W) -> Result<String, Error> {
-    let m = Mh::wrap(300, b"AB")?;
-    let count = match call {
-        Call::Read => m.write(w)?,
-        Call::ScaleDecode => m.scale_encode(w)?,
+fn put_write<W: Write>(page: &mut Page, call: Call, w: &mut W) {
+    let m = value::<4>(300, "AB");
+    match call {
+        Call::Read => page.put(Outcome(m.write(w))),
+        Call::ScaleDecode => page.put(Outcome(m.scale_encode(w))),
         Call::ReadList(_) => {
-            write_list(&[Mh::wrap(0, b"A")?, Mh::wrap(18, b"B")?], w)?;
-            return Ok(format!(in alloc; "()")?);
+            page.put(Outcome(write_list(&[value::<4>(0, "A"), value(18, "B")], w)));
         }
-    };
-    Ok(format!(in alloc; "{count}")?)
+    }
 }
 
-fn print_reads(page: &mut Page, call: Call, input: &[u8]) -> Result<()> {
-    let alloc = page.alloc;
+fn put_failed_read(page: &mut Page, call: Call, input: &[u8], calls: usize, why: &'static str) {
+    let mut reader = FailAt::new(Cuts::new(input, 1), calls, why);
+    call.put::<4, _>(page, &mut reader);
+    page.put_left(reader.cuts.left);
+    page.answer("; ");
+}
+
+fn print_reads(page: &mut Page, call: Call, input: &[u8]) {
     for calls in 0..input.len() {
-        let mut answers = Answers::new(alloc);
-        for why in [ErrorKind::LINK_DOWN, ErrorKind::OutOfMemory] {
-            let mut reader = FailAt::new(Cuts::new(input, 1), calls, why);
-            let outcome = call.make::<4, _>(alloc, &mut reader);
-            answers.add("; ", found(alloc, &outcome, reader.cuts.left)?)?;
-        }
-        page.row(&format_args!("at call {}", calls + 1), &answers.text)?;
+        page.put("at call ");
+        page.put(calls + 1);
+        page.call("");
+        put_failed_read(page, call, input, calls, "link down");
+        put_failed_read(page, call, input, calls, OUT_OF_MEMORY);
+        page.end();
     }
-    let mut reader = FailAt::new(Cuts::new(input, 1), 0, ErrorKind::LINK_DOWN);
-    let _failed = call.make::<4, _>(alloc, &mut reader);
-    let again = call.make::<4, _>(alloc, &mut reader);
+    let mut reader = FailAt::new(Cuts::new(input, 1), 0, "link down");
+    call.put::<4, _>(page, &mut reader);
+    page.forget();
+    page.call("at call 1, read again");
+    call.put::<4, _>(page, &mut reader);
+    page.put_left(reader.cuts.left);
+    page.end();
     let mut silent = Silent(input);
-    let unknown = call.make::<4, _>(alloc, &mut silent);
-    rows!(page;
-        "at call 1, read again" => found(alloc, &again, reader.cuts.left)?,
-        "a reader of unknown input" => found(alloc, &unknown, silent.0)?,
-    );
-    print_input::<4>(page, call, input)
+    page.call("a reader of unknown input");
+    call.put::<4, _>(page, &mut silent);
+    page.put_left(silent.0);
+    page.end();
+    print_input::<4>(page, call, input);
+}
+
+fn put_failed_write(page: &mut Page, call: Call, len: usize, calls: usize) {
+    if let Ok(drip) = Drip::new(page.alloc, len, 1) {
+        let mut writer = FailWrite::<false>::new(drip, calls, "disk gone");
+        put_write(page, call, &mut writer);
+        page.put_written(&writer.drip.held);
+    }
+}
+
+fn put_short_write(page: &mut Page, call: Call, room: usize, most: usize)
+    requires { 0 < most }
+{
+    if let Ok(mut drip) = Drip::new(page.alloc, room, most) {
+        put_write(page, call, &mut drip);
+        page.put_written(&drip.held);
+    }
+    page.answer("; ");
+}
+
+fn put_slice_write(page: &mut Page, call: Call, room: usize) {
+    if let Ok(mut places) = vec![in page.alloc; 0u8; room] {
+        put_write(page, call, &mut places.as_mut_slice());
+        page.put_written(&places);
+    }
 }
 
 // That many bytes are written.
-fn print_writes(page: &mut Page, call: Call, len: usize) -> Result<()> {
-    let alloc = page.alloc;
+fn print_writes(page: &mut Page, call: Call, len: usize) {
     let end = len.saturating_add(1);
     for calls in 0..end {
-        let drip = Drip::new(alloc, len, 1)?;
-        let mut writer = FailWrite::<false>::new(drip, calls, ErrorKind::DISK_GONE);
-        let outcome = write(alloc, call, &mut writer);
-        let answer = written(alloc, &outcome, &writer.drip.held)?;
-        page.row(&format_args!("fails at call {}", calls + 1), &answer)?;
+        page.put("fails at call ");
+        page.put(calls + 1);
+        page.call("");
+        put_failed_write(page, call, len, calls);
+        page.end();
     }
-    let mut answers = Answers::new(alloc);
+    page.call("1 to 7 bytes a call");
     for most in 1..8 {
-        let mut drip = Drip::new(alloc, len, most)?;
-        let outcome = write(alloc, call, &mut drip);
-        answers.add("; ", written(alloc, &outcome, &drip.held)?)?;
+        put_short_write(page, call, len, most);
     }
-    page.row(&"1 to 7 bytes a call", &answers.text)?;
+    page.end();
     for room in 0..end {
-        let mut answers = Answers::new(alloc);
-        let mut drip = Drip::new(alloc, room, 1)?;
-        let outcome = write(alloc, call, &mut drip);
-        answers.add("; ", written(alloc, &outcome, &drip.held)?)?;
-        let mut places = vec![in alloc; 0; room]?;
-        let outcome = write(alloc, call, &mut places.as_mut_slice());
-        answers.add("; ", written(alloc, &outcome, &places)?)?;
-        rows!(page; format_args!("room for {room}, a slice of {room}") => answers.text);
+        page.put(format_args!("room for {room}, a slice of {room}"));
+        page.call("");
+        put_short_write(page, call, room, 1);
+        put_slice_write(page, call, room);
+        page.end();
     }
-    Ok(())
 }
 
-pub fn print_faults(page: &mut Page) -> Result<()> {
-    let calls: [(Call, &str, &str, &[u8]); 3] = [
-        (Call::Read, "read", "write", &[172, 2, 2, 65, 66, 9]),
-        (Call::ScaleDecode, "scale_decode", "scale_encode", &SCALE),
-        (Call::ReadList(2), "read_list", "write_list", &STREAM),
-    ];
-    for (call, reads, writes, input) in calls {
-        page.heading(&format_args!(
-            "{reads}::<4> of {}, over readers that fail once",
-            Bytes(input)
-        ))?;
-        print_reads(page, call, input)?;
-        let items = call.make::<4, _>(page.alloc, &mut { input })?;
-        page.heading(&format_args!(
-            "{writes} of {items}, to writers that fail once, or have room for so many bytes"
-        ))?;
-        print_writes(page, call, input.len().saturating_sub(1))?;
-    }
-    Ok(())
+fn print_faults_of(page: &mut Page, call: Call, (reads, writes): (&str, &str), input: &[u8]) {
+    page.put(reads);
+    page.put("::<4> of ");
+    page.put_bytes(input);
+    page.heading(", over readers that fail once");
+    print_reads(page, call, input);
+    page.put(writes);
+    page.put(" of ");
+    call.put::<4, _>(page, &mut { input });
+    page.heading(", to writers that fail once, or have room for so many bytes");
+    print_writes(page, call, input.len().saturating_sub(1));
+}
+
+pub fn print_faults(page: &mut Page) {
+    print_faults_of(page, Call::Read, ("read", "write"), &[172, 2, 2, 65, 66, 9]);
+    print_faults_of(
+        page,
+        Call::ScaleDecode,
+        ("scale_decode", "scale_encode"),
+        &SCALE,
+    );
+    print_faults_of(
+        page,
+        Call::ReadList(2),
+        ("read_list", "write_list"),
+        &STREAM,
+    );
 }

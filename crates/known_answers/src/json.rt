@@ -1,10 +1,10 @@
 //! JSON values.
 ghost use Rattle.std.specs.Prelude.{◌<◌, ◌^◌};
 
-use crate::page::{Page, Pair, found};
-use anyhow::Result;
+use crate::page::Page;
 use multihash::Multihash;
 use serde_json::Value;
+use std::alloc::{AllocError, Global};
 
 // Each text is separated by a blank.
 const TEXTS: &str =
@@ -19,32 +19,49 @@ const KINDS: &str =
     "null true false 0 7 255 256 18446744073709551615 -1 -9223372036854775808 -0 0.5 1.0 1e300 \
     \"\" \"0\" [] [0] [[]] {} {\"0\":0}";
 
-fn print_text<const S: usize>(page: &mut Page, text: &str) -> Result<()>
+fn print_text<const S: usize>(page: &mut Page, text: &str)
     requires { S < 2 ^ 16 }
 {
-    let outcome = Multihash::<S>::from_value(&Value::from_str(page.alloc, text)?).map(Pair);
-    let answer = found(page.alloc, &outcome, &[])?;
-    page.row(&format_args!("from_value::<{S}>({text})"), &answer)
+    page.put("from_value::<");
+    page.put(S);
+    page.put(">(");
+    page.put(text);
+    page.call(")");
+    if let Ok(value) = Value::from_str(page.alloc, text) {
+        page.put_found(Multihash::<S>::from_value(&value));
+    }
+    page.end();
 }
 
-pub fn print_json(page: &mut Page) -> Result<()> {
-    page.heading(&"JSON values")?;
-    for text in TEXTS.split(' ') {
-        print_text::<32>(page, text)?;
+fn print_member(page: &mut Page, kind: &str) {
+    if let Ok(text) = format!(in page.alloc; "[0,{kind}]") {
+        print_text::<255>(page, &text);
     }
-    for text in SHORT.split(' ') {
-        print_text::<2>(page, text)?;
-    }
-    let mut long = vec![in page.alloc; Value::from(0u8), Value::from(0u8)]?;
+}
+
+fn long_array(alloc: Global) -> Result<Value, AllocError> {
+    let mut long = vec![in alloc; Value::from(0u8), Value::from(0u8)]?;
     for _ in 0..100000 {
         long.push(Value::from(7u8))?;
     }
-    let outcome = Multihash::<2>::from_value(&Value::Array(long)).map(Pair);
-    let answer = found(page.alloc, &outcome, &[])?;
-    page.row(&"from_value::<2>([0,0] and 100000 members 7)", &answer)?;
-    for kind in KINDS.split(' ') {
-        print_text::<255>(page, kind)?;
-        print_text::<255>(page, &format!(in page.alloc; "[0,{kind}]")?)?;
+    Ok(Value::Array(long))
+}
+
+pub fn print_json(page: &mut Page) {
+    page.heading("JSON values");
+    for text in TEXTS.split(' ') {
+        print_text::<32>(page, text);
     }
-    Ok(())
+    for text in SHORT.split(' ') {
+        print_text::<2>(page, text);
+    }
+    page.call("from_value::<2>([0,0] and 100000 members 7)");
+    if let Ok(value) = long_array(page.alloc) {
+        page.put_found(Multihash::<2>::from_value(&value));
+    }
+    page.end();
+    for kind in KINDS.split(' ') {
+        print_text::<255>(page, kind);
+        print_member(page, kind);
+    }
 }

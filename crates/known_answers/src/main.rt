@@ -18,17 +18,17 @@ use page::Page;
 
 fn main(rt: HostRuntime) -> Result<()> {
     let mut page = Page::new(rt.alloc());
-    values::print_values(&mut page)?;
-    values::print_truncated(&mut page)?;
-    values::print_tail(&mut page)?;
-    values::print_order(&mut page)?;
-    inputs::print_inputs(&mut page)?;
-    json::print_json(&mut page)?;
-    streams::print_lists(&mut page)?;
-    streams::print_readers(&mut page)?;
-    streams::print_writers(&mut page)?;
-    faults::print_faults(&mut page)?;
-    errors::print_errors(&mut page)?;
-    print!(rt; "{}", page.text)?;
+    values::print_values(&mut page);
+    values::print_truncated(&mut page);
+    values::print_tail(&mut page);
+    values::print_order(&mut page);
+    inputs::print_inputs(&mut page);
+    json::print_json(&mut page);
+    streams::print_lists(&mut page);
+    streams::print_readers(&mut page);
+    streams::print_writers(&mut page);
+    faults::print_faults(&mut page);
+    errors::print_errors(&mut page);
+    print!(rt; "{}", page.finish()?)?;
     Ok(())
 }

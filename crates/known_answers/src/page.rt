@@ -1,130 +1,65 @@
 //! The page that is printed, and its notation.
-use multihash::Multihash;
+use multihash::{Error, Multihash};
 use std::alloc::Global;
 use std::fmt;
-use std::fmt::{Display, Write};
+use std::fmt::{Debug, Display, Write};
 
-/// Rows of calls and their answers.
+/// Rows, each by this method of a page, with its arguments.
 macro_rules! rows {
-    ($page:expr; $($call:expr => $answer:expr),+ $(,)?) => {
-        { $($page.row(&$call, &$answer)?;)+ }
+    ($page:expr; $($method:ident $call:expr => $($answer:expr),+;)+) => {
+        { $($page.$method($call, $($answer),+);)+ }
     };
 }
 
 pub(crate) use rows;
 
-#[derive(Clone, Copy)]
-pub struct Bytes<'a>(pub &'a [u8]);
+/// A value or the text of an error.
+#[derive(Drop)]
+pub struct Outcome<T, E>(pub Result<T, E>);
+
+impl<T: Debug, E: Display> Display for Outcome<T, E> {
+    fn fmt<W: fmt::Write>(&self, f: &mut fmt::Formatter<W>) -> fmt::Result {
+        match &self.0 {
+            Ok(value) => write!(f, "{value:?}"),
+            Err(e) => write!(f, "{e}"),
+        }
+    }
+}
 
 // Fewer letters are text, and this many equal bytes are written once.
 const MANY: usize = 16;
 
-impl Display for Bytes<'_> {
-    fn fmt<W: fmt::Write>(&self, f: &mut fmt::Formatter<W>) -> fmt::Result {
-        let is_letter = |byte: &u8| byte.is_ascii_alphabetic() || *byte == b' ';
-        if let Ok(text) = str::from_utf8(self.0)
-            && (1..MANY).contains(&text.len())
-            && self.0.iter().all(is_letter)
-        {
-            return write!(f, "{text:?}");
-        }
-        f.write_str("[")?;
-        let mut left = self.0;
-        for _ in 0..self.0.len() {
-            let Some((first, others)) = left.split_first() else {
-                break;
-            };
-            let more = others.iter().take_while(|byte| *byte == first).count();
-            write!(f, "{first:02x}")?;
-            left = others;
-            if more >= MANY - 1 {
-                write!(f, "*{}", more.saturating_add(1))?;
-                left = others.get(more..).unwrap_or(&[]);
-            }
-            f.write_str(if left.is_empty() { "" } else { " " })?;
-        }
-        f.write_str("]")
-    }
-}
-
-#[derive(Clone, Copy)]
-pub struct Pair<const S: usize>(pub Multihash<S>);
-
-impl<const S: usize> Display for Pair<S> {
-    fn fmt<W: fmt::Write>(&self, f: &mut fmt::Formatter<W>) -> fmt::Result {
-        write!(f, "({}, {})", self.0.code(), Bytes(self.0.digest()))
-    }
-}
-
-#[derive(Drop)]
-pub struct Pairs<const S: usize>(pub Vec<Multihash<S>>);
-
-impl<const S: usize> Display for Pairs<S> {
-    fn fmt<W: fmt::Write>(&self, f: &mut fmt::Formatter<W>) -> fmt::Result {
-        let mut comma = "";
-        for m in &self.0 {
-            write!(f, "{comma}{}", Pair(*m))?;
-            comma = ", ";
-        }
-        f.write_str(if self.0.is_empty() { "none" } else { "" })
-    }
-}
-
-/// A value or the text of an error, and what is left of an input.
-pub fn found<T: Display, E: Display>(
-    alloc: Global,
-    outcome: &Result<T, E>,
-    left: &[u8],
-) -> anyhow::Result<String> {
-    let mut text = match outcome {
-        Ok(value) => format!(in alloc; "{value}")?,
-        Err(e) => format!(in alloc; "{e}")?,
-    };
-    if !left.is_empty() {
-        write!(text, ", left {}", Bytes(left))?;
-    }
-    Ok(text)
-}
-
-/// A value or the text of an error, and all that was written.
-pub fn written<T: Display, E: Display>(
-    alloc: Global,
-    outcome: &Result<T, E>,
-    bytes: &[u8],
-) -> anyhow::Result<String> {
-    let text = found(alloc, outcome, &[])?;
-    Ok(format!(in alloc; "{text}, {}", Bytes(bytes))?)
-}
-
-/// The answers of a call that is made in several ways: each that differs from the one before it.
-#[derive(Drop)]
-pub struct Answers {
-    pub text: String,
-    last: String,
-}
-
-impl Answers {
-    pub fn new(alloc: Global) -> Self {
-        Answers {
-            text: String::new(alloc),
-            last: String::new(alloc),
+fn are_few_letters(bytes: &[u8]) -> bool {
+    for byte in bytes {
+        if !byte.is_ascii_alphabetic() && *byte != b' ' {
+            return false;
         }
     }
-
-    pub fn add(&mut self, way: &str, answer: String) -> anyhow::Result<()> {
-        if answer != self.last {
-            let way = if self.text.is_empty() { "" } else { way };
-            write!(self.text, "{way}{answer}")?;
-            self.last = answer;
-        }
-        Ok(())
-    }
+    0 < bytes.len() && bytes.len() < MANY
 }
 
+// The number of bytes at the start that are equal to this one.
+fn count_equal(byte: u8, bytes: &[u8]) -> usize {
+    for (count, other) in bytes.iter().enumerate() {
+        if *other != byte {
+            return count;
+        }
+    }
+    bytes.len()
+}
+
+/// Rows of calls and their answers, each of which is put together of parts.
+///
+/// No method returns an error, so that no proof has a case for one. Instead `finish` does.
 #[derive(Drop)]
 pub struct Page {
     pub alloc: Global,
-    pub text: String,
+    text: String,
+    // The parts of the heading, the call or the answer at hand.
+    parts: String,
+    // The last answer of the row.
+    last: String,
+    failed: bool,
 }
 
 impl Page {
@@ -132,18 +67,171 @@ impl Page {
         Page {
             alloc,
             text: String::new(alloc),
+            parts: String::new(alloc),
+            last: String::new(alloc),
+            failed: false,
         }
     }
 
-    pub fn heading(&mut self, text: &impl Display) -> anyhow::Result<()> {
-        let space = if self.text.is_empty() { "" } else { "\n" };
-        Ok(writeln!(self.text, "{space}# {text}\n")?)
+    /// The text of the page.
+    pub fn finish(self) -> anyhow::Result<String> {
+        anyhow::ensure!(!self.failed, "out of memory");
+        Ok(self.text)
     }
 
-    pub fn row(&mut self, call: &impl Display, answer: &impl Display) -> anyhow::Result<()> {
-        let start = self.text.len();
-        write!(self.text, "{call}")?;
-        let pad = 56usize.saturating_sub(self.text.len().saturating_sub(start));
-        Ok(writeln!(self.text, "{:pad$}  {answer}", "")?)
+    fn print(&mut self, text: &str) {
+        self.failed |= self.text.push_str(text).is_err();
+    }
+
+    fn print_parts(&mut self) {
+        self.failed |= self.text.push_str(&self.parts).is_err();
+    }
+
+    pub fn put(&mut self, part: impl Display + Drop) {
+        self.failed |= write!(self.parts, "{part}").is_err();
+    }
+
+    pub fn put_bytes(&mut self, bytes: &[u8]) {
+        if are_few_letters(bytes) {
+            self.put("\"");
+            self.put(str::from_utf8(bytes).unwrap_or(""));
+            self.put("\"");
+            return;
+        }
+        self.put("[");
+        let mut left = bytes;
+        for _ in 0..bytes.len() {
+            let Some((first, others)) = left.split_first() else {
+                break;
+            };
+            self.put(if left.len() < bytes.len() { " " } else { "" });
+            self.put(format_args!("{first:02x}"));
+            left = others;
+            let count = count_equal(*first, others);
+            if count >= MANY - 1 {
+                self.put("*");
+                self.put(count.saturating_add(1));
+                left = others.get(count..).unwrap_or(&[]);
+            }
+        }
+        self.put("]");
+    }
+
+    pub fn put_pair<const S: usize>(&mut self, m: Multihash<S>) {
+        self.put("(");
+        self.put(m.code());
+        self.put(", ");
+        self.put_bytes(m.digest());
+        self.put(")");
+    }
+
+    /// The value or the text of the error.
+    pub fn put_found<const S: usize>(&mut self, outcome: Result<Multihash<S>, Error>) {
+        match outcome {
+            Ok(m) => self.put_pair(m),
+            Err(e) => self.put(e),
+        }
+    }
+
+    /// What is left of an input.
+    pub fn put_left(&mut self, left: &[u8]) {
+        if !left.is_empty() {
+            self.put(", left ");
+            self.put_bytes(left);
+        }
+    }
+
+    /// All that was written.
+    pub fn put_written(&mut self, bytes: &[u8]) {
+        self.put(", ");
+        self.put_bytes(bytes);
+    }
+
+    /// The parts, and this last one, are a heading.
+    pub fn heading(&mut self, part: &str) {
+        self.put(part);
+        let start = if self.text.is_empty() { "# " } else { "\n# " };
+        self.print(start);
+        self.print_parts();
+        self.print("\n\n");
+        self.parts.clear();
+    }
+
+    /// The parts, and this last one, are the call of a row.
+    pub fn call(&mut self, part: &str) {
+        self.put(part);
+        self.failed |= write!(self.text, "{:56}  ", self.parts).is_err();
+        self.parts.clear();
+        self.last.clear();
+    }
+
+    /// The parts are an answer. If it differs from the one before, it is printed after the way in which that call
+    /// was made.
+    pub fn answer(&mut self, way: impl Display + Drop) {
+        if self.parts != self.last {
+            if !self.last.is_empty() {
+                self.failed |= write!(self.text, "{way}").is_err();
+            }
+            self.print_parts();
+            std::mem::swap(&mut self.parts, &mut self.last);
+        }
+        self.parts.clear();
+    }
+
+    /// The parts are no answer.
+    pub fn forget(&mut self) {
+        self.parts.clear();
+    }
+
+    /// The parts are the last answer of a row.
+    pub fn end(&mut self) {
+        self.answer("");
+        self.print("\n");
+    }
+
+    pub fn row(&mut self, call: &str, answer: impl Display + Drop) {
+        self.call(call);
+        self.put(answer);
+        self.end();
+    }
+
+    pub fn bytes(&mut self, call: &str, bytes: &[u8]) {
+        self.call(call);
+        self.put_bytes(bytes);
+        self.end();
+    }
+
+    pub fn pair<const S: usize>(&mut self, call: &str, m: Multihash<S>) {
+        self.call(call);
+        self.put_pair(m);
+        self.end();
+    }
+
+    pub fn encoded(&mut self, call: &str, outcome: Result<Vec<u8>, Error>) {
+        match outcome {
+            Ok(bytes) => self.bytes(call, &bytes),
+            Err(e) => self.row(call, e),
+        }
+    }
+
+    /// A call that reads, and what it left.
+    pub fn found<const S: usize>(
+        &mut self,
+        call: &str,
+        outcome: Result<Multihash<S>, Error>,
+        left: &[u8],
+    ) {
+        self.call(call);
+        self.put_found(outcome);
+        self.put_left(left);
+        self.end();
+    }
+
+    /// A call that writes, and all that it wrote.
+    pub fn written(&mut self, call: &str, answer: impl Display + Drop, bytes: &[u8]) {
+        self.call(call);
+        self.put(answer);
+        self.put_written(bytes);
+        self.end();
     }
 }

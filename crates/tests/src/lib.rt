@@ -1,10 +1,14 @@
-//! Tests of what no contract states, by subject.
+//! Tests of what no contract states, by subject, and known values of callers.
 #![tactic(auto)]
 
 #[cfg(test)]
-mod errors;
+mod callers;
+#[cfg(test)]
+mod memory;
 #[cfg(test)]
 mod readers;
+#[cfg(test)]
+mod support;
 #[cfg(test)]
 mod values;
 #[cfg(test)]

@@ -1,8 +1,5 @@
 //! Values: what `Debug` prints.
-ghost use Rattle.std.specs.Prelude.{◌<◌, ◌^◌};
-
-use fakes::forms::{CASES, case, different};
-use fakes::{check, check_eq, expect_ok};
+use crate::support::expect::{check, check_eq, expect_ok};
 use multihash::{Head, Multihash, MultihashGeneric, no_std_io};
 use serde_json::Value;
 use std::alloc::Global;
@@ -12,38 +9,6 @@ use std::process::Abort;
 fn expect_shown<D: Debug>(rt: &impl Abort, alloc: Global, shown: &D, wanted: &str) {
     let found = expect_ok!(rt; format!(in alloc; "{shown:?}"));
     check_eq!(rt; found.as_str(), wanted);
-}
-
-fn expect_value_shown<const S: usize>(rt: &impl Abort, alloc: Global, code: u64, digest: &[u8])
-    requires { S < 2 ^ 16 }
-{
-    let m = expect_ok!(rt; Multihash::<S>::wrap(code, digest));
-    let size = digest.len();
-    let wanted = format!(in alloc;
-        "Multihash {{ code: {code}, size: {size}, digest: {digest:?} }}"
-    );
-    expect_shown(rt, alloc, &m, expect_ok!(rt; wanted).as_str());
-}
-
-fn expect_values_shown<const S: usize>(rt: &impl Abort, alloc: Global)
-    requires { S < 2 ^ 16 }
-{
-    let mut bytes = different();
-    bytes[5] = 0;
-    for n in 0..CASES {
-        if let Some((code, digest)) = case(&bytes, S, n) {
-            expect_value_shown::<S>(rt, alloc, code.0, digest);
-        }
-    }
-}
-
-#[test]
-fn values_of_each_length_are_shown(rt: HostRuntime) {
-    expect_values_shown::<0>(&rt, rt.alloc());
-    expect_values_shown::<32>(&rt, rt.alloc());
-    expect_values_shown::<64>(&rt, rt.alloc());
-    expect_values_shown::<255>(&rt, rt.alloc());
-    expect_values_shown::<300>(&rt, rt.alloc());
 }
 
 // The bytes that `truncate` left in the buffer are not shown.

@@ -6,7 +6,7 @@
 ghost use Rattle.std.specs.Prelude.{◌≤◌, ◌<◌};
 
 use anyhow::{Context, Result, bail};
-use fakes::streams::Cuts;
+use fakes::Cuts;
 use multihash::{Error, Multihash};
 use serde_json::Value;
 use std::alloc::Global;

@@ -3,11 +3,11 @@
 //! turn: the call then has to return out of memory, and the test fails with `FAILED`.
 ghost use Rattle.std.specs.Prelude.{◌<◌, ◌^◌};
 
+use crate::support::expect::{check, check_eq, expect_ok, is_passed_on};
+use crate::support::samples::{Form, samples};
 use examples::any_reader::read_up_to;
 use examples::forms::{json, scale, there_and_back};
-use fakes::expect::{ErrorKind, is_rejected};
-use fakes::forms::{CASES, USUAL, case, different};
-use fakes::{check, check_eq, expect_ok};
+use fakes::OUT_OF_MEMORY;
 use form::{Counted, FormError};
 use multihash::list::{read_list, write_list};
 use multihash::no_std_io::Write;
@@ -28,23 +28,15 @@ fn capacity_of(value: &Value) -> usize {
     }
 }
 
-fn expect_kept<const S: usize>(rt: &impl Abort, alloc: Global, code: u64, digest: &[u8])
-    requires { S < 2 ^ 16 }
-{
-    let m = expect_ok!(rt; Multihash::<S>::wrap(code, digest));
-    let len = m.encoded_len();
-    check_eq!(rt; expect_ok!(rt; m.to_bytes(alloc)).capacity(), len);
-    check_eq!(rt; capacity_of(&expect_ok!(rt; m.to_value(alloc))), len);
-    check!(rt; expect_ok!(rt; m.clone()) == m, len);
-}
-
 fn expect_each_kept<const S: usize>(rt: &impl Abort, alloc: Global)
     requires { S < 2 ^ 16 }
 {
-    let bytes = different();
-    for n in 0..CASES {
-        if let Some((code, digest)) = case(&bytes, S, n) {
-            expect_kept::<S>(rt, alloc, code.0, digest);
+    for sample in &expect_ok!(rt; samples::<S>(alloc, &[Form::Binary], 0)) {
+        for m in &sample.items {
+            let len = m.encoded_len();
+            check_eq!(rt; expect_ok!(rt; m.to_bytes(alloc)).capacity(), len);
+            check_eq!(rt; capacity_of(&expect_ok!(rt; m.to_value(alloc))), len);
+            check!(rt; expect_ok!(rt; m.clone()) == *m, len);
         }
     }
 }
@@ -60,9 +52,7 @@ const FAILED: &str = "an allocation failed";
 
 // Otherwise it is out of memory.
 fn succeeded<T>(rt: &impl Abort, outcome: &Result<T, Error>) -> bool {
-    if let Err(e) = outcome {
-        check_eq!(rt; ErrorKind::of(e), Some(ErrorKind::OutOfMemory));
-    }
+    check!(rt; outcome.is_ok() || is_passed_on(outcome, OUT_OF_MEMORY));
     outcome.is_ok()
 }
 
@@ -114,7 +104,8 @@ fn reserves_lists<const S: usize>(rt: &impl Abort, alloc: Global, counts: &[usiz
         let input = [0u8; 2];
         let mut left = input.as_slice();
         let outcome = read_list::<S, _>(alloc, &mut left, *count);
-        if !is_rejected(&outcome, ErrorKind::Insufficient) && !succeeded(rt, &outcome) {
+        let is_read = matches!(&outcome, Err(e) if e.is_insufficient());
+        if !is_read && !succeeded(rt, &outcome) {
             check_eq!(rt; left.len(), 2);
             return false;
         }
@@ -211,7 +202,7 @@ fn allocating_claimed_length(rt: HostRuntime) -> Result<(), Fail> {
     let mut claimed = [128u8; 10009];
     claimed[8] = 64;
     let outcome = of_entry(frame::read(rt.alloc(), &mut claimed.as_slice(), usize::MAX));
-    unless_failed(is_rejected(&outcome, ErrorKind::UnexpectedEof) || succeeded(&rt, &outcome))
+    unless_failed(is_passed_on(&outcome, "failed to fill whole buffer") || succeeded(&rt, &outcome))
 }
 
 #[test]
@@ -263,12 +254,12 @@ fn expect_without_memory<const S: usize>(rt: &impl Abort, alloc: Global, code: u
 
 #[test]
 fn calls_over_slices_need_no_memory(rt: HostRuntime) {
-    for (code, _) in USUAL {
+    for code in [18, 30, u64::MAX / 2] {
         expect_without_memory::<32>(&rt, rt.alloc(), code);
         expect_without_memory::<300>(&rt, rt.alloc(), code);
     }
     let empty = Value::Array(Vec::new(rt.alloc()));
-    check!(&rt; is_rejected(&Multihash::<4>::from_value(&empty), ErrorKind::Insufficient));
-    check!(&rt; is_rejected(&Multihash::<4>::from_value(&Value::Null), ErrorKind::NotBytes));
-    check!(&rt; is_rejected(&Multihash::<4>::wrap(0, &[65; 5]), ErrorKind::InvalidSize(5)));
+    check!(&rt; Multihash::<4>::from_value(&empty).is_err_and(|e| e.is_insufficient()));
+    check!(&rt; Multihash::<4>::from_value(&Value::Null).is_err_and(|e| e.is_not_bytes()));
+    check!(&rt; Multihash::<4>::wrap(0, &[65; 5]).is_err_and(|e| e.invalid_size() == Some(5)));
 }

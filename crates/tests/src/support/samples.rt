@@ -1,18 +1,19 @@
-//! What tests go over: codes with their varints, digests of different bytes, and samples: values in each
-//! form, with their bytes, which are made here and not by the library.
+//! Samples: values in each form, with their bytes, which are made here and not by the library.
 ghost use Rattle.std.specs.Prelude.{◌<◌, ◌^◌};
 
-use crate::expect::LARGEST_CODE;
 use multihash::list::{read_list, write_list};
 use multihash::no_std_io::{Read, Write};
 use multihash::{Error, Multihash};
 use std::alloc::{AllocError, Global};
 
+// The largest code of a multihash: 2^63 - 1.
+const LARGEST_CODE: u64 = 9223372036854775807;
+
 /// A code, and its varint.
 pub type Code = (u64, &'static [u8]);
 
-/// The smallest code of each number of bytes, and the largest of all.
-pub const CODES: [Code; 10] = [
+/// The smallest code of each number of bytes, the largest of all, and that of SHA2-256.
+const CODES: [Code; 11] = [
     (1, &[1]),
     (128, &[128, 1]),
     (1 << 14, &[128, 128, 1]),
@@ -23,17 +24,11 @@ pub const CODES: [Code; 10] = [
     (1 << 49, &[128, 128, 128, 128, 128, 128, 128, 1]),
     (1 << 56, &[128, 128, 128, 128, 128, 128, 128, 128, 1]),
     (LARGEST_CODE, &[255, 255, 255, 255, 255, 255, 255, 255, 127]),
-];
-
-/// Codes of usual hash functions (sha2-256, blake3), and one of nine bytes.
-pub const USUAL: [Code; 3] = [
     (18, &[18]),
-    (30, &[30]),
-    (LARGEST_CODE, &[255, 255, 255, 255, 255, 255, 255, 255, 127]),
 ];
 
 /// The bytes 1 to 255: no two are alike, and none is 0.
-pub fn different() -> [u8; 255] {
+fn different() -> [u8; 255] {
     let mut bytes = [0u8; 255];
     let mut last = 0u8;
     for place in &mut bytes {
@@ -41,35 +36,6 @@ pub fn different() -> [u8; 255] {
         *place = last;
     }
     bytes
-}
-
-/// 70,125 bytes, of which none is 0.
-pub fn many(alloc: Global) -> Result<Vec<u8>, AllocError> {
-    let mut bytes = Vec::with_capacity(alloc, 70125)?;
-    for _ in 0..275 {
-        bytes.extend_from_slice(&different())?;
-    }
-    Ok(bytes)
-}
-
-/// The number of lengths of a digest, and that of all cases.
-pub const LENGTHS: usize = 256;
-
-pub const CASES: usize = 265;
-
-/// The digest of each length up to 255, with the codes in turn, and after these the usual codes, each with
-/// the lengths of usual digests and the longest that fits the capacity. `None` if a digest does not fit.
-pub fn case(bytes: &[u8; 255], capacity: usize, n: usize) -> Option<(Code, &[u8])> {
-    let usual = n.saturating_sub(LENGTHS);
-    let (code, len) = if n < LENGTHS {
-        (CODES[n % 10], n)
-    } else {
-        (USUAL[usual / 3 % 3], [20, 32, capacity.min(255)][usual % 3])
-    };
-    if len > capacity {
-        return None;
-    }
-    Some((code, bytes.get(..len)?))
 }
 
 /// A form, which one call reads and another writes.
@@ -128,7 +94,7 @@ pub struct Sample<const S: usize> {
     ghost small: { S < 2 ^ 16 },
 }
 
-/// The samples of each case from that number on, in each of the forms.
+/// The samples of each length of a digest from that on, in each of the forms, with the codes in turn.
 pub fn samples<const S: usize>(
     alloc: Global,
     forms: &[Form],
@@ -138,13 +104,12 @@ pub fn samples<const S: usize>(
 {
     let digests = different();
     let mut samples = Vec::new(alloc);
-    for n in from..CASES {
-        if let Some((code, digest)) = case(&digests, S, n) {
-            for form in forms {
-                let mut sample = Sample::new(alloc, *form, code, digest)?;
-                sample.each_byte = matches!(n, 0 | 2 | 20 | 32 | 64 | 255);
-                samples.push(sample)?;
-            }
+    for len in from..S.min(255) + 1 {
+        for form in forms {
+            let digest = digests.get(..len).unwrap_or(&[]);
+            let mut sample = Sample::new(alloc, *form, CODES[len % 11], digest)?;
+            sample.each_byte = matches!(len, 0 | 2 | 20 | 32 | 64 | 255);
+            samples.push(sample)?;
         }
     }
     Ok(samples)

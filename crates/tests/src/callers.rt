@@ -1,9 +1,10 @@
 //! Callers, in `examples`, `form` and `storage`: a reader of `std`, and known values.
+ghost use Rattle.std.specs.Prelude.{◌<◌};
+
+use crate::support::expect::{check, check_eq, expect_ok};
 use examples::std_reader::StdReader;
 use examples::{formats, loops};
-use fakes::expect::ErrorKind;
-use fakes::streams::{Cuts, FailAt};
-use fakes::{check, check_eq, expect_bytes, expect_ok, expect_rejected};
+use fakes::{Cuts, FailAt};
 use form::{FormError, OneOf};
 use multihash::Multihash;
 use multihash::no_std_io::Read;
@@ -18,60 +19,47 @@ const IDENTIFIER: [u8; 36] = [
     0x7b, 0x9a, 0xf0, 0xb4,
 ];
 
-// Where the other fails, it fails twice, first by an interruption.
+// A failure of the other is an interruption.
 #[derive(Drop)]
-struct Std<'a>(FailAt<'a>, bool);
+struct Std<'a>(FailAt<'a>);
 
 impl std::io::Read for Std<'_> {
     fn read(&mut self, buf: &mut [u8]) -> std::io::Result<usize> {
-        self.1 = !self.1
-            && match self.0.read(buf) {
-                Ok(n) => return Ok(n),
-                Err(_) => true,
-            };
-        let kind = if self.1 {
-            std::io::ErrorKind::Interrupted
-        } else {
-            std::io::ErrorKind::Other
-        };
-        Err(kind.into())
+        match self.0.read(buf) {
+            Ok(n) => Ok(n),
+            Err(_) => Err(std::io::ErrorKind::Interrupted.into()),
+        }
     }
 }
 
-// No contract states what is read. It fails twice, and nothing is lost. A call of the inner reader returns at
-// most `most` bytes, and the buffer of each call has `room`.
-fn expect_std(rt: &impl Abort, bytes: &[u8], (most, room): (usize, usize), at: usize) {
-    let most = most.max(1);
-    let inner = FailAt::new(Cuts::new(bytes, most), at, ErrorKind::LINK_DOWN);
-    let mut reader = StdReader::new(Std(inner, false));
+// No contract states what is read. A call fails once, and nothing is lost.
+fn expect_std(rt: &impl Abort, bytes: &[u8], most: usize, at: usize)
+    requires { 0 < most }
+{
+    let inner = FailAt::new(Cuts::new(bytes, most), at, "");
+    let mut reader = StdReader::new(Std(inner));
     let mut buffer = [0u8; 200];
     let mut filled = 0usize;
-    let mut calls = 0usize;
+    let mut failed = 0usize;
     for _ in 0..200 {
-        let end = filled.saturating_add(room).min(200);
-        match reader.read(buffer.get_mut(filled..end).unwrap_or(&mut [])) {
+        match reader.read(buffer.get_mut(filled..).unwrap_or(&mut [])) {
             Ok(0) => break,
             Ok(n) => filled = filled.saturating_add(n),
             Err(e) => {
-                check!(rt; calls == at || calls == at.saturating_add(1), (calls, at));
-                check!(rt; e.is_other() && e.text() == "not read");
+                check_eq!(rt; e.text(), "not read");
+                failed = failed.saturating_add(1);
             }
         }
-        calls = calls.saturating_add(1);
     }
-    expect_bytes!(rt; buffer.get(..filled).unwrap_or(&[]), bytes);
-    let parts = bytes.len().div_ceil(most.min(room).min(64).max(1));
-    let failed = if at <= parts { 2 } else { 0 };
-    check_eq!(rt; calls, parts.saturating_add(failed), (most, room, at));
+    check_eq!(rt; buffer.get(..filled).unwrap_or(&[]), bytes);
+    check_eq!(rt; failed, 1, (most, at));
 }
 
 #[test]
 fn a_reader_of_std_is_read(rt: HostRuntime) {
-    let bytes = fakes::forms::different();
-    for len in 0..150 {
-        for limits in [(1, 200), (64, 200), (200, 200), (200, 1), (200, 65)] {
-            expect_std(&rt, bytes.get(..len).unwrap_or(&[]), limits, len % 3);
-        }
+    for most in [1, 64, 200] {
+        expect_std(&rt, &LOG, most, 0);
+        expect_std(&rt, &LOG, most, 1);
     }
 }
 
@@ -83,7 +71,8 @@ fn codes_of_a_stream_are_read(rt: HostRuntime) {
     let codes = expect_ok!(&rt; loops::codes(rt.alloc(), &stream));
     check!(&rt; matches!(codes.as_slice(), [0x13, 0]));
     stream[1] = 65;
-    expect_rejected!(&rt; &loops::codes(rt.alloc(), &stream), ErrorKind::InvalidSize(65), ());
+    let outcome = loops::codes(rt.alloc(), &stream);
+    check!(&rt; outcome.is_err_and(|e| e.invalid_size() == Some(65)));
 }
 
 // The entries of `one` and of no bytes, with their SHA-256 from another implementation.
@@ -97,7 +86,7 @@ const LOG: [u8; 73] = [
 
 #[test]
 fn a_known_log_is_valid(rt: HostRuntime) {
-    expect_bytes!(&rt; valid_prefix(&LOG), &LOG);
+    check_eq!(&rt; valid_prefix(&LOG), LOG.as_slice());
 }
 
 #[test]
@@ -120,7 +109,7 @@ fn known_identifiers_are_read(rt: HostRuntime) {
             OneOf::First(case) => case.value.first.value == 0x55 && case.value.second.digest() == &bytes[4..],
             OneOf::Second(case) => case.value.second.bytes.as_slice() == &bytes[2..],
         });
-        expect_bytes!(&rt; &expect_ok!(&rt; form::to_bytes(alloc, &id)), bytes);
+        check_eq!(&rt; expect_ok!(&rt; form::to_bytes(alloc, &id)).as_slice(), bytes);
         check_eq!(&rt; form::encoded_len(&id), bytes.len() as u64);
         for len in 0..bytes.len() {
             let outcome = formats::read_identifier(alloc, &bytes[..len]);

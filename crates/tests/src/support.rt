@@ -1,0 +1,3 @@
+//! What the tests use: checks, and samples in each encoding.
+pub mod expect;
+pub mod samples;
