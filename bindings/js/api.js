@@ -1,4 +1,4 @@
-// What each entry exports: index.js, inline.js and module.js.
+// What all three entries of the package export: index.js, inline.js and module.js.
 export {
   DIGEST_MAX, HEAD_MAX, LENGTH_MAX, SCALE_LENGTH_MAX, Multihash, compare, decode, encode, encodedLength, head, read,
   scaleDecode, scaleEncode, version,

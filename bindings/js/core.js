@@ -233,7 +233,7 @@ function found() {
 /** Why the result of a decoding is an error: the parts of the input before it are decoded again. */
 function reasonOf(status, length, taken, limit) {
   if (status !== 'invalid_size' && status !== 'unexpected_eof')
-    return malformed(status, memory.subarray(first), length, taken);
+    return malformed(status, memory.subarray(first), length);
   library.multihash_head(resultAt, firstAt, NUMBERS[Math.min(length, PREFIX_MAX)]);
   const [digestLength, headLength] = [wide(4), words[6]];
   if (status === 'unexpected_eof') return truncated('digest', length - headLength, digestLength);

@@ -46,10 +46,10 @@ export const tooLarge = (code) => `the code ${code} is 2^63 or more`;
 export const trailing = (count) => `${counted(count, 'follow')} the multihash`;
 export const truncated = (part, count, length) => `the input ends inside the ${part} (${count} of ${length} bytes)`;
 
-/** What is wrong with the varints at the start of an input of that length, of which `taken` bytes were consumed. */
-export function malformed(status, input, length, taken) {
+/** What is wrong with the varints at the start of an input of that length. */
+export function malformed(status, input, length) {
   const codeEnd = input.subarray(0, Math.min(length, 9)).findIndex((byte) => byte < 128) + 1;
-  const isCode = codeEnd === 0 || (status === 'not_minimal' && taken === codeEnd);
+  const isCode = codeEnd === 0 || (status === 'not_minimal' && codeEnd > 1 && input[codeEnd - 1] === 0);
   const name = isCode ? 'code' : "digest's length";
   if (status === 'overflow') return `the varint of the ${name} has more than nine bytes`;
   if (status === 'not_minimal') return `the varint of the ${name} is not minimal: it ends in a zero byte`;

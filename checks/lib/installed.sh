@@ -1,5 +1,5 @@
 # shellcheck shell=bash
-# For checks of installations of the library for C, after tap.sh: builds it by CMake, and says what a prefix has.
+# For checks of installations of the library for C, after tap.sh: builds it by CMake, and lists the files of an installation.
 # shellcheck disable=SC2034,SC2154 # what others use, or have set
 # shellcheck source=checks/lib/c.sh
 . checks/lib/c.sh

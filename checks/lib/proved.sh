@@ -1,6 +1,6 @@
 # shellcheck shell=bash
-# For c_library.t and test.sh of bindings/js, after tap.sh: they build crates in a copy, $PROVED, which begins with what
-# c_library.t proved in the same run of .ci/run. What it did not prove is proved in the copy.
+# For c_library.t and test.sh of bindings/js, after tap.sh: makes $PROVED, a copy of the crates in which they build, with
+# the proofs that c_library.t made in this run of .ci/run, if there are any.
 
 # shellcheck disable=SC2154 # tap.sh has the work folder
 export PROVED=$work/copy

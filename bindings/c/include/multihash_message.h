@@ -64,8 +64,9 @@ static inline int mh_message_malformed(char *text, size_t text_size, const uint8
  * `limit` is that of multihash_read_limit, and MULTIHASH_DIGEST_MAX for the others. After multihash_read_many has
  * failed, `bytes` is what follows the items.
  *
- * Only the first MULTIHASH_HEAD_MAX bytes are accessed: for a caller of multihash_from_prefix they suffice, with the
- * length of the whole input as `bytes_length`.
+ * Only the first MULTIHASH_HEAD_MAX bytes are accessed, or `bytes_length` if that is less. So a caller of
+ * multihash_from_prefix may pass the length of the whole input, but then `bytes` has to contain that many bytes, even if
+ * multihash_from_prefix needed fewer.
  *
  * Returns: the length of the message. */
 static inline int multihash_message(char *text, size_t text_size, const uint8_t *bytes, size_t bytes_length,

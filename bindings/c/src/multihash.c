@@ -287,7 +287,7 @@ static inline mh_usize_or_error mh_varint_len(uint64_t n)
 }
 
 /* ---- multihash/src/varint/word.rt
- * The varint at the front of a slice, from one word of its first bytes. */
+ * Reads the varint at the front of a slice from one word of 128 bits, with its first bytes. */
 
 /* The bytes of a word. */
 #define MH_WORD_LEN ((size_t)16)

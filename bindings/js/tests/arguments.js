@@ -181,6 +181,7 @@ const CASES = [
   ['12', "the input ends before the digest's length", 'insufficient'],
   ['1280', "the input ends inside the digest's length", 'insufficient'],
   ['8000', 'the varint of the code is not minimal: it ends in a zero byte', 'not_minimal'],
+  ['92000107', 'the varint of the code is not minimal: it ends in a zero byte', 'not_minimal'],
   ['01808000', "the varint of the digest's length is not minimal: it ends in a zero byte", 'not_minimal'],
   [`${'ff'.repeat(8)}7f8100`, "the varint of the digest's length is not minimal: it ends in a zero byte", 'not_minimal'],
   ['ff'.repeat(9), 'the varint of the code has more than nine bytes', 'overflow'],

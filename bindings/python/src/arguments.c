@@ -1,4 +1,4 @@
-/* Arguments of functions, and their errors. */
+/* Converts the arguments of functions to C, and raises the errors of wrong ones. */
 #include "core.h"
 
 PyObject *attribute_of(PyObject *object, const char *text)

@@ -1,5 +1,5 @@
-/* The functions of verified_multihash over the library for C, its errors and the module, whose state is the type and
- * how errors are made. */
+/* The functions of verified_multihash over the library for C, its errors and the module. Its state is the type, and the
+ * class of errors. */
 #include "core.h"
 
 long version;

@@ -1,4 +1,4 @@
-//! Prints the error of a format that has sequences of numbers and no bytes.
+//! A program of rust.t: prints the error of a serde format that has sequences of numbers and no bytes.
 use serde::{Serialize, Serializer};
 
 fn main() {

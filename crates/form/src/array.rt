@@ -1,4 +1,4 @@
-//! Bytes whose number the type has.
+//! Exactly `N` bytes, without a length before them.
 ghost use Rattle.std.specs.Prelude.{◌≡◌, ◌<◌, length};
 
 use crate::{Form, FormError};

@@ -1,4 +1,4 @@
-//! A writer that counts.
+//! A writer that counts bytes and keeps none.
 use multihash::no_std_io::{Error, Write};
 
 /// A writer that counts the bytes, up to `u64::MAX`.

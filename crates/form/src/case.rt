@@ -1,4 +1,4 @@
-//! The two cases of a choice.
+//! The two variants of [`OneOf`](crate::OneOf), each with its tag in its type.
 ghost use Rattle.std.specs.Prelude.{◌≢◌, ◌<◌};
 ghost use Rattle.multihash.specs.Varint.{varint_limit};
 

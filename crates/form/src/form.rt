@@ -1,4 +1,4 @@
-//! Values with one encoding.
+//! The trait of types whose values have exactly one encoding each.
 ghost use Rattle.std.specs.Prelude.{◌≡◌, ◌++◌, ◌<◌, ℕ, List, length, OnOk, OnErr, IfOk, IfErr};
 ghost use Rattle.multihash.specs.Consuming.{ConsumesSome};
 ghost use Rattle.multihash.specs.Reading.{CountsReaderFailures};

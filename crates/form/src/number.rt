@@ -1,4 +1,4 @@
-//! A number and a tag, each as a varint.
+//! A number below 2^63, as its varint.
 ghost use Rattle.std.specs.Prelude.{◌≡◌, ◌<◌};
 ghost use Rattle.multihash.specs.Varint.{varint_limit};
 

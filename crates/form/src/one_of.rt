@@ -1,4 +1,4 @@
-//! A tag that determines what follows it.
+//! One of two formats, which the tag at the start of the encoding tells apart.
 ghost use Rattle.std.specs.Prelude.{◌≡◌, ◌≢◌, ◌⊎◌, ℕ};
 
 use crate::case::{Case, OtherCase};

@@ -1,5 +1,5 @@
-//! Fixes what the parts expose to contracts. These functions do nothing: their clauses pin the ghost members, which
-//! the laws alone leave open.
+//! What callers can know of each part beyond the laws of the trait, as the contracts of functions that do nothing. If a
+//! part exposed less, its proof here would fail.
 ghost use Rattle.std.specs.Prelude.{◌≡◌, ◌≢◌, ◌<◌, ◌↔◌, ◌⊎◌, ℕ, List, length};
 ghost use Rattle.multihash.specs.Multihash.{pair_of};
 ghost use Rattle.multihash.specs.Varint.{IsVarint};

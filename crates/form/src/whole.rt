@@ -1,4 +1,4 @@
-//! Calls for any form: their contracts follow from those of the trait.
+//! The functions that read and write a value of any form. Their contracts follow from those of the trait.
 ghost use Rattle.std.specs.Prelude.{◌≡◌, ◌≢◌, ◌⊎◌, ◌^◌, ◌-◌, ℕ, List, [], ◌++◌, length, min, Some, MatchResult, IfOk, IfErr, IsErrAnd};
 ghost use Rattle.multihash.specs.Bytes.{IsStrictPrefix};
 ghost use Rattle.multihash.specs.Consuming.{ConsumesSome};

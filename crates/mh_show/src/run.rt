@@ -1,4 +1,4 @@
-//! The whole program, over any input and outputs.
+//! What `main` does, over any input and outputs, so that it can be proved, and tested in memory.
 ghost use Rattle.std.specs.Prelude.{◌≡◌, ◌≤◌, ◌<◌, ◌⊎◌, length, take, IfOk, IfErr, OnOk, OnErr};
 ghost use Rattle.std.specs.Io.KnownBytes.{Appends, Consumes as ReadsKnown, IsAtEnd};
 ghost use Rattle.mh_show.specs.Run.{ReadsWhole, AppendsPrefixOf, ShowsInput, EndsRun, ReportsError};

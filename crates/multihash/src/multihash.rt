@@ -1,4 +1,4 @@
-//! The type and its parts.
+//! The type: its fields, their limits, and the functions that make a value or return a part of it.
 ghost use Rattle.std.specs.Prelude.{◌≡◌, ◌<◌, ◌≤◌, ◌-◌, ◌+◌, ◌⊎◌, ◌↔◌, [], ◌++◌, length, take, drop, replicate, Some, IfSome, IfOk, IfErr, IsErr, IsTrue, false};
 ghost use Rattle.multihash.specs.Bytes.{IsBytes};
 ghost use Rattle.multihash.specs.Varint.{varint_limit};

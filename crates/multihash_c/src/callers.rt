@@ -1,4 +1,4 @@
-//! What a caller can conclude from one clause alone, in functions that nothing calls.
+//! Functions that nothing calls. The contract of each is what a caller can conclude from one clause alone.
 ghost use Rattle.std.specs.Prelude.{◌≡◌, length};
 
 use crate::decode::multihash_from_bytes;

@@ -1,4 +1,4 @@
-//! Callers, in `examples`, `form` and `storage`: a reader of `std`, and known values.
+//! Tests of `examples`, `form` and `storage`: known values, and a reader over one of `std`.
 ghost use Rattle.std.specs.Prelude.{◌<◌};
 
 use crate::support::expect::{check, check_eq, expect_ok};

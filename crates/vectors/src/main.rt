@@ -1,6 +1,6 @@
 //! Replays `verdicts.tsv`, a file in the current folder: computes each line anew from its capacity and its input,
-//! and prints those that differ, then the number of lines. Calls over parts and over JSON return the same, or their
-//! result follows the line.
+//! and prints those that differ, then the number of lines. Input in parts, and as JSON, has to give the same result; a
+//! result that differs is printed after its line.
 #![tactic(auto)]
 
 ghost use Rattle.std.specs.Prelude.{◌≤◌, ◌<◌};

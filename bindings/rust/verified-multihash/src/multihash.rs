@@ -1,4 +1,4 @@
-//! The type and its parts.
+//! The type: its fields, their limits, and the functions that make a value or return a part of it.
 use crate::rattle::{std, *};
 
 use crate::{Error, varint};

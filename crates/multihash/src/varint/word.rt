@@ -1,4 +1,4 @@
-//! The varint at the front of a slice, from one word of its first bytes.
+//! Reads the varint at the front of a slice from one word of 128 bits, with its first bytes.
 ghost use Rattle.std.specs.Prelude.{◌≡◌, ◌<◌, ◌≤◌, ◌+◌, ℕ, List, length, take, drop, Some, IfSome, IfNone, IfOk, IfErr};
 ghost use Rattle.multihash.specs.Bytes.{IsBytes, place_value};
 ghost use Rattle.multihash.specs.Varint.{IsVarint, IsMalformed};

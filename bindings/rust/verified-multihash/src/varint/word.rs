@@ -1,4 +1,4 @@
-//! The varint at the front of a slice, from one word of its first bytes.
+//! Reads the varint at the front of a slice from one word of 128 bits, with its first bytes.
 use crate::rattle::{std, *};
 
 use super::{LAST_BYTE_LIMIT, MAX_CONTINUATION, MAX_LEN};

@@ -1,4 +1,4 @@
-//! What the tests of both packages compare with the test vectors, without `std` but in tests. The module above has the
+//! What the tests of both packages compare with the test vectors, without `std` but in tests. The module that includes this file has the
 //! package's types, and functions for what differs.
 use super::{Error, Multihash, Read};
 use core::fmt::{self, Display, Write as _};
