@@ -154,7 +154,8 @@ export class MultihashReader implements AsyncIterable<Multihash> {
   readonly rest: Uint8Array;
   /**
    * Returns the next multihash, or null if the source has ended after the last one. After an error every call rejects
-   * with that error. After an error or null the source is released.
+   * with that error. After an error or null the source is released. An error of a Node.js `Readable` before the first
+   * call rejects that call.
    */
   read(): Promise<Multihash | null>;
   /**
