@@ -153,6 +153,11 @@ export class MultihashReader implements AsyncIterable<Multihash> {
   /** A copy of the bytes received that belong to no multihash returned so far. */
   readonly rest: Uint8Array;
   /**
+   * The number of bytes of the multihashes returned so far, with those in the option `rest`. So it is where the next one
+   * starts, and after a `MultihashError` where the invalid one starts.
+   */
+  readonly taken: number;
+  /**
    * Returns the next multihash, or null if the source has ended after the last one. After an error every call rejects
    * with that error. After an error or null the source is released. An error of a Node.js `Readable` before the first
    * call rejects that call.
