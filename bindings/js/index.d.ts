@@ -77,7 +77,7 @@ export interface MultihashDigest {
 
 /**
  * A code, which names a hash function, and a digest. A `Multihash<number>` has the properties of `MultihashDigest`
- * in js-multiformats. Do not write to the bytes of `digest` and `bytes`: that would make the two differ.
+ * in js-multiformats. Do not write to `code`, or to the bytes of `digest` and `bytes`: that would make them differ.
  */
 export class Multihash<Code extends Wide = Wide> implements MultihashDigest {
   private constructor();
