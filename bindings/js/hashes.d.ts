@@ -3,7 +3,10 @@ import type { ByteStream, Multihash, MultihashDigest } from './index.js';
 
 export { CODES, NAMES } from './codes.js';
 
-/** What is hashed: bytes, or the chunks of a stream, such as `createReadStream(path)` or `blob.stream()`. */
+/**
+ * What is hashed: bytes, or the chunks of a stream, such as `createReadStream(path)` or `blob.stream()`. A stream is
+ * read to its end. After an error it is cancelled, even if nothing was read, and a Node.js `Readable` is destroyed.
+ */
 export type Content = Uint8Array | ByteStream | AsyncIterable<Uint8Array>;
 
 /** A hash function, with the properties of `MultihashHasher` in js-multiformats. */

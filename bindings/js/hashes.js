@@ -61,8 +61,22 @@ function twice(begin) {
   };
 }
 
-/** The digest of bytes, or of the chunks of a source. */
-async function digestOf(begin, content) {
+/**
+ * Calls with what makes a source of the content, once. After an error the source is cancelled, even if it was not read.
+ */
+async function reading(content, call) {
+  let source;
+  const open = () => (source ??= sourceOf(content, 'content', 'a Uint8Array, '));
+  try {
+    return await call(open);
+  } catch (error) {
+    if (!isBytes(content)) await (async () => open().close())().catch(() => {}); // the first error is the one to know
+    throw error;
+  }
+}
+
+/** The digest of bytes, or of the chunks of the source that `open` returns. */
+async function digestOf(begin, content, open) {
   const hash = begin();
   if (isBytes(content)) {
     const length = checkedLength(content, 'content');
@@ -72,15 +86,10 @@ async function digestOf(begin, content) {
     }
     return hash.digest();
   }
-  const source = sourceOf(content, 'content', 'a Uint8Array, ');
-  try {
-    for (let chunk; !(chunk = await source.next()).done; ) {
-      checkedLength(chunk.value, 'a chunk of the content');
-      hash.update(new Uint8Array(chunk.value)); // a copy, since sources may use their memory again
-    }
-  } catch (error) {
-    await (async () => source.close())().catch(() => {}); // the first error is the one to know
-    throw error;
+  const source = open();
+  for (let chunk; !(chunk = await source.next()).done; ) {
+    checkedLength(chunk.value, 'a chunk of the content');
+    hash.update(new Uint8Array(chunk.value)); // a copy, since sources may use their memory again
   }
   source.release();
   return hash.digest();
@@ -111,15 +120,15 @@ function hasher(name) {
   return Object.freeze({
     name,
     code,
-    async digest(content, options = {}) {
+    digest: (content, options = {}) => reading(content, async (open) => {
       const { truncate } = checkedOptions(options);
-      const whole = await digestOf(beginnings[name], content);
+      const whole = await digestOf(beginnings[name], content, open);
       if (whole.length > DIGEST_MAX) encodedLength(code, whole.length); // throws
       const size = truncate ?? whole.length;
       if (!Number.isInteger(size) || size < 0 || size > whole.length)
         throw new RangeError(`truncate must be a whole number from 0 to ${whole.length}, got ${String(size)}`);
       return Multihash.of(code, whole.subarray(0, size));
-    },
+    }),
   });
 }
 
@@ -141,17 +150,17 @@ function claimOf(multihash) {
  * Returns whether a multihash, or its encoding, is that of the content. The time for digests of equal lengths does not
  * depend on their bytes.
  */
-export async function verify(multihash, content) {
+export const verify = (multihash, content) => reading(content, async (open) => {
   const { code, digest } = claimOf(multihash);
   const begin = beginnings[NAMES[code]];
   if (!begin) {
     const name = NAMES[code] ? ` (${NAMES[code]})` : '';
     throw new RangeError(`this platform has no function for the code 0x${code.toString(16)}${name}`);
   }
-  const wanted = await digestOf(begin, content);
+  const wanted = await digestOf(begin, content, open);
   if (digest.length === 0) checkedLength(digest, 'the digest');
   if (digest.length !== wanted.length) return false;
   let difference = 0;
   for (let index = 0; index < wanted.length; index++) difference |= wanted[index] ^ digest[index];
   return difference === 0;
-}
+});

@@ -77,7 +77,7 @@ export interface MultihashDigest {
 
 /**
  * A code, which names a hash function, and a digest. A `Multihash<number>` has the properties of `MultihashDigest`
- * in js-multiformats. Do not write to the bytes of `digest` and `bytes`: that would make the two differ.
+ * in js-multiformats. Do not write to `code`, or to the bytes of `digest` and `bytes`: that would make them differ.
  */
 export class Multihash<Code extends Wide = Wide> implements MultihashDigest {
   private constructor();
@@ -153,8 +153,14 @@ export class MultihashReader implements AsyncIterable<Multihash> {
   /** A copy of the bytes received that belong to no multihash returned so far. */
   readonly rest: Uint8Array;
   /**
+   * The number of bytes of the multihashes returned so far, with those in the option `rest`. So it is where the next one
+   * starts, and after a `MultihashError` where the invalid one starts.
+   */
+  readonly taken: number;
+  /**
    * Returns the next multihash, or null if the source has ended after the last one. After an error every call rejects
-   * with that error. After an error or null the source is released.
+   * with that error. After an error or null the source is released. An error of a Node.js `Readable` before the first
+   * call rejects that call.
    */
   read(): Promise<Multihash | null>;
   /**

@@ -9,6 +9,7 @@ export class MultihashReader {
   #limit;
   #bytes; // what was received
   #at = 0; // the index in it after the last multihash that was returned
+  #taken = 0; // bytes of all that were returned
   #calls = 0; // pending calls
   #last = Promise.resolve();
   #isReleased = false; // by its user
@@ -26,6 +27,11 @@ export class MultihashReader {
   /** A copy of the bytes received that belong to no multihash returned so far. */
   get rest() {
     return this.#bytes.slice(this.#at);
+  }
+
+  /** The number of bytes of the multihashes returned so far. */
+  get taken() {
+    return this.#taken;
   }
 
   /**
@@ -59,8 +65,10 @@ export class MultihashReader {
   /** The next multihash, if all of it was received. Throws if the rest of it does not follow. */
   #received(isLast = false) {
     const found = readAt(this.#bytes, this.#at, this.#limit, isLast);
-    this.#at += found?.taken ?? 0;
-    return found?.multihash;
+    if (!found) return undefined;
+    this.#at += found.taken;
+    this.#taken += found.taken;
+    return found.multihash;
   }
 
   /** The next multihash of the source, or null after the last one. */

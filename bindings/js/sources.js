@@ -7,6 +7,7 @@ export function sourceOf(source, name, others = '') {
   const iterator = source?.[Symbol.asyncIterator]?.();
   if (typeof iterator?.next !== 'function')
     throw wrongType(name, `${others}a ReadableStream or an async iterable`, source);
+  if (typeof source.destroy === 'function') listen(source);
   let hasBegun = false;
   return {
     next() {
@@ -20,6 +21,14 @@ export function sourceOf(source, name, others = '') {
       return iterator.return?.();
     },
   };
+}
+
+const ignore = () => {};
+
+/** Listens once to the errors of a Node.js Readable: `next` throws them, also those that came before it. */
+function listen(source) {
+  source.off?.('error', ignore);
+  source.on?.('error', ignore);
 }
 
 function chunksOfStream(stream) {

@@ -136,6 +136,13 @@ export async function hashStreams({ hashers, identity, sha256, verify }) {
   same(await told(sha256.digest(texts)), 'TypeError: a chunk of the content must be a Uint8Array, got string',
     'a text');
   same(ends, 1, 'the source is cancelled');
+  for (const call of [(source) => verify('1200', source), (source) => sha256.digest(source, 20)]) {
+    const source = new ReadableStream({ cancel: () => void (ends += 1) });
+    for (const each of [source, texts])
+      same((await told(call(each))).startsWith('TypeError: '), true, 'a call that fails before it reads');
+    same(source.locked, false, 'a source that was not read');
+  }
+  same(ends, 5, 'the sources are cancelled');
   const failing = new ReadableStream({ pull: () => Promise.reject(new Error('broken')) });
   same(await told(sha256.digest(failing)), 'Error: broken', 'a source that fails');
   const left = stream();

@@ -1,6 +1,6 @@
 // The tests of an entry in Node.js: index.test.js, inline.test.js and module.test.js run them, each in a process of its
 // own. MULTIHASH_VERDICTS names the test vectors, if not those of the repository.
-import { readFileSync } from 'node:fs';
+import { createReadStream, readFileSync } from 'node:fs';
 import { dirname, join } from 'node:path';
 import { Readable } from 'node:stream';
 import { test } from 'node:test';
@@ -104,6 +104,8 @@ async function largeContent({ Multihash, identity, sha256, verify }) {
   same(user + system < 3e5, true, `the time of identity: ${user + system}`);
 }
 
+const closed = (stream) => new Promise((resolve) => (stream.closed ? resolve() : stream.once('close', resolve)));
+
 /** A call that waits for a stream of Node.js ends at a cancellation, for its ReadableStream also at a release. */
 async function nodeStreams(module) {
   const { MultihashReader } = module;
@@ -118,6 +120,33 @@ async function nodeStreams(module) {
   same(unread.destroyed, true, 'a stream that was not read is destroyed');
   const readable = (bytes) => Readable.toWeb(Readable.from(bytes, { objectMode: false }));
   await endedAnywhere(module, readable, () => new Promise(process.nextTick));
+}
+
+/** Calls that fail before they read a stream destroy it. An error of it before the first read is thrown by that. */
+async function unreadStreams({ Multihash, MultihashReader, hashers, sha256, verify }) {
+  const claim = await sha256.digest(Uint8Array.of(1));
+  const calls = [
+    (content) => verify(Multihash.of(0x1e, claim.digest), content),
+    (content) => verify(claim.bytes.subarray(1), content),
+    (content) => verify('1200', content),
+    (content) => sha256.digest(content, 20),
+    (content) => hashers.identity.digest(content, null),
+  ];
+  for (const call of calls) {
+    for (const path of [fileURLToPath(import.meta.url), 'missing']) {
+      const stream = createReadStream(path);
+      same(`${/Error: /.test(await told(call(stream)))} ${stream.destroyed}`, 'true true', String(call));
+      await closed(stream); // an error without a listener would end the process
+    }
+  }
+  const early = createReadStream('missing');
+  const reader = new MultihashReader(early);
+  new MultihashReader(early); // adds no listener
+  await closed(early);
+  same(early.listenerCount('error'), 1, 'listeners');
+  same((await told(reader.read())).slice(0, 13), 'Error: ENOENT', 'an error before the first read');
+  for (const call of [sha256.digest, (content) => verify(claim, content)])
+    same((await told(call(createReadStream('missing')))).slice(0, 13), 'Error: ENOENT', 'an error while it is read');
 }
 
 /** The names and numbers that *.d.ts state, the version of package.json, and the entries that connect. */
@@ -155,6 +184,6 @@ export async function run(which) {
   const texts = [vectors, ...beside].map((path) => readFileSync(path, 'utf8'));
   test('declared', () => declared(module, which));
   if (compiled) for (const check of [compiledBefore, unfit, webCrypto]) test(check.name, () => check(texts[1]));
-  if (which === 'index') for (const check of [largeContent, nodeStreams]) test(check.name, () => check(module));
+  if (which === 'index') for (const check of [largeContent, nodeStreams, unreadStreams]) test(check.name, () => check(module));
   for (const [name, check] of testsOf(which)) test(name, () => check(module, ...texts));
 }

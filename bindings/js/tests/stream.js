@@ -27,7 +27,9 @@ async function cutAt(module, stream, cut, wanted) {
   const { found, error, rest } = await readAll(module, chunks(left));
   same(error?.isIncomplete, rest.length > 0 ? true : undefined, `the error at ${cut}`);
   same(hex(rest), hex(stream.subarray(cut - rest.length, cut)), `rest at ${cut}`);
-  const next = await readAll(module, chunks(right), { rest });
+  const reader = new module.MultihashReader(chunks(right), { rest });
+  const next = await drained(reader);
+  same(reader.taken, rest.length + right.length, `taken at ${cut}`);
   same(`${[...found, ...next.found]}, ${next.error}`, `${wanted}, undefined`, `both parts at ${cut}`);
 }
 
@@ -81,6 +83,7 @@ async function malformedStream(module, stream, wanted) {
   const { error, rest } = await drained(ended);
   same(`${error}`, 'MultihashError: the digest has 32 bytes, and the limit is 31', 'a limit');
   same(`${error.taken} ${source.locked}`, '2 false', 'a stream at an error');
+  same(ended.taken, 0, 'taken at an error');
   const other = new module.MultihashReader(source, { rest });
   same(await told(ended.cancel()), 'undefined', "the stream is the other's now");
   same(`${(await drained(other)).found} ${cancelled}`, `${wanted} 0`, 'another reader of a stream');

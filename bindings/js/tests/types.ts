@@ -64,6 +64,7 @@ new MultihashReader(stream, { most: 64 });
 is<Multihash | null>()(await reader.read());
 for await (const each of reader) is<Multihash>()(each);
 is<Uint8Array>()(reader.rest);
+is<number>()(reader.taken);
 isFixed(reader);
 await reader.cancel('a reason');
 await reader[Symbol.asyncDispose]();

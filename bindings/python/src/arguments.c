@@ -9,14 +9,6 @@ PyObject *attribute_of(PyObject *object, const char *text)
     return found;
 }
 
-PyObject *result_of(PyObject *object, const char *text)
-{
-    PyObject *method = attribute_of(object, text);
-    PyObject *result = method == NULL ? NULL : PyObject_CallObject(method, NULL);
-    Py_XDECREF(method);
-    return result;
-}
-
 PyObject *wrong_type(const char *name, const char *expected, PyObject *argument)
 {
     PyObject *type = attribute_of((PyObject *)Py_TYPE(argument), "__name__");
@@ -54,23 +46,25 @@ static void raise_negative(const char *name, PyObject *number)
     Py_XDECREF(shown);
 }
 
-/* An attribute of a memoryview, which is negative with an error set. */
-static Py_ssize_t number_of_view(PyObject *view, const char *name)
+/* The number of bytes of a memoryview, which is negative with an error set. */
+static Py_ssize_t length_of_view(PyObject *view)
 {
-    PyObject *attribute = attribute_of(view, name);
-    Py_ssize_t number = attribute == NULL ? -1 : PyLong_AsSsize_t(attribute);
-    Py_XDECREF(attribute);
+    PyObject *length = attribute_of(view, "nbytes");
+    Py_ssize_t number = length == NULL ? -1 : PyLong_AsSsize_t(length);
+    Py_XDECREF(length);
     return number;
 }
 
 /* Copies at least `most` first bytes of a memoryview, or all of them. */
-static PyObject *front_of_view(PyObject *view, Py_ssize_t most)
+static PyObject *front_of_view(PyObject *view, Py_ssize_t whole, Py_ssize_t most)
 {
-    Py_ssize_t dimensions = number_of_view(view, "ndim");
-    if (dimensions < 0) return NULL;
-    if (dimensions != 1) return result_of(view, "tobytes");
+    if (whole <= most) return PyBytes_FromObject(view);
     PyObject *front = PySequence_GetSlice(view, 0, most);
-    PyObject *copied = front == NULL ? NULL : result_of(front, "tobytes");
+    if (front == NULL && PyErr_ExceptionMatches(PyExc_TypeError)) { /* it has no dimensions */
+        PyErr_Clear();
+        return PyBytes_FromObject(view);
+    }
+    PyObject *copied = front == NULL ? NULL : PyBytes_FromObject(front);
     Py_XDECREF(front);
     return copied;
 }
@@ -91,8 +85,8 @@ int get_input(PyObject *argument, const char *name, Py_ssize_t most, input *to)
             rename_error(name, "a bytes-like object", argument);
             return -1;
         }
-        whole = number_of_view(view, "nbytes");
-        to->owner = whole < 0 ? NULL : front_of_view(view, most);
+        whole = length_of_view(view);
+        to->owner = whole < 0 ? NULL : front_of_view(view, whole, most);
         Py_DECREF(view);
         if (to->owner == NULL) return -1;
     }

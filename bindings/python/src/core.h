@@ -13,9 +13,6 @@
 /* An attribute, by a name that is there once: CPython's cache keeps each new one. */
 PyObject *attribute_of(PyObject *object, const char *text);
 
-/* What that attribute returns, without arguments. */
-PyObject *result_of(PyObject *object, const char *text);
-
 /* Bytes of an argument: all of them, or the first ones where it is no bytes object. */
 typedef struct input {
     PyObject *owner; /* the bytes object */

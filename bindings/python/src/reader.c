@@ -7,7 +7,8 @@ typedef struct reader_object {
     PyObject *read; /* of the file */
     size_t limit;
     size_t wanted; /* the number of bytes that a call of the file was asked for which has not returned, or 0 */
-    char has_lost; /* whether the file may have lost bytes */
+    unsigned long long taken; /* bytes of the multihashes that were returned */
+    char has_lost;            /* whether the file may have lost bytes */
     size_t length; /* of the bytes that were read and belong to no multihash that was returned */
     uint8_t rest[MULTIHASH_HEAD_MAX + MULTIHASH_DIGEST_MAX];
 } reader_object;
@@ -47,6 +48,7 @@ static int reader_init(PyObject *self, PyObject *arguments, PyObject *named)
     if (reader->module == NULL) Py_INCREF(reader->module = module);
     reader->limit = limit;
     reader->length = 0;
+    reader->taken = 0;
     reader->has_lost = 0;
     PyObject *old = reader->read; /* now: `file` may begin this reader anew, too */
     reader->read = read;
@@ -151,7 +153,10 @@ static PyObject *take_multihash(reader_object *reader)
     input from = {NULL, reader->rest, reader->length, reader->length};
     multihash_decoded found = multihash_read_limit(from.bytes, from.length, reader->limit);
     PyObject *multihash = decoded(reader->module, &from, found, &reader->limit);
-    if (multihash != NULL) reader->length = 0;
+    if (multihash != NULL) {
+        reader->taken += reader->length;
+        reader->length = 0;
+    }
     return multihash;
 }
 
@@ -211,6 +216,8 @@ static PyMethodDef reader_methods[] = {
 
 static PyMemberDef reader_members[] = {
     {"_read", T_OBJECT_EX, offsetof(reader_object, read), READONLY, NULL},
+    {"taken", T_ULONGLONG, offsetof(reader_object, taken), READONLY,
+     "The number of bytes of the multihashes returned so far."},
     {NULL, 0, 0, 0, NULL},
 };
 

@@ -117,6 +117,14 @@ static PyObject *multihash_str(PyObject *self)
     return hex_of(encoding, encode_to(self, encoding));
 }
 
+static PyObject *multihash_format(PyObject *self, PyObject *how)
+{
+    if (!PyUnicode_Check(how)) return wrong_type("format_spec", "a str", how);
+    PyObject *text = PyObject_Str(self), *shown = text == NULL ? NULL : PyObject_Format(text, how);
+    Py_XDECREF(text);
+    return shown;
+}
+
 static PyObject *multihash_repr(PyObject *self)
 {
     PyObject *name = attribute_of((PyObject *)Py_TYPE(self), "__qualname__");
@@ -199,6 +207,7 @@ static PyObject *multihash_bytes(PyObject *self, PyObject *unused)
 
 static PyMethodDef multihash_methods[] = {
     {"__bytes__", multihash_bytes, METH_NOARGS, "Returns the encoding."},
+    {"__format__", multihash_format, METH_O, "Formats what str returns."},
     {"__getnewargs__", multihash_arguments, METH_NOARGS, "For pickle and copy: returns the code and the digest."},
     {"__reduce_ex__", multihash_reduce, METH_O, "For pickle and copy."},
     {"__replace__", (PyCFunction)(void (*)(void))multihash_replace, METH_VARARGS | METH_KEYWORDS,

@@ -7,6 +7,7 @@ import ctypes
 import doctest
 import importlib
 import inspect
+import subprocess
 import sys
 import typing
 import unittest
@@ -42,6 +43,14 @@ class Module(unittest.TestCase):
 
         with ThreadPoolExecutor(2) as threads:
             self.assertEqual(list(threads.map(run, range(2))), [None, None])
+
+    def test_hashes(self):
+        """The module `hashes` is there without an import of its own, and no other name is."""
+        program = "import verified_multihash as vm; assert vm.hashes.NAMES[18] == 'sha2-256'"
+        subprocess.run([sys.executable, "-c", program], check=True)
+        self.assertRaisesRegex(
+            AttributeError, "^module 'verified_multihash' has no attribute 'more'$", getattr, vm, "more"
+        )
 
     def test_abstract_classes(self):
         """An abstract class may be a base too: CPython 3.8 has the flag in its own headers, later ones do not."""

@@ -47,14 +47,14 @@ LONGEST = b"\xff" * 8 + b"\x7f"  # varint
 # What each wrong call says: its text alone has to be enough.
 TEXTS = [
     (vm.decode, [b""], "the input is empty"),
-    (vm.decode, [b"\x92"], "the input ends inside the varint of the code"),
-    (vm.decode, [b"\x12"], "the input ends before the varint of the digest's length"),
-    (vm.decode, [b"\x12\x80"], "the input ends inside the varint of the digest's length"),
+    (vm.decode, [b"\x92"], "the input ends inside the code"),
+    (vm.decode, [b"\x12"], "the input ends before the digest's length"),
+    (vm.decode, [b"\x12\x80"], "the input ends inside the digest's length"),
     (vm.decode, [b"\xff" * 9], "the varint of the code has more than nine bytes"),
     (vm.head, [b"\x12" + b"\xff" * 9], "the varint of the digest's length has more than nine bytes"),
-    (vm.head, [b"\x92\0\1"], "the varint of the code is not minimal: its last byte is zero"),
-    (vm.decode, [b"\x12\x81\0a"], "the varint of the digest's length is not minimal: its last byte is zero"),
-    (vm.decode, [LONGEST + b"\x81\0"], "the varint of the digest's length is not minimal: its last byte is zero"),
+    (vm.head, [b"\x92\0\1"], "the varint of the code is not minimal: it ends in a zero byte"),
+    (vm.decode, [b"\x12\x81\0a"], "the varint of the digest's length is not minimal: it ends in a zero byte"),
+    (vm.decode, [LONGEST + b"\x81\0"], "the varint of the digest's length is not minimal: it ends in a zero byte"),
     (vm.decode, [LONGEST * 2], "the digest has 9223372036854775807 bytes, and the limit is 255"),
     (vm.decode, [b"\x12\xac\2"], "the digest has 300 bytes, and the limit is 255"),
     (vm.decode, [b"\x12\3ab"], "the input ends inside the digest (2 of 3 bytes)"),
@@ -68,7 +68,7 @@ TEXTS = [
     (vm.scale_decode, [bytes(7)], "the input ends inside the code (7 of 8 bytes)"),
     (vm.scale_decode, [bytes(8)], "the input ends before the digest's length"),
     (vm.scale_decode, [bytes(8) + b"\3ab"], "the input ends inside the digest (2 of 3 bytes)"),
-    (vm.scale_decode, [bytes(7) + b"\x80"], "the code is 9223372036854775808, and the largest is 2**63 - 1"),
+    (vm.scale_decode, [bytes(7) + b"\x80"], "the code 9223372036854775808 is 2^63 or more"),
     (vm.encoded_len, [18, 10**5000], "the digest has %s bytes, and the limit is 255" % shown(10**5000)),
     (vm.decode, ["1220"], "data must be bytes (Multihash.fromhex takes text), not str"),
     (vm.read, [3], "data must be a bytes-like object, not int"),
@@ -165,7 +165,7 @@ class Arguments(unittest.TestCase):
             for code in NEGATIVE:
                 self.assertRaisesRegex(ValueError, "^code must be 0 or more, not %d$" % code, call, code, b"")
             for code in (1 << 63, (1 << 64) - 1, 1 << 64, (1 << 64) + 18, 1 << 700, 10**5000):
-                text = "the code is %s, and the largest is 2**63 - 1" % shown(code)
+                text = "the code %s is 2^63 or more" % shown(code)
                 self.assertEqual(self.error_of(call, code, bytes(255)), (Status.INVALID_CODE, 0, code, text))
                 text = "the digest has 256 bytes, and the limit is 255"
                 self.assertEqual(self.error_of(call, code, bytes(256)), (Status.INVALID_SIZE, 256, 0, text))
@@ -253,7 +253,10 @@ class Values(unittest.TestCase):
             source[0] = 0
             self.assertEqual((repr(value), hash(value)), ("%s.fromhex('0103616263')" % kind.__qualname__, hash(VALUE)))
             self.assertEqual((vm.compare(value, VALUE), bytes(value), value.hexdigest()), (0, b"\1\3abc", "616263"))
-            self.assertEqual([value.hex(), str(value), "%s" % value], ["0103616263"] * 3)
+            self.assertEqual([value.hex(), str(value), "%s" % value, format(value)], ["0103616263"] * 4)
+            self.assertEqual("{:>12} {!s:.4}".format(value, value), "  0103616263 0103")
+            self.assertRaises(TypeError, value.__format__, 2)
+            self.assertRaises(ValueError, format, value, "x")
             source[0] = ord("a")
             value.__init__(2, b"")
             self.assertEqual((value, type(value.code)), (VALUE, int))

@@ -74,6 +74,7 @@ class Readers(unittest.TestCase):
                     found.append(reader.read())
                 except BlockingIOError:
                     waits += 1
+                self.assertEqual(reader.taken, sum(len(bytes(each)) for each in found))
             self.assertEqual((b"".join(map(bytes, found)), waits), (DATA, len(DATA)))
             with self.assertRaisesRegex(io.UnsupportedOperation, "^the file does not block"):
                 vm.read_from(turns(*late))
@@ -94,8 +95,11 @@ class Readers(unittest.TestCase):
                 sink.write(b"\1\4abcd")
                 for _ in range(2):
                     self.assertRaises(MultihashError, reader.read)
-                    self.assertEqual(reader.rest, b"\1\4")
+                    self.assertEqual((reader.rest, reader.taken), (b"\1\4", 2 * len(data) * (len(data) - 1)))
                 self.assertEqual(source.read(), b"abcd")
+                reader.__init__(source)
+                self.assertEqual(reader.taken, 0)
+                self.assertRaises(AttributeError, setattr, reader, "taken", 2)
 
     def test_failing_files(self):
         """After an error of a file, which loses bytes if it is buffered, nothing more is read from it."""

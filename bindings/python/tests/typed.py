@@ -50,7 +50,7 @@ if isinstance(error, vm.MultihashError):
     assert_type((error.size, error.code, error.taken), Tuple[int, int, int])
 
 reader = vm.MultihashReader(io.BytesIO(DATA), limit=64)
-assert_type((reader.read(), reader.rest), Tuple[Optional[Multihash], bytes])
+assert_type((reader.read(), reader.rest, reader.taken), Tuple[Optional[Multihash], bytes, int])
 assert_type((next(reader), list(reader)), Tuple[Multihash, List[Multihash]])
 assert_type(vm.read_from(io.BytesIO(DATA), limit=64), Optional[Multihash])
 vm.MultihashReader("name")  # type: ignore[arg-type]
@@ -81,6 +81,8 @@ assert_type(hashes.digest_file(io.BytesIO(DATA), "sha2-256"), Multihash)
 assert_type(hashes.verify_file(multihash, io.BytesIO(DATA)), bool)
 assert_type(hashes.Hasher("sha2-256").multihash(), Multihash)
 assert_type((hashes.CODES, hashes.NAMES), Tuple[Mapping[str, int], Mapping[int, str]])
+assert_type(vm.hashes.NAMES, Mapping[int, str])
+vm.more  # type: ignore[attr-defined]
 hashes.digest("abc", "sha2-256")  # type: ignore[arg-type]
 hashes.verify("1200", DATA)  # type: ignore[arg-type]
 hashes.CODES["sha2-256"] = 3  # type: ignore[index]

@@ -13,6 +13,7 @@ verified_multihash.hashes has the names of codes, and makes and verifies multiha
 from __future__ import annotations
 
 import enum
+import importlib
 import io
 import re
 from typing import TYPE_CHECKING, AsyncIterator, Iterator, NamedTuple, Optional, Protocol, Tuple, Union
@@ -22,8 +23,19 @@ from ._core import Multihash, compare, decode, encode, encoded_len, read, scale_
 
 if TYPE_CHECKING:
     from _typeshed import ReadableBuffer as Buffer
+
+    from . import hashes as hashes
+
+    _ = hashes  # a use of it, for pyflakes
 else:
     Buffer = Union[bytes, bytearray, memoryview]
+
+    def __getattr__(name):
+        """Imports `hashes` when it is first used: `from . import hashes` here would call this again."""
+        if name == "hashes":
+            return importlib.import_module(".hashes", __name__)
+        raise AttributeError("module %r has no attribute %r" % (__name__, name))
+
 
 __all__ = [
     "AsyncMultihashReader", "DIGEST_MAX", "HEAD_MAX", "LENGTH_MAX", "SCALE_LENGTH_MAX", "Head", "Multihash",
@@ -109,7 +121,7 @@ class MultihashError(ValueError):
 
     def _text(self, length: int = 0, start: bytes = b"", limit: Optional[int] = None) -> str:
         if self.status is Status.INVALID_CODE:
-            return "the code is %s, and the largest is 2**63 - 1" % _shown(self.code)
+            return "the code %s is 2^63 or more" % _shown(self.code)
         if self.status is Status.INVALID_SIZE and not start:
             return "the digest has %s bytes, and the limit is %d" % (_shown(self.size), DIGEST_MAX)
         if length == 0:
@@ -125,10 +137,10 @@ class MultihashError(ValueError):
         if self.status is Status.OVERFLOW:
             return "the varint of the %s has more than nine bytes" % name
         if self.status is Status.NOT_MINIMAL:
-            return "the varint of the %s is not minimal: its last byte is zero" % name
+            return "the varint of the %s is not minimal: it ends in a zero byte" % name
         if self.status is Status.INSUFFICIENT:
             where = "before" if code and code.end() == length else "inside"
-            return "the input ends %s the varint of the %s" % (where, name)
+            return "the input ends %s the %s" % (where, name)
         _, size, end = _core.head(start)
         if self.status is Status.UNEXPECTED_EOF:
             return "the input ends inside the digest (%d of %d bytes)" % (length - end, size)
