@@ -36,7 +36,7 @@ Multihash.of(18, '');
 new Multihash();
 is<number | bigint>()(found.code);
 isFixed(found);
-is<Multihash<number>>()(Multihash.fromHex(`${found}`).narrow());
+is<Multihash<number>>()(is<Multihash>()(Multihash.fromHex(`${found}`)).narrow());
 is<boolean>()(found.equals('any value'));
 is<{ code: number | string; size: number; digest: string }>()(found.toJSON());
 

@@ -110,6 +110,8 @@ class Readers(unittest.TestCase):
                 self.assertRaises(error, reader.read)
                 for _ in range(2):
                     self.assertRaisesRegex(ValueError, "failed before", reader.read)
+                reader.__init__(turns(b"\0\0"))  # it reads another file
+                self.assertEqual(reader.read(), Multihash(0, b""))
 
     def test_calls_at_once(self):
         """A call while another one waits is an error, and the other one goes on."""
