@@ -14,6 +14,7 @@ MORE = (f"{JS}/core.js", f"{JS}/test.sh", "checks/page_programs.t", "checks/rele
 # a version or a limit as pages and these state it, and where it is from
 STATED = (
     (r"Rust (\d[\d.]*\d)", CARGO, r'rust-version = "(.*)"'),
+    (r"Rust (\d[\d.]*\d)", f"{RUST}/verified-multihash/Cargo.toml", r'rust-version = "(.*)"'),
     (r"CMake (\d[\d.]*\d)", "CMakeLists.txt", r"cmake_minimum_required\(VERSION (.*)\)"),
     (r"(?<!In )CPython (\d\.\d+)", f"{PYTHON}/pyproject.toml", r'requires-python = ">=(.*)"'),
     (r"[Nn]ode(?:\.js |=)(\d+\.\d+)", f"{JS}/package.json", r'"node": ">=(.*)"'),
