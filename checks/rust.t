@@ -55,7 +55,7 @@ debians_rust() {
 }
 
 in_c() {
-  cc -O2 -I bindings/c/include bindings/c/tests/{test,verdicts,models,draws,buffer}.c bindings/c/src/multihash.c -o "$work/c"
+  cc -O2 -I bindings/c/include bindings/c/tests/{test,verdicts,models,draws,buffer,messages}.c bindings/c/src/multihash.c -o "$work/c"
   prints "$(sed 1d "$work/list" | wc -l) lines" "$work/c" "$work/list" 0 0 vectors
 }
 
