@@ -1,11 +1,9 @@
 #!/usr/bin/env bash
-# The library for C on this machine: compilers warn of nothing in its headers and source; its tests pass, plain, under
-# sanitizers, and beside the archive that the kit builds of the proved functions.
+# The library for C on this machine: compilers warn of nothing in its headers and source; its tests pass, plain and under
+# sanitizers.
 # shellcheck source=checks/lib/tap.sh
 . "$(dirname "$0")/lib/tap.sh"
 require cc python3
-# shellcheck source=checks/lib/proved.sh
-. checks/lib/proved.sh
 # shellcheck source=checks/lib/c.sh
 . checks/lib/c.sh
 
@@ -53,21 +51,6 @@ test_compilers() {
     build_and_run clang-memory "" clang "${c_flags[@]}" "${heap[@]}" -fsanitize=memory "${tests[@]}" "$source"
 }
 
-# The tests over the source and the archive, in one program.
-beside_archive() {
-  tools/generate archive "$work/proved.a" --cpu=x86-64
-  if [ -n "${KEPT-}" ]; then
-    cp -a "$PROVED" "$KEPT/part"
-    mv "$KEPT/part" "$KEPT/copy"
-  fi
-  exported | sed 's/.*/& proved_&/' > "$work/renamed"
-  objcopy --redefine-syms="$work/renamed" "$work/proved.a"
-  mapfile -t calls < <(exported | sed '/version$/d; s/^/-Wl,--wrap=/')
-  build_and_run beside "" cc "${c_flags[@]}" -O2 "${tests[@]}" "$c/tests/beside.c" "$source" "$work/proved.a" \
-    "${calls[@]}"
-}
-
-needs="rt objcopy /lib64/ld-linux-x86-64.so.2" try "beside the archive" beside_archive
 test_compilers
 needs=objdump try "no state" keeps_no_state "$work/cc-2.o"
 try "the version that files state" tools/version.py --check

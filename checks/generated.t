@@ -1,5 +1,5 @@
 #!/usr/bin/env bash
-# Compares the generated files that need no kit with what tools/generate makes. The WebAssembly is compared by js.t.
+# Compares the generated files that need no kit with what tools/generate makes. The WebAssembly is compared by compiled.t.
 # shellcheck source=checks/lib/tap.sh
 . "$(dirname "$0")/lib/tap.sh"
 

@@ -3,11 +3,11 @@
 network, in a new folder for each language, in which the command of README.md's table installs the package.
 
 The first line of a program has the name of its file and the command that runs it. The program prints the block of text
-after it. Each on README.md, where they are in the order of the table, prints SHOWN.
+after it. Each on README.md, where they are in the order of the table, prints SHOWN. By default nothing is proved: `rt run`
+takes minutes, so `rt try` runs a program in Rattle.
 """
 import os
 import re
-import shutil
 import subprocess
 import sys
 import tempfile
@@ -24,6 +24,7 @@ HEAD = re.compile(r"(?://|#) (\S+): (.*)\n")
 SHOWN = re.findall(r"program here prints `(.*)`", read(README))[0] + "\n"
 OLDEST = re.findall(r'rust-version = "(.*)"', read(f"{RUST}/verified-multihash/Cargo.toml"))[0]
 REGISTRY = "/usr/share/cargo/registry"  # of Debian, for crates that the program of Rust's page needs
+ALL = "ALL" in os.environ
 SOURCE = f'[source.crates-io]\\nreplace-with = "here"\\n[source.here]\\ndirectory = "{REGISTRY}"\\n'
 
 
@@ -72,7 +73,8 @@ class Program(NamedTuple):
         """Runs the program in a folder, where it has to print a text."""
         (folder / self.file).parent.mkdir(parents=True, exist_ok=True)
         (folder / self.file).write_text(self.text, "utf-8")
-        error, shown = run(f"{before}\n{self.command}", folder)
+        command = self.command if ALL else self.command.replace("rt run", "rt try")
+        error, shown = run(f"{before}\n{command}", folder)
         if error or shown != wanted:
             yield f"{self.file}: {error} {shown[-300:]!r}, wanted {wanted!r}"
 
@@ -93,19 +95,15 @@ def run(commands: str, folder: Path) -> tuple[str, str]:
 
 
 def make_clone(to: Path) -> None:
-    """Copies the files of the repository that Git knows or would, and the proofs of the program and its library that
-    c_library.t kept in the same run, or that are here."""
+    """Copies the files of the repository that Git knows or would."""
     to.mkdir()
     run(f"git ls-files -co --exclude-standard -z | tar -c --null -T - 2> /dev/null | tar -x -C '{to}'", TOP)
-    for proved in ("crates/multihash/out", "crates/mh_show/out"):
-        places = (Path(os.environ.get("KEPT", "/none"), "copy", proved), TOP / proved)
-        if place := next((place for place in places if place.exists()), None):
-            shutil.copytree(place, to / proved, symlinks=True)
 
 
 def command_error(clone: Path) -> str:
     """Runs the commands of README.md. Those that read a line print what mh_show prints."""
     commands = "".join(body for language, body in FENCE.findall(read(README)) if language == "sh")
+    commands = commands if ALL else re.sub(r".*(rt run|/out/).*\n", "", commands)
     error, shown = run(commands, clone)
     wanted = read("crates/mh_show/stdout") * len(re.findall(" [<|] ", commands))
     return error or ("" if shown == wanted else f"it printed {shown}")

@@ -4,8 +4,6 @@
 #   bindings/js/build.sh            writes both files
 #   bindings/js/build.sh --check    builds them elsewhere, and compares them byte for byte with those here, and
 #                                   the module's instructions with those that were linked. Needs wasm2wat (WABT)
-#
-#   PROVED=FOLDER   a copy of the repository whose crates are proved: the archive is built there, else here
 set -euo pipefail
 here=$(dirname "$(readlink -f "${BASH_SOURCE[0]}")")
 top=$(readlink -f "$here/../..")

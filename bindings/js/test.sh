@@ -3,8 +3,6 @@
 here=$(dirname "$(readlink -f "${BASH_SOURCE[0]}")")
 # shellcheck source=checks/lib/tap.sh
 . "$here/../../checks/lib/tap.sh"
-# shellcheck source=checks/lib/proved.sh
-. checks/lib/proved.sh
 top=$PWD
 vectors=$top/crates/vectors/data
 node=node=20.16+ # that of package.json
@@ -86,9 +84,6 @@ test_browser() {
   needs=$tools try "the packed package's page in $name" packed_page "$name"
 }
 
-# shellcheck source=tools/tool_versions
-. tools/tool_versions
-needs="rt wasm-opt=$binaryen wasm2wat=$wabt" try "the WebAssembly built anew" "$here/build.sh" --check
 needs=wasm-validate try "the WebAssembly for old engines" old_module
 needs="$node npm" try "in Node.js" npm_test "$here"
 needs="$node npm" try "drawn inputs" drawn
