@@ -16,8 +16,16 @@ export function same(found, wanted, what) {
 /** What a promise gives, or its error, as text. */
 export const told = (promise) => promise.then(String, String);
 
-/** The error of a call, which has to be of that class, and to have that text if one is given. */
-export function fails(kind, call, what, text) {
+const wordsOf = (text) => text.match(/[^\s:,()"]+/g) ?? [];
+
+/** A text has these words: names and numbers, in any sentence. */
+export function says(text, words, what) {
+  const missing = wordsOf(words).filter((word) => !wordsOf(text).includes(word));
+  same(`${missing}`, '', `${what}, of which the text lacks: ${text}`);
+}
+
+/** The error of a call, which has to be of that class, and to say those words if some are given. */
+export function fails(kind, call, what, words = '') {
   let error = 'no error';
   try {
     call();
@@ -25,7 +33,7 @@ export function fails(kind, call, what, text) {
     error = found;
   }
   same(error.constructor.name, kind.name, what);
-  if (text) same(error.message, text, what);
+  says(error.message, words, what);
   return error;
 }
 
