@@ -7,7 +7,7 @@ here=$(dirname "$(readlink -f "${BASH_SOURCE[0]}")")
 . checks/lib/proved.sh
 top=$PWD
 vectors=$top/crates/vectors/data
-node=node=20.16+ # that of package.json
+node=node=$(sed -n 's/.*"node": ">=\(.*\)".*/\1/p' bindings/js/package.json)+
 export MULTIHASH_VERDICTS=$vectors/verdicts.tsv
 
 # All tests of a folder, or those that other words choose. No process may take more than that CPU time.
@@ -88,7 +88,7 @@ test_browser() {
 
 # shellcheck source=tools/tool_versions
 . tools/tool_versions
-needs="rt wasm-opt=$binaryen wasm2wat=$wabt" try "the WebAssembly built anew" "$here/build.sh" --check
+needs="rt wasm-opt=$binaryen wasm2wat=$wabt" try "tools/generate wasm" "$here/build.sh" --check
 needs=wasm-validate try "the WebAssembly for old engines" old_module
 needs="$node npm" try "in Node.js" npm_test "$here"
 needs="$node npm" try "drawn inputs" drawn

@@ -10,16 +10,15 @@ sys.path.append(str(TOP / "crates" / "vectors"))
 import verdicts
 
 CARGO, RULES, MAN = f"{RUST}/multihash/Cargo.toml", verdicts.RULES, "crates/mh_show/mh_show.1"
-MORE = (f"{JS}/core.js", f"{JS}/test.sh", "checks/page_programs.t", "checks/release.t", "tools/install")
-# a version or a limit as pages and these state it, and where it is from
+# a version or a limit as pages and core.js state it, and where it is from
 STATED = (
-    (r"Rust (\d[\d.]*\d)", CARGO, r'rust-version = "(.*)"'),
-    (r"Rust (\d[\d.]*\d)", f"{RUST}/verified-multihash/Cargo.toml", r'rust-version = "(.*)"'),
-    (r"CMake (\d[\d.]*\d)", "CMakeLists.txt", r"cmake_minimum_required\(VERSION (.*)\)"),
-    (r"(?<!In )CPython (\d\.\d+)", f"{PYTHON}/pyproject.toml", r'requires-python = ">=(.*)"'),
-    (r"[Nn]ode(?:\.js |=)(\d+\.\d+)", f"{JS}/package.json", r'"node": ">=(.*)"'),
-    (r"`multihash` (\d[\d.]*\d)", CARGO, r'\nversion = "(.*)"'),
-    (r"logic `([^`]*)`", "tools/tool_versions", r"(?m)^logic=(.*)"),
+    (r"Rust\s+(\d[\d.]*\d)", CARGO, r'rust-version = "(.*)"'),
+    (r"Rust\s+(\d[\d.]*\d)", f"{RUST}/verified-multihash/Cargo.toml", r'rust-version = "(.*)"'),
+    (r"CMake\s+(\d[\d.]*\d)", "CMakeLists.txt", r"cmake_minimum_required\(VERSION (.*)\)"),
+    (r"(?<!In )CPython\s+(\d\.\d+)", f"{PYTHON}/pyproject.toml", r'requires-python = ">=(.*)"'),
+    (r"Node\.js\s+(\d+\.\d+)", f"{JS}/package.json", r'"node": ">=(.*)"'),
+    (r"`multihash`\s+(\d[\d.]*\d)", CARGO, r'\nversion = "(.*)"'),
+    (r"logic\s+`([^`]*)`", "tools/tool_versions", r"(?m)^logic=(.*)"),
     (r"\| a digest \| 0 to `min\(S, (\d+)\)", HEADER, r"MULTIHASH_DIGEST_MAX (\d+)"),
     (r"\| an encoding \| 2 to (\d+)", HEADER, r"MULTIHASH_LENGTH_MAX (\d+)"),
     (r"\| both varints together \| 2 to (\d+)", HEADER, r"MULTIHASH_HEAD_MAX (\d+)"),
@@ -33,15 +32,14 @@ def flat(text: str) -> str:
 
 def stated_errors() -> Iterator[str]:
     """Compares versions and limits of pages with where they are from, and the statuses in the page for C."""
-    prose = {path: flat(read(path)) for path in (*pages(), *MORE)}
     for form, source, origin in STATED:
         wanted = "".join(re.findall(origin, read(source)))
-        found = {path: values for path, text in prose.items() if (values := re.findall(form, text))}
-        if not found:
+        found = {path: [*re.finditer(form, read(path))] for path in (*pages(), f"{JS}/core.js")}
+        if not any(found.values()):
             yield f"{source}: no page has what it states: {form}"
-        for path, values in found.items():
-            if wanted not in values:
-                yield f"{placed(path, values[0])}: {values}, {source} has {wanted!r}: {form}"
+        for path, parts in found.items():
+            if wanted not in [part[1] for part in parts]:
+                yield from (f"{placed(path, part[0])}: {part[0]}, {source} has {wanted}" for part in parts)
     said = dict(re.findall(r"case (MULTIHASH_\w+):\s*return \"([^\"]*)\";", read(HEADER)))
     for name, number in re.findall(r"^ +(MULTIHASH_\w+) = (\d+)", read(HEADER), re.M):
         if f"| `{name}` | {number} | {said.get(name)} |" not in read(C):
