@@ -1,6 +1,6 @@
 #!/usr/bin/env bash
 # The packages for Rust: their tests over the test vectors and drawn inputs, with and without std, by other versions and
-# on other targets, beside the library for C and other crates; that the proved source is packed without its contracts
+# on other targets, beside other crates; that the proved source is packed without its contracts
 # alone; the packages as packed, and in place of upstream's; serde; lints.
 # shellcheck source=checks/lib/tap.sh
 . "$(dirname "$0")/lib/tap.sh"
@@ -52,11 +52,6 @@ without_std() {
 debians_rust() {
   tests verified-multihash PATH=/usr/bin:/bin CARGO_TARGET_DIR="$work/debian" cargo test
   tests multihash PATH=/usr/bin:/bin CARGO_TARGET_DIR="$work/debian" cargo test --features serde
-}
-
-in_c() {
-  cc -O2 -I bindings/c/include bindings/c/tests/{test,verdicts,models,draws,buffer,messages}.c bindings/c/src/multihash.c -o "$work/c"
-  prints "$(sed 1d "$work/list" | wc -l) lines" "$work/c" "$work/list" 0 0 vectors
 }
 
 # The tests on a target with another byte order or word, by a linker and an emulator.
@@ -194,7 +189,6 @@ cp crates/vectors/data/values.tsv "$work"
 needs=$cargo try "the tests" rust_tests
 needs=$bare try "the tests without std" without_std
 needs="/usr/bin/cargo /usr/bin/rustc $crates" try "the tests with Debian's Rust" debians_rust
-needs=cc try "the list in C" in_c
 needs="$cargo $registry/cid-0.5* $registry/multihash-0.11* $registry/unsigned-varint-0.5*" try "beside other crates" \
   tests tests/neighbours cargo test
 try "the proved source" only_removed

@@ -31,14 +31,6 @@ old_module() {
   wasm-validate ${later/--disable-bulk-memory/} "$here/multihash.wasm"
 }
 
-# The command of README.md installs the package in a folder of a user's own.
-page_install() {
-  mkdir "$work/own"
-  cd "$work/own"
-  npm_config_offline=true npm_config_cache=$work/npm MH=$top bash -c "$(block_of "$here/README.md" sh)"
-  node --input-type=module -e "import 'verified-multihash'"
-}
-
 # What is packed is installed elsewhere and imported from CommonJS.
 packed_script() {
   local at=$work/elsewhere
@@ -92,7 +84,6 @@ needs="rt wasm-opt=$binaryen wasm2wat=$wabt" try "tools/generate wasm" "$here/bu
 needs=wasm-validate try "the WebAssembly for old engines" old_module
 needs="$node npm" try "in Node.js" npm_test "$here"
 needs="$node npm" try "drawn inputs" drawn
-needs="$node npm" try "the page's installation" page_install
 ONLY='' needs="$node npm" try "the packed package" packed_script
 needs="$node npm tsc" try "the packed package's types" packed_types
 test_browser chromium chromium
