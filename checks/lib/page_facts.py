@@ -43,7 +43,7 @@ def stated_errors() -> Iterator[str]:
     said = dict(re.findall(r"case (MULTIHASH_\w+):\s*return \"([^\"]*)\";", read(HEADER)))
     for name, number in re.findall(r"^ +(MULTIHASH_\w+) = (\d+)", read(HEADER), re.M):
         if f"| `{name}` | {number} | {said.get(name)} |" not in read(C):
-            yield f"{C}: {name} is {number}, {said.get(name)}"
+            yield f"{placed(C, f'| `{name}`')}: {name} is {number}, {said.get(name)}"
 
 
 def shown_errors() -> Iterator[str]:
