@@ -17,7 +17,7 @@ from typing import NamedTuple
 
 sys.path.append(str(Path(__file__).with_name("lib")))
 import tap
-from page_links import FENCE, JS, README, RUST, TOP, read
+from pages import FENCE, JS, README, RUST, TOP, read
 
 ROW = re.compile(r"^\| \[(\w+)[^\]]*\]\(([^)]*)\) \| `([^`]+)` \|", re.M)
 HEAD = re.compile(r"(?://|#) (\S+): (.*)\n")
