@@ -2,10 +2,6 @@
 
 import hashlib
 import io
-import mmap
-import os
-import resource
-import tempfile
 import unittest
 from pathlib import Path
 from unittest.mock import Mock, patch
@@ -74,18 +70,6 @@ class Hashes(unittest.TestCase):
         for error, turn in ((BlockingIOError, None), (RuntimeError, StopIteration), (OSError, OSError)):
             file = Mock(read=Mock(side_effect=[b"ab", turn]))
             self.assertRaises(error, hashes.verify_file, hashes.digest(b"ab", "sha1"), file)
-
-    @unittest.skipIf("asan" in os.environ.get("LD_PRELOAD", ""), "the sanitizer has more memory than the limit")
-    def test_identity(self):
-        """It copies no long data, neither to verify them nor before its error."""
-        before = resource.getrlimit(resource.RLIMIT_DATA)
-        self.addCleanup(resource.setrlimit, resource.RLIMIT_DATA, before)
-        with tempfile.TemporaryFile() as file:
-            file.truncate(1 << 33)
-            with mmap.mmap(file.fileno(), 0, access=mmap.ACCESS_READ) as data:
-                resource.setrlimit(resource.RLIMIT_DATA, (1 << 30, before[1]))
-                self.assertIs(hashes.verify(Multihash(0, b""), data), False)
-                self.assertRaisesRegex(MultihashError, "8589934592", hashes.digest, data, "identity")
 
     def test_constant(self):
         for names in (hashes.CODES, hashes.NAMES):

@@ -205,6 +205,8 @@ class Arguments(unittest.TestCase):
                 self.assertEqual(vm.scale_decode(data), (Multihash(0, b""), 9))
                 for call, size in ((vm.decode, length - 2), *((call, length) for call in BYTES_CALLS[4:])):
                     self.assertEqual(self.error_of(call, data)[:2], (Status.INVALID_SIZE, size))
+                self.assertIs(hashes.verify(Multihash(0, b""), data), False)
+                self.assertEqual(self.error_of(hashes.digest, data, "identity")[1], length)
 
     def test_errors(self):
         self.assertIs(MultihashError(Status.NO_ROOM).is_incomplete, False)
