@@ -41,10 +41,10 @@ STATED = (
     (r"Node\.js\s+(\d+\.\d+)", f"{JS}/package.json", r'"node": ">=(.*)"'),
     (r"`multihash`\s+(\d[\d.]*\d)", CARGO, r'\nversion = "(.*)"'),
     (r"logic\s+`([^`]*)`", "tools/tool_versions", r"(?m)^logic=(.*)"),
-    (r"\| a digest \| 0 to `min\(S, (\d+)\)", HEADER, r"MULTIHASH_DIGEST_MAX (\d+)"),
-    (r"\| an encoding \| 2 to (\d+)", HEADER, r"MULTIHASH_LENGTH_MAX (\d+)"),
-    (r"\| both varints together \| 2 to (\d+)", HEADER, r"MULTIHASH_HEAD_MAX (\d+)"),
-    (r"\| a SCALE encoding \| 9 to (\d+)", HEADER, r"MULTIHASH_SCALE_LENGTH_MAX (\d+)"),
+    (r"digest \| 0 to `min\(S, (\d+)\)", HEADER, r"MULTIHASH_DIGEST_MAX (\d+)"),
+    (r"encoding \| 2 to (\d+)", HEADER, r"MULTIHASH_LENGTH_MAX (\d+)"),
+    (r"varints[^|]*\| 2 to (\d+)", HEADER, r"MULTIHASH_HEAD_MAX (\d+)"),
+    (r"SCALE[^|]*\| 9 to (\d+)", HEADER, r"MULTIHASH_SCALE_LENGTH_MAX (\d+)"),
 )
 
 
