@@ -79,8 +79,10 @@ TEXTS = [
 ]
 
 
-def words_of(text):
-    return {*re.findall(r"[^\s:,()]+", text)}
+def says(text, words):
+    """Whether a text has these words in this order, in any sentence."""
+    rest = iter(re.findall(r"[^\s:,()]+", text))
+    return all(word in rest for word in words.split())
 
 
 def attributes_of(error):
@@ -212,7 +214,7 @@ class Arguments(unittest.TestCase):
         for call, arguments, words in TEXTS:
             with self.assertRaises((TypeError, ValueError)) as raised:
                 call(*arguments)
-            self.assertEqual(words_of(words) - words_of(str(raised.exception)), set(), raised.exception)
+            self.assertTrue(says(str(raised.exception), words), (raised.exception, words))
 
 
 class Values(unittest.TestCase):
