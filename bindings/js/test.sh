@@ -8,20 +8,9 @@ here=$(dirname "$(readlink -f "${BASH_SOURCE[0]}")")
 top=$PWD
 vectors=$top/crates/vectors/data
 node=node=$(sed -n 's/.*"node": ">=\(.*\)".*/\1/p' bindings/js/package.json)+
-export MULTIHASH_VERDICTS=$vectors/verdicts.tsv
 
-# All tests of a folder, or those that other words choose. No process may take more than that CPU time.
-npm_test() { (cd "$1"; ulimit -t 600; npm test -- "${@:2}"); }
-
-# Inputs that are drawn have the results that verdicts.py computes.
-drawn() {
-  local -x MULTIHASH_VERDICTS=$work/drawn/verdicts.tsv
-  mkdir "$work/drawn"
-  cp "$vectors"/{hashes,values}.tsv "$work/drawn"
-  crates/vectors/verdicts.py --draw 1 3000 > "$work/drawn/verdicts.tsv"
-  crates/vectors/verdicts.py --more 1 3000 | sed -n '/^order/p' >> "$work/drawn/verdicts.tsv"
-  npm_test "$here" --test-name-pattern=vectors tests/index.test.js
-}
+# No process may take more than that CPU time.
+npm_test() { (cd "$here"; ulimit -t 600; npm test); }
 
 # The module has the instructions of WebAssembly's first version and bulk memory operations, and no others.
 # shellcheck disable=SC2086 # words
@@ -82,8 +71,7 @@ test_browser() {
 . tools/tool_versions
 needs="rt wasm-opt=$binaryen wasm2wat=$wabt" try "tools/generate wasm" "$here/build.sh" --check
 needs=wasm-validate try "the WebAssembly for old engines" old_module
-needs="$node npm" try "in Node.js" npm_test "$here"
-needs="$node npm" try "drawn inputs" drawn
+needs="$node npm" try "in Node.js" npm_test
 ONLY='' needs="$node npm" try "the packed package" packed_script
 needs="$node npm tsc" try "the packed package's types" packed_types
 test_browser chromium chromium
