@@ -1,6 +1,6 @@
 #!/usr/bin/env python3
-"""Compares the pages with the sources: links, names, versions, limits, and what blocks and tables show. What a page says
-in its own words is not compared."""
+"""Compares the pages with the sources: links, names, versions, limits, and what blocks and tables show. What a page
+says in its own words is not compared."""
 import sys
 from pathlib import Path
 

@@ -1,5 +1,5 @@
-/* The inputs of the tests: buffers, each with exactly its length, so that sanitizers and valgrind see an access after its
- * end; and random inputs, the same ones on every machine, or, if FUZZ is defined, those of libFuzzer. */
+/* The inputs of the tests: buffers, each with exactly its length, so that sanitizers see an access after its end; and
+ * random inputs, the same ones on every machine, or, if FUZZ is defined, those of libFuzzer. */
 #ifndef _GNU_SOURCE
 #define _GNU_SOURCE
 #endif
