@@ -3,5 +3,5 @@
 # shellcheck source=checks/lib/tap.sh
 . "$(dirname "$0")/lib/tap.sh"
 
-for what in c rust contracts vectors names; do try "$what" tools/generate "$what" --check; done
+for what in c rust contracts vectors names statuses; do try "$what" tools/generate "$what" --check; done
 finish

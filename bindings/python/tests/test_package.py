@@ -44,32 +44,23 @@ def shown(number):
 
 
 LONGEST = b"\xff" * 8 + b"\x7f"  # varint
-# What each wrong call says: its text alone has to be enough.
+UNKNOWN = (1 << 64) - 1  # what is as large or larger has only the text of its status
+# What each wrong call says, whose text alone has to be enough: the tests of the library for C have its other messages.
 TEXTS = [
     (vm.decode, [b""], "the input is empty"),
-    (vm.decode, [b"\x92"], "the input ends inside the code"),
-    (vm.decode, [b"\x12"], "the input ends before the digest's length"),
-    (vm.decode, [b"\x12\x80"], "the input ends inside the digest's length"),
-    (vm.decode, [b"\xff" * 9], "the varint of the code has more than nine bytes"),
-    (vm.head, [b"\x12" + b"\xff" * 9], "the varint of the digest's length has more than nine bytes"),
     (vm.head, [b"\x92\0\1"], "the varint of the code is not minimal: it ends in a zero byte"),
-    (vm.decode, [b"\x12\x81\0a"], "the varint of the digest's length is not minimal: it ends in a zero byte"),
-    (vm.decode, [LONGEST + b"\x81\0"], "the varint of the digest's length is not minimal: it ends in a zero byte"),
+    (vm.head, [b"\x12" + b"\xff" * 9], "the varint of the digest's length has more than nine bytes"),
     (vm.decode, [LONGEST * 2], "the digest has 9223372036854775807 bytes, and the limit is 255"),
-    (vm.decode, [b"\x12\xac\2"], "the digest has 300 bytes, and the limit is 255"),
     (vm.decode, [b"\x12\3ab"], "the input ends inside the digest (2 of 3 bytes)"),
-    (vm.decode, [b"\x12\1ab"], "1 byte follows the multihash"),
     (vm.decode, [bytearray(1002)], "1000 bytes follow the multihash"),
     (vm.read, [b"\x12\3abc", 2], "the digest has 3 bytes, and the limit is 2"),
     (vm.read, [b"\x12\x80\2", 999], "the digest has 256 bytes, and the limit is 255"),
     (vm.read_from, [io.BytesIO(b"\x12\3abc"), 2], "the digest has 3 bytes, and the limit is 2"),
     (vm.read_from, [io.BytesIO(b"\x12\3ab")], "the input ends inside the digest (2 of 3 bytes)"),
-    (vm.scale_decode, [b""], "the input is empty"),
-    (vm.scale_decode, [bytes(7)], "the input ends inside the code (7 of 8 bytes)"),
-    (vm.scale_decode, [bytes(8)], "the input ends before the digest's length"),
     (vm.scale_decode, [bytes(8) + b"\3ab"], "the input ends inside the digest (2 of 3 bytes)"),
     (vm.scale_decode, [bytes(7) + b"\x80"], "the code 9223372036854775808 is 2^63 or more"),
-    (vm.encoded_len, [18, 10**5000], "the digest has %s bytes, and the limit is 255" % shown(10**5000)),
+    (vm.encoded_len, [18, UNKNOWN - 1], "the digest has 18446744073709551614 bytes, and the limit is 255"),
+    (vm.encoded_len, [18, UNKNOWN], "the digest is too long, or bytes follow the multihash (18446744073709551615)"),
     (vm.decode, ["1220"], "data must be bytes (Multihash.fromhex takes text), not str"),
     (vm.read, [3], "data must be a bytes-like object, not int"),
     (Multihash.fromhex, [b"1220"], "text must be a str (decode takes bytes), not bytes"),
@@ -165,7 +156,9 @@ class Arguments(unittest.TestCase):
             for code in NEGATIVE:
                 self.assertRaisesRegex(ValueError, "^code must be 0 or more, not %d$" % code, call, code, b"")
             for code in (1 << 63, (1 << 64) - 1, 1 << 64, (1 << 64) + 18, 1 << 700, 10**5000):
-                text = "the code %s is 2^63 or more" % shown(code)
+                text = ("the code %s is 2^63 or more" if code < UNKNOWN else "the code is 2^63 or more (%s)") % shown(
+                    code
+                )
                 self.assertEqual(self.error_of(call, code, bytes(255)), (Status.INVALID_CODE, 0, code, text))
                 text = "the digest has 256 bytes, and the limit is 255"
                 self.assertEqual(self.error_of(call, code, bytes(256)), (Status.INVALID_SIZE, 256, 0, text))
@@ -213,7 +206,7 @@ class Arguments(unittest.TestCase):
     def test_errors(self):
         self.assertIs(MultihashError(Status.NO_ROOM).is_incomplete, False)
         self.assertEqual(MultihashError(1).args, (1, 0, 0, 0, ""))
-        for wrong, text in ((0, "^OK is the status of no error$"), (8, ""), (-1, "")):
+        for wrong, text in ((0, "^OK is the status of no error$"), (len(Status), ""), (-1, "")):
             self.assertRaisesRegex(ValueError, text, MultihashError, wrong)
         large = MultihashError(5, 0, 10**4300)
         text = "the code is 2^63 or more (%s)" % shown(large.code)  # of the C library
