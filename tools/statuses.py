@@ -26,11 +26,11 @@ export const STATUSES = [
     "statuses.d.ts": (
         """// The statuses of multihash.h. Made by tools/generate statuses.
 
-/** The status of a call. */
-export type LibraryStatus =
-{}  ;
+/** Their names, by their numbers. */
+export const STATUSES: readonly [
+{}];
 """,
-        "  /** {text} */\n  | '{lower}'\n",
+        "  /* {text} */\n  '{lower}',\n",
     ),
     "_status.py": (
         '''"""The statuses of multihash.h. Made by tools/generate statuses."""

@@ -1,4 +1,4 @@
-import type { LibraryStatus } from './statuses.js';
+import type { STATUSES } from './statuses.js';
 
 export * from './hashes.js';
 
@@ -19,8 +19,8 @@ export const version: string;
  */
 export type Wide = number | bigint;
 
-/** Why a call failed; `not_hexadecimal`: a text is not an even number of hexadecimal digits. */
-export type Status = Exclude<LibraryStatus, 'ok' | 'no_room'> | 'not_hexadecimal';
+/** Why a call failed: see `STATUSES`. With `not_hexadecimal` a text is not an even number of hexadecimal digits. */
+export type Status = Exclude<(typeof STATUSES)[number], 'ok' | 'no_room'> | 'not_hexadecimal';
 
 /** The fields of an error. */
 export interface Details {

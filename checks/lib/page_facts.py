@@ -4,7 +4,7 @@ import re
 import sys
 from collections.abc import Iterator
 
-from page_links import C, CALLING, FENCE, FORMAT, HEADER, JS, PYTHON, README, RUST, TOP, pages, paths, placed, read
+from page_links import CALLING, FENCE, FORMAT, HEADER, JS, PYTHON, README, RUST, TOP, pages, paths, placed, read
 
 sys.path.append(str(TOP / "crates" / "vectors"))
 import verdicts
@@ -32,7 +32,7 @@ def flat(text: str) -> str:
 
 
 def stated_errors() -> Iterator[str]:
-    """Compares versions and limits of pages with where they are from, and the statuses in the page for C."""
+    """Compares versions and limits of pages with where they are from."""
     prose = {path: flat(read(path)) for path in (*pages(), *MORE)}
     for form, source, origin in STATED:
         wanted = "".join(re.findall(origin, read(source)))
@@ -42,10 +42,6 @@ def stated_errors() -> Iterator[str]:
         for path, values in found.items():
             if wanted not in values:
                 yield f"{placed(path, values[0])}: {values}, {source} has {wanted!r}: {form}"
-    said = dict(re.findall(r"case (MULTIHASH_\w+):\s*return \"([^\"]*)\";", read(HEADER)))
-    for name, number in re.findall(r"^ +(MULTIHASH_\w+) = (\d+)", read(HEADER), re.M):
-        if f"| `{name}` | {number} | {said.get(name)} |" not in read(C):
-            yield f"{C}: {name} is {number}, {said.get(name)}"
 
 
 def shown_errors() -> Iterator[str]:

@@ -21,7 +21,6 @@ DECLARED = (
     ("CMakeLists.txt", r"^#   ([A-Z_]+) ", "bindings/c/PACKAGING.md"),
     (f"{JS}/index.d.ts", r"^export (?:function|class) (\w+)", f"{JS}/README.md"),
     (f"{JS}/hashes.d.ts", r"^export (?:function|const) (\w+)", f"{JS}/README.md"),
-    (f"{PYTHON}/src/verified_multihash/__init__.py", r"^    ([A-Z_]+) = [1-6]\b", f"{PYTHON}/README.md"),
     (f"{RUST}/verified-multihash/Cargo.toml", r"^(std|alloc) =", VERIFIED),
     (f"{RUST}/multihash/Cargo.toml", r"^([\w-]+) = \[\"?(?:\]|dep:|ver|serde)", SHIM),
     ("crates/multihash/src/error.rt", r"pub fn (\w+)\(&self\)", FORMAT),
