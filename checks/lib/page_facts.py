@@ -59,7 +59,7 @@ def shown_errors() -> Iterator[str]:
 
 
 def byte_errors() -> Iterator[str]:
-    """Computes by the rules of verdicts.py what pages show of bytes: varints, results, lines of test vectors."""
+    """Computes by the rules of verdicts.py what pages show of bytes: varints and results."""
     prose, python = read(FORMAT), f"{PYTHON}/README.md"
     for power, number, data in re.findall(r"^\| (?:2\^(\d+) - 1|(\d+)) \| `([0-9a-f ]+)` \|$", prose, re.M):
         if RULES.varint(bytes.fromhex(data), 0)[0] != int(number or 2 ** int(power) - 1):
@@ -82,7 +82,3 @@ def byte_errors() -> Iterator[str]:
                 name = found.split()[0].replace("unexpected_eof", "truncated").replace("_", " ")
                 if name not in result or consumed != str(taken or ""):
                     yield f"{FORMAT}: {data} is {found}, and {taken} bytes are consumed"
-    page = "crates/vectors/data/README.md"
-    for line in re.findall(r"^\d+\t.*", read(page), re.M):
-        if line != RULES.line(int(line.split("\t")[0]), bytes.fromhex(line.split("\t")[1])):
-            yield f"{page}: not computed: {line}"

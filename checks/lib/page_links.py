@@ -76,7 +76,7 @@ def link_errors() -> Iterator[str]:
 
 def name_errors() -> Iterator[str]:
     """Returns what a source declares and its page does not name, and the public names of the library that neither the
-    Rust package multihash nor DIFFERENCES.md has."""
+    Rust package multihash nor DIFFERENCES.md nor FORMAT.md has."""
     for source, form, page in DECLARED:
         names = {*re.findall(form, read(source), re.M)}
         missing = [name for name in names if not re.search(rf"(?<![\w-])(?:-D)?{name}(?![\w-])", read(page))]
@@ -86,5 +86,5 @@ def name_errors() -> Iterator[str]:
     public = re.compile(r"^ *pub (?:fn|struct|enum|trait|type|mod|const) (\w+)", re.M)
     names = {name for path in library for name in public.findall(read(path))}
     upstream = [path for path in paths() if path.startswith(f"{RUST}/multihash/src/")]
-    known = {*re.findall(r"\w+", "".join(map(read, [*upstream, DIFFERENCES])))}
+    known = {*re.findall(r"\w+", "".join(map(read, [*upstream, DIFFERENCES, FORMAT])))}
     yield from (f"{DIFFERENCES} does not have {name}" for name in sorted(names - known))
