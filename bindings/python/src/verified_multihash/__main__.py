@@ -11,7 +11,7 @@ import os
 import re
 import sys
 
-from . import MultihashError, Status, read
+from . import MultihashError, Status, _core, read
 
 MOST_INPUT = 65536
 # The reasons that mh_show prints, in the words of the Rust crate multihash if it has them; {} is the size.
@@ -66,7 +66,7 @@ def main() -> int:
     except OSError:
         pass
     except MultihashError as error:
-        reason = REASONS.get(error.status, str(error)).format(error.size)
+        reason = REASONS.get(error.status, _core.status_text(error.status)).format(error.size)
     except ValueError as error:
         reason = str(error)
     try:
