@@ -5,13 +5,10 @@
 """
 import re
 import sys
-import textwrap
 from pathlib import Path
 
-HEADER = Path(__file__).resolve().parents[1] / "bindings/c/include/multihash.h"
-FOUND = re.findall(r"/\*((?:(?!\*/).)*)\*/\s*MULTIHASH_(\w+) = (\d+)", HEADER.read_text("utf-8"), re.S)
-# The name, the number and the description of each status.
-STATUSES = [(name, number, " ".join(re.sub(r"\n *\*", "", comment).split())) for comment, name, number in FOUND]
+HEADER = (Path(__file__).resolve().parents[1] / "bindings/c/include/multihash.h").read_text("utf-8")
+STATUSES = re.findall(r"/\*((?:(?!\*/).)*)\*/\s*MULTIHASH_(\w+) = (\d+)", HEADER, re.S)
 # The text of each file, and what has a row of each status in it.
 FILES = {
     "statuses.js": (
@@ -52,13 +49,13 @@ class Status(enum.IntEnum):
 
 
 def rows(form: str) -> str:
-    """Returns a row for each status, whose lines have at most 120 columns."""
-    lines = [
-        line
-        for name, number, text in STATUSES
-        for line in form.format(name=name, lower=name.lower(), number=number, text=text).splitlines()
-    ]
-    return "".join(f"{textwrap.fill(line, 120, subsequent_indent='    ')}\n" for line in lines)
+    """Returns a row for each status. A comment of several lines, which begin with asterisks, is one."""
+    return "".join(
+        form.format(
+            name=name, lower=name.lower(), number=number, text=" ".join(comment.replace("\n     *", "").split())
+        )
+        for comment, name, number in STATUSES
+    )
 
 
 if __name__ == "__main__":

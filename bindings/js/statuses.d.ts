@@ -10,7 +10,7 @@ export const STATUSES: readonly [
   'overflow',
   /* A varint of more than one byte ends in a zero byte. */
   'not_minimal',
-  /* The digest is too long, and `size` is its length; or bytes follow the multihash, and `size` is their number. */
+  /* `size` is the length of a digest that is too long, or the number of bytes that follow the multihash. */
   'invalid_size',
   /* The code is 2^63 or more. A decoding returns it in `code`. */
   'invalid_code',

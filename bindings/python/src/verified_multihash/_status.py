@@ -10,8 +10,7 @@ class Status(enum.IntEnum):
     INSUFFICIENT: The input ends before or inside a varint. More input can change the result.
     OVERFLOW: A varint has more than nine bytes; numbers of 2^63 and above do.
     NOT_MINIMAL: A varint of more than one byte ends in a zero byte.
-    INVALID_SIZE: The digest is too long, and `size` is its length; or bytes follow the multihash, and `size` is their
-    number.
+    INVALID_SIZE: `size` is the length of a digest that is too long, or the number of bytes that follow the multihash.
     INVALID_CODE: The code is 2^63 or more. A decoding returns it in `code`.
     UNEXPECTED_EOF: The input ends inside the digest or, in SCALE, before it. More input can change the result.
     NO_ROOM: `out` is too small. `length` is the size it needs.
