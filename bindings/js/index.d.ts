@@ -19,7 +19,7 @@ export const version: string;
  */
 export type Wide = number | bigint;
 
-/** Why a call failed: see `STATUSES`. With `not_hexadecimal` a text is not an even number of hexadecimal digits. */
+/** Why a call failed: see statuses.d.ts. With `not_hexadecimal` a text is not an even number of hexadecimal digits. */
 export type Status = Exclude<(typeof STATUSES)[number], 'ok' | 'no_room'> | 'not_hexadecimal';
 
 /** The fields of an error. */

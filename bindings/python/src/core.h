@@ -54,7 +54,8 @@ extern long version; /* of CPython, as sys.hexversion */
 PyObject *module_of_type(PyTypeObject *type);
 
 /* Raises the error of an encoding, whose code is that number, as `get_number` has it. It steals the references to the
- * length, which may be null, and to the code. Of what may be too large for a number the text is empty. */
+ * length, which may be null, and to the code. If a number may be the largest in place of a larger one, the text is that
+ * of the status. */
 PyObject *encoding_error(PyObject *module, multihash_encoded made, uint64_t number, PyObject *length, PyObject *code);
 
 /* The multihash that a decoding found in an input, or its error. The limit of a digest is null for SCALE. */

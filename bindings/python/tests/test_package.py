@@ -156,10 +156,9 @@ class Arguments(unittest.TestCase):
             for code in NEGATIVE:
                 self.assertRaisesRegex(ValueError, "^code must be 0 or more, not %d$" % code, call, code, b"")
             for code in (1 << 63, (1 << 64) - 1, 1 << 64, (1 << 64) + 18, 1 << 700, 10**5000):
-                text = ("the code %s is 2^63 or more" if code < UNKNOWN else "the code is 2^63 or more (%s)") % shown(
-                    code
-                )
-                self.assertEqual(self.error_of(call, code, bytes(255)), (Status.INVALID_CODE, 0, code, text))
+                text = "the code %s is 2^63 or more" if code < UNKNOWN else "the code is 2^63 or more (%s)"
+                wanted = Status.INVALID_CODE, 0, code, text % shown(code)
+                self.assertEqual(self.error_of(call, code, bytes(255)), wanted)
                 text = "the digest has 256 bytes, and the limit is 255"
                 self.assertEqual(self.error_of(call, code, bytes(256)), (Status.INVALID_SIZE, 256, 0, text))
         self.assertEqual(self.error_of(vm.scale_decode, bytes(7) + b"\x80\0")[2], 1 << 63)

@@ -13,7 +13,7 @@ from verified_multihash import MultihashError
 LIST = Path(os.environ.get("MULTIHASH_VERDICTS", Path(__file__).parent / "verdicts.tsv"))
 MORE = bytes(400)
 KINDS = (bytes, bytearray, memoryview)
-HEAD = re.compile(2 * b"((?s:[\x80-\xff]{1,8}[\1-\x7f]|[\0-\x7f]))")
+HEAD = re.compile(2 * b"([\x80-\xff]{1,8}[\1-\x7f]|[\0-\x7f])")  # two varints
 
 
 class Counts:
