@@ -4,5 +4,5 @@
 # shellcheck source=checks/lib/tap.sh
 . "$(dirname "$0")/lib/tap.sh"
 
-for what in c rust contracts vectors names; do try "tools/generate $what" tools/generate "$what" --check; done
+for what in c rust contracts vectors names statuses; do try "tools/generate $what" tools/generate "$what" --check; done
 finish

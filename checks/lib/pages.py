@@ -25,7 +25,6 @@ DECLARED = (
     ("CMakeLists.txt", r"^#   ([A-Z_]+) ", "bindings/c/PACKAGING.md"),
     (f"{JS}/index.d.ts", r"^export (?:function|class) (\w+)", f"{JS}/README.md"),
     (f"{JS}/hashes.d.ts", r"^export (?:function|const) (\w+)", f"{JS}/README.md"),
-    (f"{PYTHON}/src/verified_multihash/__init__.py", r"^    ([A-Z_]+) = [1-6]\b", f"{PYTHON}/README.md"),
     (f"{RUST}/verified-multihash/Cargo.toml", r"^(std|alloc) =", VERIFIED),
     (f"{RUST}/multihash/Cargo.toml", r"^([\w-]+) = \[\"?(?:\]|dep:|ver|serde)", SHIM),
     ("crates/multihash/src/error.rt", r"pub fn (\w+)\(&self\)", FORMAT),
@@ -96,7 +95,7 @@ def link_errors() -> Iterator[str]:
 
 def name_errors() -> Iterator[str]:
     """Returns what a source declares and its page does not name, and the public names of the library that neither the
-    Rust package multihash nor DIFFERENCES.md has."""
+    Rust package multihash nor DIFFERENCES.md nor FORMAT.md has."""
     for source, form, page in DECLARED:
         names = {*re.findall(form, read(source), re.M)}
         missing = [name for name in names if not re.search(rf"(?<![\w-])(?:-D)?{name}(?![\w-])", read(page))]
@@ -106,7 +105,7 @@ def name_errors() -> Iterator[str]:
     public = re.compile(r"^ *pub (?:fn|struct|enum|trait|type|mod|const) (\w+)", re.M)
     names = {name for path in library for name in public.findall(read(path))}
     upstream = [path for path in paths() if path.startswith(f"{RUST}/multihash/src/")]
-    known = {*re.findall(r"\w+", "".join(map(read, [*upstream, DIFFERENCES])))}
+    known = {*re.findall(r"\w+", "".join(map(read, [*upstream, DIFFERENCES, FORMAT])))}
     yield from (f"{DIFFERENCES} does not have {name}" for name in sorted(names - known))
 
 
@@ -115,7 +114,7 @@ def flat(text: str) -> str:
 
 
 def stated_errors() -> Iterator[str]:
-    """Compares versions and limits of pages with where they are from, and the statuses in the page for C."""
+    """Compares versions and limits of pages with where they are from."""
     for form, source, origin in STATED:
         wanted = "".join(re.findall(origin, read(source)))
         found = {path: [*re.finditer(form, read(path))] for path in (*pages(), f"{JS}/core.js")}
@@ -124,10 +123,6 @@ def stated_errors() -> Iterator[str]:
         for path, parts in found.items():
             if wanted not in [part[1] for part in parts]:
                 yield from (f"{placed(path, part[0])}: {part[0]}, {source} has {wanted}" for part in parts)
-    said = dict(re.findall(r"case (MULTIHASH_\w+):\s*return \"([^\"]*)\";", read(HEADER)))
-    for name, number in re.findall(r"^ +(MULTIHASH_\w+) = (\d+)", read(HEADER), re.M):
-        if f"| `{name}` | {number} | {said.get(name)} |" not in read(C):
-            yield f"{placed(C, f'| `{name}`')}: {name} is {number}, {said.get(name)}"
 
 
 def shown_errors() -> Iterator[str]:
@@ -145,7 +140,7 @@ def shown_errors() -> Iterator[str]:
 
 
 def byte_errors() -> Iterator[str]:
-    """Computes by the rules of verdicts.py what pages show of bytes: varints, results, lines of test vectors."""
+    """Computes by the rules of verdicts.py what pages show of bytes: varints and results."""
     prose, python = read(FORMAT), f"{PYTHON}/README.md"
     for power, number, data in re.findall(r"^\| (?:2\^(\d+) - 1|(\d+)) \| `([0-9a-f ]+)` \|$", prose, re.M):
         if RULES.varint(bytes.fromhex(data), 0)[0] != int(number or 2 ** int(power) - 1):
@@ -168,7 +163,3 @@ def byte_errors() -> Iterator[str]:
                 name = found.split()[0].replace("unexpected_eof", "truncated").replace("_", " ")
                 if name not in result or consumed != str(taken or ""):
                     yield f"{FORMAT}: {data} is {found}, and {taken} bytes are consumed"
-    page = "crates/vectors/data/README.md"
-    for line in re.findall(r"^\d+\t.*", read(page), re.M):
-        if line != RULES.line(int(line.split("\t")[0]), bytes.fromhex(line.split("\t")[1])):
-            yield f"{page}: not computed: {line}"
