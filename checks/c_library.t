@@ -12,9 +12,10 @@ require cc python3
 # The headers, by a compiler for C and one for C++, of the oldest and the newest standards. The tests are of others.
 headers() {
   local standard
-  "$1" -std=c99 "${warnings[@]}" -x c -fsyntax-only -include "$c/include/multihash_message.h" /dev/null
+  local each=(-include "$c/include/multihash_message.h" -include "$c/include/multihash_names.h")
+  "$1" -std=c99 "${warnings[@]}" -x c -fsyntax-only "${each[@]}" /dev/null
   for standard in c++11 c++20; do
-    "$2" -std=$standard "${warnings[@]}" -x c++ -fsyntax-only -include "$c/include/multihash_message.h" /dev/null
+    "$2" -std=$standard "${warnings[@]}" -x c++ -fsyntax-only "${each[@]}" /dev/null
   done
   "$2" -std=c++17 "${warnings[@]}" -fsyntax-only -I "$c/include" "$c/tests/types.cpp"
 }

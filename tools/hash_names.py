@@ -2,7 +2,7 @@
 """For `tools/generate names`: prints the names of hash functions, of hashes.tsv and codes.tsv of crates/vectors/data, as
 a file of a package.
 
-    tools/hash_names.py codes.js | codes.d.ts | _codes.py | codes.rs
+    tools/hash_names.py codes.js | codes.d.ts | _codes.py | codes.rs | multihash_names.h
 """
 import sys
 import textwrap
@@ -114,6 +114,39 @@ families! {
 """,
         "",
         '    "{name}" {code:#x}:\n{bits};\n',
+    ),
+    "multihash_names.h": (
+        """/* SPDX-License-Identifier: MIT
+ * Copyright (c) 2026 The Gilmekhus developers
+ * Made by tools/generate names. */
+
+/* multihash_names.h has the names of hash functions in the multicodec table. */
+#ifndef MULTIHASH_NAMES_H
+#define MULTIHASH_NAMES_H
+
+#include "multihash.h"
+
+#ifdef __cplusplus
+extern "C" {
+#endif
+
+/* Returns the name of the hash function of a code, a static string such as "sha2-256". Returns a null pointer for other
+ * codes, such as those of BLAKE2 and Skein whose digests have a length that is not listed here. */
+static inline const char *multihash_name(uint64_t code)
+{
+    switch (code) {
+@    default: return NULL;
+    }
+}
+
+#ifdef __cplusplus
+}
+#endif
+
+#endif
+""",
+        '    case {code:#x}: return "{name}";\n',
+        "",
     ),
 }
 

@@ -1,5 +1,6 @@
 // The exact type of each function and field in C++.
 #include "multihash_message.h"
+#include "multihash_names.h"
 
 #include <type_traits>
 
@@ -32,6 +33,7 @@ static_assert(is<int32_t(uint64_t, bytes, size_t, uint64_t, bytes, size_t)>(mult
 static_assert(is<uint32_t()>(multihash_version));
 static_assert(is<encoded(multihash_status, out, size_t)>(multihash_put_status_text));
 static_assert(is<text(multihash_status)>(multihash_status_text));
+static_assert(is<text(uint64_t)>(multihash_name));
 static_assert(is<int(char *, size_t, bytes, size_t, size_t)>(multihash_message));
 static_assert(is<int(char *, size_t, bytes, size_t)>(multihash_scale_message));
 static_assert(is<int(char *, size_t, encoded, uint64_t, size_t)>(multihash_encode_message));
