@@ -60,6 +60,7 @@ export function numbers({ Multihash, MultihashError, encode, encodedLength, read
         `${text} a whole number from 0 to 2^53 - 1, or a bigint, got ${wrong}`);
     for (const wrong of [-1n, 1n << 64n])
       fails(RangeError, () => call(wrong), `${wrong}`, `${text} from 0 to 2^64 - 1, got ${wrong}`);
+    fails(RangeError, () => call(10n ** 4000n), 'long', `${text} from 0 to 2^64 - 1, got 1${'0'.repeat(39)}...`);
   }
   const code = 1n << 63n;
   for (const encoder of encoders) {

@@ -94,6 +94,8 @@ export async function hashArguments({ Multihash, identity, sha256, verify }) {
   for (const call of [sha256.digest('abc'), identity.digest('abc'), verify(whole, 'abc')])
     same(await told(call), 'TypeError: content must be a Uint8Array, a ReadableStream or an async iterable, got string: '
       + 'new TextEncoder().encode(text) makes bytes', 'a content');
+  same(await told(verify(ABC, whole)),
+    'TypeError: content must be a Uint8Array, a ReadableStream or an async iterable, got Object', 'swapped arguments');
   for (const claim of ['1200', {}, null, new Blob()])
     same((await told(verify(claim, ABC))).startsWith('TypeError: multihash must be a Multihash or its encoding, got '),
       true, 'a claim');

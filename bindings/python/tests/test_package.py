@@ -76,7 +76,7 @@ TEXTS = [
     (Multihash, [18, "abc"], "digest must be bytes (bytes.fromhex takes hexadecimal), not str"),
     (Multihash, ["sha2-256", b"abc"], "code must be an int (hashes.CODES has the codes of names), not str"),
     (vm.encode, [1.5, b""], "code must be an int, not float"),
-    (vm.encode, [-(10**5000), b""], "code must be 0 or more, not %s" % shown(-(10**5000))),
+    (vm.encode, [-(10**5000), b""], "code must be 0 or more, not %.300s" % shown(-(10**5000))),
     (vm.encoded_len, [18, b""], "digest_length must be an int, not bytes"),
     (vm.read, [b"\0\0", "9"], "limit must be an int, not str"),
     (
@@ -89,6 +89,7 @@ TEXTS = [
     (hashes.digest, [b"", "blake3"], "hashlib does not have blake3 here"),
     (hashes.verify, [Multihash(1, b""), b""], "the code 0x1 has no name in hashes.NAMES"),
     (hashes.verify, ["1220", b""], "multihash must be a Multihash or its encoding, not str"),
+    (hashes.verify, [b"abc", Multihash(1, b"")], "data must be a bytes-like object, not Multihash"),
     (
         hashes.digest_file,
         ["path", "sha1"],
