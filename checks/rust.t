@@ -112,7 +112,9 @@ source, package = Path("crates/multihash/src"), Path("bindings/rust/verified-mul
 lines = re.compile(r"(pub )?ghost |requires|ensures|#!?\[tactic|#\[derive\(Drop\)|impl.* (Model for|for Vec<)|"
     r"use std::(marker::Model|alloc::Global)|(pub )?mod (json|laws|pins);")
 words = r", Drop\b|\b: Drop\b|<W: fmt::Write>|<W>|,? *\balloc: Global,?|\balloc, |\bpub (?=buffer|filled)"
-added = r"use crate::rattle::|#!\[|#\[cfg\(feature|extern crate|mod rattle;|#\[doc\(hidden|pub mod upstream;"
+added = (r"use crate::rattle::|#!\[|#\[cfg\(feature|extern crate|mod rattle;|#\[doc\(hidden|"
+    r"pub mod (codes|upstream);|mod io;|pub use crate::io::")
+by_hand = ("codes.rs", "io.rs", "rattle.rs", "upstream.rs")
 def code(path, is_left_out):
     text, depth, is_clause = "", 0, False
     for line in map(str.strip, path.read_text().splitlines()):
@@ -125,7 +127,7 @@ def code(path, is_left_out):
     return re.sub(rf"\s|{words}", "", text)
 for path in sorted(package.rglob("*.rs")):
     place = source / path.relative_to(package).with_suffix(".rt")
-    if path.name not in ("rattle.rs", "upstream.rs") and code(path, re.compile(added).match) != code(place, lines.match):
+    if path.name not in by_hand and code(path, re.compile(added).match) != code(place, lines.match):
         sys.exit(f"{path} has other code than {place}")
 END
 }

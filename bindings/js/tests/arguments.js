@@ -55,6 +55,7 @@ export function numbers({ Multihash, MultihashError, encode, encodedLength, read
     for (const wrong of [-1, 1.5, NaN, Infinity, 2 ** 53])
       fails(RangeError, () => call(wrong), `${wrong}`, `${name} 2^53 ${wrong}`);
     for (const wrong of [-1n, 1n << 64n]) fails(RangeError, () => call(wrong), `${wrong}`, `${name} 2^64 ${wrong}`);
+    fails(RangeError, () => call(10n ** 4000n), 'long', `${name} 2^64 1${'0'.repeat(39)}...`);
   }
   const code = 1n << 63n;
   for (const encoder of encoders) {

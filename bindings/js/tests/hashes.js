@@ -91,6 +91,7 @@ export async function hashArguments({ Multihash, identity, sha256, verify }) {
   says(await told(sha256.digest(ABC, 20)), 'TypeError options object 20', 'options');
   for (const call of [sha256.digest('abc'), identity.digest('abc'), verify(whole, 'abc')])
     says(await told(call), 'TypeError content Uint8Array ReadableStream string TextEncoder', 'a content');
+  says(await told(verify(ABC, whole)), 'TypeError content Object', 'swapped arguments');
   for (const claim of ['1200', {}, null, new Blob()])
     says(await told(verify(claim, ABC)), 'TypeError multihash Multihash got', 'a claim');
   says(await told(verify(ABC, ABC)), 'MultihashError digest 1 98', 'an encoding');

@@ -66,7 +66,7 @@ TEXTS = [
     (Multihash, [18, "abc"], "digest bytes bytes.fromhex str"),
     (Multihash, ["sha2-256", b"abc"], "code int hashes.CODES str"),
     (vm.encode, [1.5, b""], "code int float"),
-    (vm.encode, [-(10**5000), b""], "code 0 %s" % shown(-(10**5000))),
+    (vm.encode, [-(10**5000), b""], "code 0 %.300s" % shown(-(10**5000))),
     (vm.encoded_len, [18, b""], "digest_length int bytes"),
     (vm.read, [b"\0\0", "9"], "limit int str"),
     (vm.MultihashReader, ["path"], "file stream read open path str"),
@@ -75,6 +75,7 @@ TEXTS = [
     (hashes.digest, [b"", "blake3"], "hashlib blake3"),
     (hashes.verify, [Multihash(1, b""), b""], "code 0x1 hashes.NAMES"),
     (hashes.verify, ["1220", b""], "multihash Multihash encoding str"),
+    (hashes.verify, [b"abc", Multihash(1, b"")], "data bytes-like Multihash"),
     (hashes.digest_file, ["path", "sha1"], "file read open path str"),
 ]
 
