@@ -7,14 +7,16 @@ require cc python3
 # shellcheck source=checks/lib/c.sh
 . checks/lib/c.sh
 
-# The headers, by a compiler for C and one for C++, of the oldest and the newest standards. The tests are of others.
+# The headers, by a compiler for C and one for C++, of the oldest and the newest standards. The tests are of others. A
+# field or a parameter of another type is an error in the source or the tests.
 headers() {
-  local standard
-  "$1" -std=c99 "${warnings[@]}" -x c -fsyntax-only -include "$c/include/multihash_message.h" /dev/null
-  for standard in c++11 c++20; do
-    "$2" -std=$standard "${warnings[@]}" -x c++ -fsyntax-only -include "$c/include/multihash_message.h" /dev/null
+  local header standard
+  for header in "$c"/include/*.h; do
+    "$1" -std=c99 "${warnings[@]}" -x c -fsyntax-only -include "$header" /dev/null
+    for standard in c++11 c++20; do
+      "$2" -std=$standard "${warnings[@]}" -x c++ -fsyntax-only -include "$header" /dev/null
+    done
   done
-  "$2" -std=c++17 "${warnings[@]}" -fsyntax-only -I "$c/include" "$c/tests/types.cpp"
 }
 
 # The source, at each level of optimization.

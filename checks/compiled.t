@@ -20,5 +20,5 @@ require rt
 needs="cc python3 objcopy /lib64/ld-linux-x86-64.so.2" try "beside the C source" beside_archive
 # shellcheck source=tools/tool_versions
 . tools/tool_versions
-needs="wasm-opt=$binaryen wasm2wat=$wabt" try "the WebAssembly of the package" tools/generate wasm --check
+needs="wasm-opt=$binaryen wasm2wat=$wabt" try "tools/generate wasm" tools/generate wasm --check
 finish

@@ -1,7 +1,8 @@
 #!/usr/bin/env bash
-# Compares the generated files that need no kit with what tools/generate makes. The WebAssembly is compared by compiled.t.
+# Compares the generated files that need no kit with what tools/generate makes. The WebAssembly is compared by compiled.t. A
+# result has the command that makes the files anew.
 # shellcheck source=checks/lib/tap.sh
 . "$(dirname "$0")/lib/tap.sh"
 
-for what in c rust contracts vectors names; do try "$what" tools/generate "$what" --check; done
+for what in c rust contracts vectors names statuses; do try "tools/generate $what" tools/generate "$what" --check; done
 finish

@@ -17,12 +17,13 @@ from typing import NamedTuple
 
 sys.path.append(str(Path(__file__).with_name("lib")))
 import tap
-from page_links import FENCE, README, RUST, TOP, read
+from pages import FENCE, JS, README, RUST, TOP, read
 
 ROW = re.compile(r"^\| \[(\w+)[^\]]*\]\(([^)]*)\) \| `([^`]+)` \|", re.M)
 HEAD = re.compile(r"(?://|#) (\S+): (.*)\n")
 SHOWN = re.findall(r"program here prints `(.*)`", read(README))[0] + "\n"
 OLDEST = re.findall(r'rust-version = "(.*)"', read(f"{RUST}/verified-multihash/Cargo.toml"))[0]
+NODE = re.findall(r'"node": ">=(.*)"', read(f"{JS}/package.json"))[0]
 REGISTRY = "/usr/share/cargo/registry"  # of Debian, for crates that the program of Rust's page needs
 ALL = "ALL" in os.environ
 SOURCE = f'[source.crates-io]\\nreplace-with = "here"\\n[source.here]\\ndirectory = "{REGISTRY}"\\n'
@@ -38,7 +39,7 @@ class Language(NamedTuple):
 
 
 LANGUAGES = {
-    "JavaScript": Language("node=20.16+ npm", "export npm_config_cache=$PWD/npm npm_config_offline=true"),
+    "JavaScript": Language(f"node={NODE}+ npm", "export npm_config_cache=$PWD/npm npm_config_offline=true"),
     "Python": Language(
         "cc /usr/include/python3*/Python.h python:ensurepip python:setuptools python:wheel",
         "[ -d venv ] || /usr/bin/python3 -m venv --system-site-packages venv; "

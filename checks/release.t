@@ -4,11 +4,12 @@
 . "$(dirname "$0")/lib/tap.sh"
 # shellcheck source=checks/lib/packages.sh
 . checks/lib/packages.sh
+node=$(sed -n 's/.*"node": ">=\(.*\)".*/\1/p' bindings/js/package.json)
 oldest=$(sed -n 's/^rust-version = "\(.*\)"/\1/p' bindings/rust/multihash/Cargo.toml)
 minor=$(sed -n 's/^requires-python = ">=3\.\(.*\)"/\1/p' bindings/python/pyproject.toml)
 emulator=(qemu-aarch64 -L /usr/aarch64-linux-gnu)
 require cc cmake python3=3.11+ readelf pkg-config dpkg-buildpackage dh /lib64/ld-linux-x86-64.so.2 \
-  aarch64-linux-gnu-gcc qemu-aarch64 cargo "rustc=$oldest+" npm node=20.16+ /usr/include/python3*/Python.h \
+  aarch64-linux-gnu-gcc qemu-aarch64 cargo "rustc=$oldest+" npm "node=$node+" /usr/include/python3*/Python.h \
   python:{build,ensurepip,setuptools,wheel}
 
 # The files of a release, each with its checksum.

@@ -1,6 +1,6 @@
 #!/usr/bin/env bash
 # The packages for Rust: their tests over the test vectors and drawn inputs, with and without std, by other versions and
-# on other targets, beside the library for C and other crates; that the proved source is packed without its contracts
+# on other targets, beside other crates; that the proved source is packed without its contracts
 # alone; the packages as packed, and in place of upstream's; serde; lints.
 # shellcheck source=checks/lib/tap.sh
 . "$(dirname "$0")/lib/tap.sh"
@@ -52,11 +52,6 @@ without_std() {
 debians_rust() {
   tests verified-multihash PATH=/usr/bin:/bin CARGO_TARGET_DIR="$work/debian" cargo test
   tests multihash PATH=/usr/bin:/bin CARGO_TARGET_DIR="$work/debian" cargo test --features serde
-}
-
-in_c() {
-  cc -O2 -I bindings/c/include bindings/c/tests/{test,verdicts,models,draws,buffer,messages}.c bindings/c/src/multihash.c -o "$work/c"
-  prints "$(sed 1d "$work/list" | wc -l) lines" "$work/c" "$work/list" 0 0 vectors
 }
 
 # The tests on a target with another byte order or word, by a linker and an emulator.
@@ -117,7 +112,9 @@ source, package = Path("crates/multihash/src"), Path("bindings/rust/verified-mul
 lines = re.compile(r"(pub )?ghost |requires|ensures|#!?\[tactic|#\[derive\(Drop\)|impl.* (Model for|for Vec<)|"
     r"use std::(marker::Model|alloc::Global)|(pub )?mod (json|laws|pins);")
 words = r", Drop\b|\b: Drop\b|<W: fmt::Write>|<W>|,? *\balloc: Global,?|\balloc, |\bpub (?=buffer|filled)"
-added = r"use crate::rattle::|#!\[|#\[cfg\(feature|extern crate|mod rattle;|#\[doc\(hidden|pub mod upstream;"
+added = (r"use crate::rattle::|#!\[|#\[cfg\(feature|extern crate|mod rattle;|#\[doc\(hidden|"
+    r"pub mod (codes|upstream);|mod io;|pub use crate::io::")
+by_hand = ("codes.rs", "io.rs", "rattle.rs", "upstream.rs")
 def code(path, is_left_out):
     text, depth, is_clause = "", 0, False
     for line in map(str.strip, path.read_text().splitlines()):
@@ -130,7 +127,7 @@ def code(path, is_left_out):
     return re.sub(rf"\s|{words}", "", text)
 for path in sorted(package.rglob("*.rs")):
     place = source / path.relative_to(package).with_suffix(".rt")
-    if path.name not in ("rattle.rs", "upstream.rs") and code(path, re.compile(added).match) != code(place, lines.match):
+    if path.name not in by_hand and code(path, re.compile(added).match) != code(place, lines.match):
         sys.exit(f"{path} has other code than {place}")
 END
 }
@@ -194,8 +191,7 @@ cp crates/vectors/data/values.tsv "$work"
 needs=$cargo try "the tests" rust_tests
 needs=$bare try "the tests without std" without_std
 needs="/usr/bin/cargo /usr/bin/rustc $crates" try "the tests with Debian's Rust" debians_rust
-needs=cc try "the list in C" in_c
-needs="$cargo $registry/cid-0.5* $registry/multihash-0.11* $registry/unsigned-varint-0.5*" try "beside other crates" \
+needs="$cargo $registry/cid-0.5* $registry/multihash-0.11*" try "beside other crates" \
   tests tests/neighbours cargo test
 try "the proved source" only_removed
 needs=$cargo try "the packed packages" rust_packed

@@ -14,7 +14,7 @@ read -r -a flags <<< "${CFLAGS:--g -O1 -fsanitize=fuzzer-no-link,address,undefin
 build() {
   local out=$1 work=${WORK:-$1} file
   mkdir -p "$out" "$work/seeds" "$work/objects"
-  for file in "$here"/tests/{draws,models,buffer}.c "$here/src/multihash.c"; do
+  for file in "$here"/tests/{inputs,models}.c "$here/src/multihash.c"; do
     "${CC:-clang}" "${flags[@]}" -std=c11 -DFUZZ -Wall -Wextra -I "$here/include" -c "$file" \
       -o "$work/objects/$(basename "$file" .c).o"
   done

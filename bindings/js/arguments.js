@@ -6,6 +6,12 @@ export function received(value) {
   return ['string', 'symbol', 'function'].includes(typeof value) ? typeof value : String(value);
 }
 
+/** A number, as an error shows it: at most 40 digits. */
+export function shown(number) {
+  const text = String(number);
+  return text.length > 40 ? `${text.slice(0, 40)}...` : text;
+}
+
 const DECODE = 'Multihash.fromHex(text) decodes hexadecimal';
 // What makes an argument of a text, by the name of the argument, and of other values.
 const OF_TEXTS = {
@@ -72,6 +78,6 @@ export function bits64(number, name) {
   }
   if (typeof number !== 'bigint') throw wrongType(name, 'a number or a bigint', number);
   if (BigInt.asUintN(64, number) !== number)
-    throw new RangeError(`${name} must be from 0 to 2^64 - 1, got ${number}`);
+    throw new RangeError(`${name} must be from 0 to 2^64 - 1, got ${shown(number)}`);
   return number;
 }

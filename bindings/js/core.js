@@ -1,8 +1,8 @@
 // Multihashes over a proved library, compiled to WebAssembly. A program imports index.js, inline.js or
 // module.js, which connect the functions here to an instance of the module.
 import { NUMBERS, bits64, checkedLength, isBytes, viewOf, wrongType } from './arguments.js';
-import { INCOMPLETE, MultihashError, STATUSES, forJSON, malformed, tooLarge, tooLong, trailing, truncated } from
-  './errors.js';
+import { INCOMPLETE, MultihashError, forJSON, malformed, tooLarge, tooLong, trailing, truncated } from './errors.js';
+import { STATUSES } from './statuses.js';
 
 /** The maximum length of a digest, in bytes. */
 export const DIGEST_MAX = 255;

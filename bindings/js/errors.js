@@ -1,8 +1,6 @@
 // MultihashError, the error of invalid input, and its texts.
+import { STATUSES } from './statuses.js';
 
-/** The names of the statuses of multihash.h, by their numbers. */
-export const STATUSES = ['ok', 'insufficient', 'overflow', 'not_minimal', 'invalid_size', 'invalid_code',
-  'unexpected_eof'];
 /** The statuses of truncated input. */
 export const INCOMPLETE = ['insufficient', 'unexpected_eof'];
 const ALL = [...STATUSES.slice(1), 'not_hexadecimal'];

@@ -1,5 +1,5 @@
 // Hash functions of node:crypto or WebCrypto, which make and verify multihashes.
-import { bufferOf, checkedLength, checkedOptions, isBytes, viewOf, wrongType } from './arguments.js';
+import { bufferOf, checkedLength, checkedOptions, isBytes, shown, viewOf, wrongType } from './arguments.js';
 import { CODES, NAMES } from './codes.js';
 import { DIGEST_MAX, Multihash, decode, encodedLength } from './core.js';
 import { sourceOf } from './sources.js';
@@ -126,7 +126,7 @@ function hasher(name) {
       if (whole.length > DIGEST_MAX) encodedLength(code, whole.length); // throws
       const size = truncate ?? whole.length;
       if (!Number.isInteger(size) || size < 0 || size > whole.length)
-        throw new RangeError(`truncate must be a whole number from 0 to ${whole.length}, got ${String(size)}`);
+        throw new RangeError(`truncate must be a whole number from 0 to ${whole.length}, got ${shown(size)}`);
       return Multihash.of(code, whole.subarray(0, size));
     }),
   });
@@ -151,6 +151,7 @@ function claimOf(multihash) {
  * depend on their bytes.
  */
 export const verify = (multihash, content) => reading(content, async (open) => {
+  if (!isBytes(content)) open(); // if the arguments are swapped, it is the content that has the wrong type
   const { code, digest } = claimOf(multihash);
   const begin = beginnings[NAMES[code]];
   if (!begin) {

@@ -1,3 +1,5 @@
+import type { STATUSES } from './statuses.js';
+
 export * from './hashes.js';
 
 /** The maximum length of a digest, in bytes. */
@@ -17,16 +19,8 @@ export const version: string;
  */
 export type Wide = number | bigint;
 
-/** Why a call failed. */
-export type Status =
-  | 'insufficient' // the input ends before or inside a varint
-  | 'overflow' // a varint has more than nine bytes; numbers of 2^63 and above do
-  | 'not_minimal' // a varint of more than one byte ends in a zero byte
-  // the digest is too long, and `size` is its length; or bytes follow the multihash, and `size` is their number
-  | 'invalid_size'
-  | 'invalid_code' // `code` is 2^63 or more
-  | 'unexpected_eof' // the input ends inside the digest or, in SCALE, before it
-  | 'not_hexadecimal'; // a text is not an even number of hexadecimal digits
+/** Why a call failed: see statuses.d.ts. With `not_hexadecimal` a text is not an even number of hexadecimal digits. */
+export type Status = Exclude<(typeof STATUSES)[number], 'ok' | 'no_room'> | 'not_hexadecimal';
 
 /** The fields of an error. */
 export interface Details {

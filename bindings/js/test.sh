@@ -5,11 +5,12 @@ here=$(dirname "$(readlink -f "${BASH_SOURCE[0]}")")
 . "$here/../../checks/lib/tap.sh"
 top=$PWD
 vectors=$top/crates/vectors/data
-node=node=20.16+ # that of package.json
+node=node=$(sed -n 's/.*"node": ">=\(.*\)".*/\1/p' bindings/js/package.json)+
+
 export MULTIHASH_VERDICTS=$vectors/verdicts.tsv
 
-# All tests of a folder, or those that other words choose. No process may take more than that CPU time.
-npm_test() { (cd "$1"; ulimit -t 600; npm test -- "${@:2}"); }
+# All tests, or those that words choose. No process may take more than that CPU time.
+npm_test() { (cd "$here"; ulimit -t 600; npm test -- "$@"); }
 
 # Inputs that are drawn have the results that verdicts.py computes.
 drawn() {
@@ -18,7 +19,7 @@ drawn() {
   cp "$vectors"/{hashes,values}.tsv "$work/drawn"
   crates/vectors/verdicts.py --draw 1 3000 > "$work/drawn/verdicts.tsv"
   crates/vectors/verdicts.py --more 1 3000 | sed -n '/^order/p' >> "$work/drawn/verdicts.tsv"
-  npm_test "$here" --test-name-pattern=vectors tests/index.test.js
+  npm_test --test-name-pattern=vectors tests/index.test.js
 }
 
 # The module has the instructions of WebAssembly's first version and bulk memory operations, and no others.
@@ -85,7 +86,7 @@ test_browser() {
 }
 
 needs=wasm-validate try "the WebAssembly for old engines" old_module
-needs="$node npm" try "in Node.js" npm_test "$here"
+needs="$node npm" try "in Node.js" npm_test
 needs="$node npm" try "drawn inputs" drawn
 needs="$node npm" try "the page's installation" page_install
 ONLY='' needs="$node npm" try "the packed package" packed_script

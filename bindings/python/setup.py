@@ -15,6 +15,7 @@ COPIES = {
     "LICENSE": "LICENSE",
     "multihash_c/multihash.c": "bindings/c/src/multihash.c",
     "multihash_c/multihash.h": "bindings/c/include/multihash.h",
+    "multihash_c/multihash_message.h": "bindings/c/include/multihash_message.h",
     "tests/hashes.tsv": "crates/vectors/data/hashes.tsv",
     "tests/rows.tsv": "crates/mh_show/rows.tsv",
     "tests/values.tsv": "crates/vectors/data/values.tsv",

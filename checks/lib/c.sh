@@ -9,7 +9,7 @@ ulimit -c 0
 top=$PWD
 c=$top/bindings/c
 source=$c/src/multihash.c
-tests=("$c"/tests/{test,verdicts,models,draws,messages,buffer}.c)
+tests=("$c"/tests/{test,verdicts,models,inputs,messages}.c)
 list=$top/crates/vectors/data/verdicts.tsv
 values=$top/crates/vectors/data/values.tsv
 # what Clang needs for sanitizers and the fuzzer

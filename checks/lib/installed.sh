@@ -23,11 +23,13 @@ build() {
 # The files of an installation, as paths from the prefix.
 files_in() {
   local libdir=$1
-  printf './%s\n' "$include"/multihash{,_message}.h "$libdir"/libmultihash_c.{a,so,so."$major",so."$version"} \
+  printf './%s\n' "$libdir"/libmultihash_c.{a,so,so."$major",so."$version"} \
     "$libdir"/cmake/multihash_c/multihash_c-config{,-release,-version}.cmake "$libdir/pkgconfig/multihash_c.pc" \
-    "$document"/{README.md,changelog,copyright,examples/{mh_show.c,stream.c,test.sh,verify.c}} \
-    "$bin/mh_show" "$man/man1/mh_show.1"
-  { exported; printf '%s\n' multihash{,{_status_text,{,_scale,_encode}_message}}; } | sed "s,.*,./$man/man3/&.3,"
+    "$document"/{README.md,changelog,copyright} "$bin/mh_show" "$man/man1/mh_show.1"
+  find "$c/examples" -type f -printf "./$document/examples/%f\n"
+  find "$c/include" -type f -printf "./$include/%f\n"
+  { exported; sed -nE 's/^static inline .*\b(multihash_\w+)\(.*/\1/p' "$c"/include/*.h; echo multihash; } |
+    sed "s,.*,./$man/man3/&.3,"
 }
 
 # pkg-config finds the version, the headers and the library, and names nothing more.

@@ -31,11 +31,10 @@ has_library() {
   works "$work/multihash_c-$version-$1" lib
 }
 
-# The source of the library, as two files in a folder.
+# The source of the library, as files in a folder, which c_library.t tests.
 has_source() {
-  local at=$work/multihash_c-$version-source
   tar -xf "$work/release/multihash_c-$version-source.tar.gz" -C "$work"
-  build_and_run program "" cc "${c_flags[@]}" -I "$at" "${tests[@]}" "$at/multihash.c"
+  (cd "$work/multihash_c-$version-source"; cc "${c_flags[@]}" -c multihash.c)
 }
 
 # The package for JavaScript is installed, and decodes.
@@ -47,13 +46,11 @@ has_npm_package() {
     console.log(decode(Uint8Array.of(18, 0)).code)" | diff - <(echo 18)
 }
 
-# The wheel is installed, and its tests pass.
+# The wheel, which python.t tests, is installed, and decodes.
 has_wheel() {
   /usr/bin/python3 -m venv --system-site-packages "$work/venv"
   "$work/venv/bin/python" -m pip install --quiet --no-index "$work/release/verified_multihash-$version"-*_x86_64.whl
-  cd "$work"
-  MULTIHASH_VERDICTS=$top/crates/vectors/data/verdicts.tsv "$work/venv/bin/python" -m unittest discover \
-    -s "$top/bindings/python/tests" 2>&1 | tee /dev/stderr | grep '^Ran [1-9]'
+  "$work/venv/bin/python" -m verified_multihash "$(< crates/mh_show/stdin)" | diff - "$expected"
 }
 
 # The modules of wheels need no other libraries than these.

@@ -4,8 +4,8 @@
 It computes them from the rules of docs/FORMAT.md by itself and calls nothing of the library.
 
     crates/vectors/verdicts.py            checks each line
-    crates/vectors/verdicts.py --write    writes the results of the stored inputs and values, of a new one only
-                                          what they are computed from is needed
+    crates/vectors/verdicts.py --write    writes the results of the stored inputs and values, and of the lines that
+                                          README.md shows; of a new one only what they are computed from is needed
     crates/vectors/verdicts.py --draw SEED COUNT
                                           prints that many lines of stored inputs that are changed at random
     crates/vectors/verdicts.py --more SEED COUNT
@@ -26,7 +26,7 @@ TOP = Path(__file__).resolve().parents[2]
 DEFINITIONS = (TOP / "crates/multihash/specs/Varint.antt").read_text("utf-8")
 STORED = TOP / "crates/vectors/data/verdicts.tsv"
 COLUMNS = ("S", "input", "read", "read_taken", "from_bytes", "scale_decode", "scale_taken")
-VALUES = STORED.with_name("values.tsv")
+VALUES, PAGE = STORED.with_name("values.tsv"), STORED.with_name("README.md")
 
 # The number of the first inputs, and the SHA-256 of these with their capacities, which no bound changes.
 FIRST, SHA256 = 6000, "fe8ecaa6eb54534e0a29677cf6481a9664bb035168e2ac3fde86d63c6488109c"
@@ -219,6 +219,12 @@ def made_of(stored: str) -> str:
     return "\n".join(["\t".join(COLUMNS), *lines, ""])
 
 
+def page_of(stored: str) -> str:
+    """Makes the page, whose lines are of the inputs that it shows."""
+    page = re.sub(r"(?m)^S\t.*", "\t".join(COLUMNS), stored)
+    return re.sub(r"(?m)^(\d+)\t([0-9a-f]+)\t.*", lambda line: RULES.line(int(line[1]), bytes_of(line[2])), page)
+
+
 def error_of(path: Path, make: Callable[[str], str]) -> str:
     """Returns how the stored lines differ from those that are made."""
     stored = path.read_text("utf-8")
@@ -233,7 +239,7 @@ def error_of(path: Path, make: Callable[[str], str]) -> str:
 
 
 def main() -> int:
-    lists = {STORED: made_of, VALUES: values_of}
+    lists = {STORED: made_of, VALUES: values_of, PAGE: page_of}
     stored = STORED.read_text("utf-8")
     match sys.argv[1:]:
         case ["--write"]:

@@ -51,7 +51,7 @@ static int print_multihash(multihash_decoded found, const uint8_t *digest)
     return fflush(stdout) == 0 && !ferror(stdout);
 }
 
-/* Returns the reason of a failed decoding, in the words of the Rust crate multihash, which mh_show has in Rattle too. */
+/* Returns the reason of a failed decoding, in the words of the Rust crate multihash if it has them, as in Rattle. */
 static const char *reason_of(multihash_status status)
 {
     switch (status) {
@@ -61,8 +61,10 @@ static const char *reason_of(multihash_status status)
         return "input bytes exceed maximum";
     case MULTIHASH_NOT_MINIMAL:
         return "encoding is not minimal";
-    default: /* MULTIHASH_UNEXPECTED_EOF */
+    case MULTIHASH_UNEXPECTED_EOF:
         return "failed to fill whole buffer";
+    default:
+        return multihash_status_text(status);
     }
 }
 

@@ -1,25 +1,18 @@
 /* Verifies content by a multihash: verify HEX < CONTENT. The hash functions are those of OpenSSL 3. */
 #include "multihash_message.h"
+#include "multihash_names.h"
 
 #include <openssl/crypto.h>
 #include <openssl/evp.h>
 #include <stdio.h>
 
-/* The names of OpenSSL for codes of the multicodec table. */
-static const struct {
-    uint64_t code;
-    const char *name;
-} functions[] = {
-    {0x11, "SHA1"}, {0x12, "SHA2-256"}, {0x13, "SHA2-512"}, {0x14, "SHA3-512"}, {0x15, "SHA3-384"},
-    {0x16, "SHA3-256"}, {0x17, "SHA3-224"}, {0x20, "SHA2-384"}, {0xd5, "MD5"}, {0x1013, "SHA2-224"},
-    {0x1014, "SHA2-512/224"}, {0x1015, "SHA2-512/256"}, {0xb240, "BLAKE2B-512"}, {0xb260, "BLAKE2S-256"},
-};
-
 /* Returns the function of a code, which EVP_MD_free frees, or NULL. */
 static EVP_MD *function_of(uint64_t code)
 {
-    for (size_t i = 0; i < sizeof functions / sizeof *functions; i++)
-        if (functions[i].code == code) return EVP_MD_fetch(NULL, functions[i].name, NULL);
+    const char *name = code == 0x1014 ? "SHA2-512/224" : code == 0x1015 ? "SHA2-512/256" : multihash_name(code);
+    EVP_MD *function = name == NULL ? NULL : EVP_MD_fetch(NULL, name, NULL);
+    if (function == NULL || !(EVP_MD_get_flags(function) & EVP_MD_FLAG_XOF)) return function;
+    EVP_MD_free(function); /* SHAKE, which has digests of any length */
     return NULL;
 }
 

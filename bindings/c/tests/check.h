@@ -19,11 +19,12 @@
 
 typedef multihash_encoded (*encoder)(uint64_t, const uint8_t *, size_t, uint8_t *, size_t);
 
-/* buffer.c */
+/* inputs.c */
 uint8_t *buffer(size_t length);
 uint8_t *copy_of(const uint8_t *bytes, size_t length);
 void release(uint8_t *bytes);
 uint8_t *sparse(uint64_t length);
+void draw_inputs(uint64_t seed, unsigned long count);
 
 /* models.c */
 void check_decodings(const uint8_t *bytes, size_t length, size_t limit);
@@ -33,9 +34,8 @@ void check_length(uint64_t code, size_t length);
 void check_text(multihash_status status, size_t room);
 void check_input(uint64_t code, const uint8_t *bytes, size_t length, size_t limit);
 
-/* messages.c, draws.c and verdicts.c */
+/* messages.c and verdicts.c */
 void check_messages(void);
-void draw_inputs(uint64_t seed, unsigned long count);
 void replay(const char *name);
 
 #endif

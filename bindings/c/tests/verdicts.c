@@ -18,16 +18,23 @@ static size_t parse_hex(const char *text, uint8_t *to, size_t places)
     return length;
 }
 
+/* Each word of the list is that of one status, from the first line on that has it. The models have the statuses. */
+static void check_word(multihash_status status, const char *word)
+{
+    static char words[16][32] = {"pair"};
+    CHECK(status < 16);
+    if (words[status][0] == '\0') snprintf(words[status], sizeof words[status], "%s", word);
+    for (size_t i = 0; i < 16; i++) CHECK((strcmp(words[i], word) == 0) == (i == status));
+}
+
 /* Compares a result with its column: a word, a number and a digest. Where there is none the fields are 0. */
 static void check_result(multihash_decoded found, const uint8_t *input, const char *column, const char *taken)
 {
-    static const char *const words[] = {"pair", "insufficient", "overflow", "not_minimal", "invalid_size",
-                                        "invalid_code", "unexpected_eof", "?"};
     char word[32], digits[2 * MULTIHASH_DIGEST_MAX + 1] = "-";
     uint8_t digest[MULTIHASH_DIGEST_MAX];
     uint64_t number = 0;
     CHECK(sscanf(column, "%31s %" SCNu64 " %510s", word, &number, digits) > 0);
-    CHECK(strcmp(word, words[found.status]) == 0);
+    check_word(found.status, word);
     CHECK(number == (found.status == MULTIHASH_INVALID_SIZE ? found.size : found.code));
     CHECK(parse_hex(digits, digest, sizeof digest) == found.digest_length);
     CHECK(found.digest_length == 0 || memcmp(digest, input + found.digest_offset, found.digest_length) == 0);
@@ -48,14 +55,15 @@ static void check_order(const char *const *column)
 static void check_encoded(encoder encode, uint64_t code, const uint8_t *digest, size_t length, const char *column)
 {
     uint8_t out[MULTIHASH_LENGTH_MAX], wanted[MULTIHASH_LENGTH_MAX];
-    uint64_t size = 0;
+    char word[32];
+    uint64_t number = 0;
     multihash_encoded found = encode(code, digest, length, out, sizeof out);
-    if (sscanf(column, "invalid_size %" SCNu64, &size) == 1) {
-        CHECK(found.status == MULTIHASH_INVALID_SIZE && found.size == size);
-    } else if (strncmp(column, "invalid_code ", 13) == 0) {
-        CHECK(found.status == MULTIHASH_INVALID_CODE);
+    if (found.status != MULTIHASH_OK) {
+        CHECK(sscanf(column, "%31s %" SCNu64, word, &number) == 2);
+        check_word(found.status, word);
+        CHECK(number == (found.status == MULTIHASH_INVALID_SIZE ? found.size : code));
     } else {
-        CHECK(found.status == MULTIHASH_OK && found.length == parse_hex(column, wanted, sizeof wanted));
+        CHECK(found.length == parse_hex(column, wanted, sizeof wanted));
         CHECK(memcmp(out, wanted, found.length) == 0);
     }
 }
@@ -72,7 +80,8 @@ static void check_value(const char *const *column)
     check_encoded(multihash_scale_encode, code, digest, length, column[4]);
 }
 
-/* The other calls than multihash_read_limit have the results for the capacity 255. */
+/* The other calls than multihash_read_limit have the results for the capacity 255. Columns of other encodings may
+ * follow. */
 static void check_line(char *text)
 {
     static uint8_t bytes[LINE_MAX_BYTES / 2];
@@ -80,7 +89,7 @@ static void check_line(char *text)
     int is_order = strncmp(text, "order\t", 6) == 0, is_value = strncmp(text, "value\t", 6) == 0;
     int count = is_order || is_value ? 6 : 7;
     for (int i = 0; i < count; i++) column[i] = strtok(i == 0 ? text : NULL, "\t\n");
-    CHECK(column[count - 1] != NULL && strtok(NULL, "\t\n") == NULL);
+    CHECK(column[count - 1] != NULL);
     if (count == 6) {
         (is_order ? check_order : check_value)(column + 1);
         return;

@@ -1,6 +1,6 @@
 // Arguments of wrong types and ranges, and what results and errors are.
 import base64 from '../bytes.js';
-import { fails, hex, same, unhex, withoutMemory } from './check.js';
+import { fails, hex, same, says, unhex, withoutMemory } from './check.js';
 import { Lying } from './vectors.js';
 
 let turn = 0; // a module is imported anew each time
@@ -30,16 +30,15 @@ export function bytesAlone({ Multihash, MultihashReader, decode, encode, head, r
   for (const wrong of [...noBytes(), ...gone]) {
     const what = kindOf(wrong);
     for (const [name, call] of calls) {
-      const { message } = fails(TypeError, () => call(wrong), `${name} ${what}`);
-      const start = `${name} ${gone.includes(wrong) ? 'is a Uint8Array that is detached' : 'must be a Uint8Array, got '}`;
-      same(message.startsWith(start), true, message);
+      const words = `${name} Uint8Array${gone.includes(wrong) ? ' detached' : ''}`;
+      fails(TypeError, () => call(wrong), `${name} ${what}`, words);
     }
   }
   const received = [[null, 'null'], [34, '34'], [34n, '34'], [[22, 0], 'Array'], [() => 0, 'function'],
     ['1620', 'string: Multihash.fromHex(text) decodes hexadecimal'], [undefined, 'undefined'],
     [new ArrayBuffer(4), 'ArrayBuffer: new Uint8Array(buffer) makes one'], [Symbol('bytes'), 'symbol']];
   for (const [value, text] of received)
-    fails(TypeError, () => decode(value), text, `bytes must be a Uint8Array, got ${text}`);
+    fails(TypeError, () => decode(value), text, `bytes Uint8Array got ${text}`);
 }
 
 export function numbers({ Multihash, MultihashError, encode, encodedLength, read, scaleEncode }) {
@@ -51,15 +50,12 @@ export function numbers({ Multihash, MultihashError, encode, encodedLength, read
     ['limit', (limit) => read(EXAMPLE, limit)],
   ];
   for (const [name, call] of calls) {
-    const text = `${name} must be`;
     for (const [wrong, kind] of [['18', 'string'], [null, 'null'], [{}, 'Object'], [[18], 'Array'], [true, 'true']])
-      same(fails(TypeError, () => call(wrong), kind).message.replace(': CODES has the codes of names', ''),
-        `${text} a number or a bigint, got ${kind}`, kind);
+      fails(TypeError, () => call(wrong), kind, `${name} number bigint ${kind}`);
     for (const wrong of [-1, 1.5, NaN, Infinity, 2 ** 53])
-      fails(RangeError, () => call(wrong), `${wrong}`,
-        `${text} a whole number from 0 to 2^53 - 1, or a bigint, got ${wrong}`);
-    for (const wrong of [-1n, 1n << 64n])
-      fails(RangeError, () => call(wrong), `${wrong}`, `${text} from 0 to 2^64 - 1, got ${wrong}`);
+      fails(RangeError, () => call(wrong), `${wrong}`, `${name} 2^53 ${wrong}`);
+    for (const wrong of [-1n, 1n << 64n]) fails(RangeError, () => call(wrong), `${wrong}`, `${name} 2^64 ${wrong}`);
+    fails(RangeError, () => call(10n ** 4000n), 'long', `${name} 2^64 1${'0'.repeat(39)}...`);
   }
   const code = 1n << 63n;
   for (const encoder of encoders) {
@@ -82,7 +78,8 @@ export function polluted(module) {
   const { message, size, code, taken } = fails(module.MultihashError, () => module.head(unhex('8000')), 'polluted');
   delete Object.prototype.size;
   delete Object.prototype.code;
-  same(`${size} ${code} ${taken} ${message}`.slice(0, 44), 'undefined undefined 2 the varint of the code', 'fields');
+  same(`${size} ${code} ${taken}`, 'undefined undefined 2', 'fields');
+  says(message, 'varint code', 'a text');
 }
 
 /** Codes and digests of other types may be equal. Only numbers are codes, only a Uint8Array is a digest. */
@@ -128,12 +125,11 @@ export function comparison(module) {
   }
   const multihash = Multihash.of(code, digest);
   for (const [other, text] of [[{ ...multihash }, 'Object'], [EXAMPLE, 'Uint8Array'], [null, 'null']]) {
-    fails(TypeError, () => compare(other, multihash), 'compare', `left must be a Multihash, got ${text}`);
-    fails(TypeError, () => compare(multihash, other), 'compare', `right must be a Multihash, got ${text}`);
+    fails(TypeError, () => compare(other, multihash), 'compare', `left Multihash ${text}`);
+    fails(TypeError, () => compare(multihash, other), 'compare', `right Multihash ${text}`);
   }
   structuredClone(multihash.digest.buffer, { transfer: [multihash.digest.buffer] });
-  fails(TypeError, () => compare(multihash, multihash), 'a digest elsewhere',
-    'the digest of left is detached or was replaced');
+  fails(TypeError, () => compare(multihash, multihash), 'a digest elsewhere', 'digest left');
 }
 
 /** The fields of a multihash, and its texts. */
@@ -145,13 +141,11 @@ export function multihashes(module) {
   same(`${multihash} ${new Map([[`${multihash}`, 1]]).get(hex(EXAMPLE))}`, `${hex(EXAMPLE)} 1`, 'as text');
   for (const text of [`${multihash}`, `${multihash}`.toUpperCase()])
     same(Multihash.fromHex(text).equals(multihash), true, 'from text');
-  const no = 'which is no hexadecimal digit';
-  for (const [text, message] of [['162', 'an odd number of digits, 3'], ['1g01', `"g" at index 1, ${no}`],
-    ['0x1600', `"x" at index 1, ${no}`], [' 1600', `" " at index 0, ${no}`]]) {
-    const error = fails(MultihashError, () => Multihash.fromHex(text), text, `the text has ${message}`);
+  for (const [text, words] of [['162', 'odd 3'], ['1g01', 'g 1'], ['0x1600', 'x 1'], [' 1600', '0']]) {
+    const error = fails(MultihashError, () => Multihash.fromHex(text), text, words);
     same(`${error.status} ${error.isIncomplete}`, 'not_hexadecimal false', text);
   }
-  fails(TypeError, () => Multihash.fromHex(EXAMPLE), 'bytes', 'text must be a string, got Uint8Array');
+  fails(TypeError, () => Multihash.fromHex(EXAMPLE), 'bytes', 'text string Uint8Array');
   for (const plain of [{ ...multihash }, structuredClone(multihash)]) {
     same(`${Object.keys(plain)}`, 'code,size,digest', 'fields');
     same(Multihash.of(plain.code, plain.digest).equals(multihash), true, 'from a clone');
@@ -159,10 +153,8 @@ export function multihashes(module) {
   const shown = [multihash, Multihash.of(18, new Uint8Array())].map((each) => each[INSPECT]());
   same(`${shown}`, `Multihash(0x16, ${hex(EXAMPLE.subarray(2))}),Multihash(0x12, empty)`, 'console.log');
   same(multihash.narrow(), multihash, 'a code that is a number');
-  fails(RangeError, () => Multihash.of(2n ** 53n, EXAMPLE).narrow(), 'narrow',
-    'the code 9007199254740992 is 2^53 or more, so it is a bigint');
-  fails(TypeError, () => new Multihash(Symbol('making'), 22, EXAMPLE), 'constructor',
-    'Multihash.of(code, digest) makes a multihash');
+  fails(RangeError, () => Multihash.of(2n ** 53n, EXAMPLE).narrow(), 'narrow', 'code 9007199254740992 bigint');
+  fails(TypeError, () => new Multihash(Symbol('making'), 22, EXAMPLE), 'constructor', 'Multihash.of');
   same(Object.is(Multihash.of(-0, EXAMPLE).code, 0), true, 'code -0');
   const codes = [[22, '22'], [2n ** 53n - 1n, '9007199254740991'], [2n ** 53n, '"9007199254740992"']];
   for (const [code, text] of codes) {
@@ -175,50 +167,47 @@ export function multihashes(module) {
 /** Whether a clone of an error keeps its cause, which Safari drops. */
 const keepsCause = () => structuredClone(new Error('text', { cause: 3 })).cause === 3;
 
+/** Inputs, the status of their error, words of its text, and its size. */
 const CASES = [
-  ['', 'the input is empty', 'insufficient'],
-  ['80', 'the input ends inside the code', 'insufficient'],
-  ['12', "the input ends before the digest's length", 'insufficient'],
-  ['1280', "the input ends inside the digest's length", 'insufficient'],
-  ['8000', 'the varint of the code is not minimal: it ends in a zero byte', 'not_minimal'],
-  ['92000107', 'the varint of the code is not minimal: it ends in a zero byte', 'not_minimal'],
-  ['01808000', "the varint of the digest's length is not minimal: it ends in a zero byte", 'not_minimal'],
-  [`${'ff'.repeat(8)}7f8100`, "the varint of the digest's length is not minimal: it ends in a zero byte", 'not_minimal'],
-  ['ff'.repeat(9), 'the varint of the code has more than nine bytes', 'overflow'],
-  [`01${'ff'.repeat(9)}`, "the varint of the digest's length has more than nine bytes", 'overflow'],
-  ['010200', 'the input ends inside the digest (1 of 2 bytes)', 'unexpected_eof'],
-  ['01ff01', 'the input ends inside the digest (0 of 255 bytes)', 'unexpected_eof'],
-  ['018002', 'the digest has 256 bytes, and the limit is 255', 'invalid_size', 256],
-  ['12ffffffffffffffff7f', 'the digest has 9223372036854775807 bytes, and the limit is 255', 'invalid_size',
-    '"9223372036854775807"'],
+  ['', 'insufficient', 'empty'],
+  ['80', 'insufficient', 'inside code'],
+  ['12', 'insufficient', "before digest's length"],
+  ['1280', 'insufficient', "inside digest's length"],
+  ['8000', 'not_minimal', 'code'],
+  ['92000107', 'not_minimal', 'code'],
+  ['01808000', 'not_minimal', "digest's length"],
+  [`${'ff'.repeat(8)}7f8100`, 'not_minimal', "digest's length"],
+  ['ff'.repeat(9), 'overflow', 'code nine'],
+  [`01${'ff'.repeat(9)}`, 'overflow', "digest's length nine"],
+  ['010200', 'unexpected_eof', 'digest 1 2'],
+  ['01ff01', 'unexpected_eof', 'digest 0 255'],
+  ['018002', 'invalid_size', 'digest 256 255', 256],
+  ['12ffffffffffffffff7f', 'invalid_size', 'digest 9223372036854775807 255', '"9223372036854775807"'],
 ];
-const DECODED = [['010000', '1 byte follows the multihash', 1], [`8001017f${'00'.repeat(300)}`,
-  '300 bytes follow the multihash', 300]];
 
-/** The text of each error, and what JSON.stringify makes of it: only texts and numbers that are exact. */
+/** The words of each error, and what JSON.stringify makes of it: only texts and numbers that are exact. */
 export function errors({ MultihashError, decode, encode, head, read, scaleDecode }) {
-  const sized = (call, message, size) => [call, message, `"invalid_size","size":${size}`];
+  const sized = (call, words, size) => [call, words, `"invalid_size","size":${size}`];
+  const ofCode = (call, code) => [call, `code ${code} 2^63`, `"invalid_code","code":"${code}"`];
+  const scale = unhex('12000000000000000200');
   const cases = [
-    ...[decode, read].flatMap((call) => CASES.map(([input, message, status, size]) =>
-      [() => call(unhex(input)), message, `"${status}"${size ? `,"size":${size}` : ''}`])),
-    ...CASES.slice(0, 9).map(([input, message, status]) => [() => head(unhex(input)), message, `"${status}"`]),
-    ...DECODED.map(([input, message, size]) => sized(() => decode(unhex(input)), message, size)),
-    sized(() => read(EXAMPLE, 31), 'the digest has 32 bytes, and the limit is 31', 32),
-    sized(() => read(unhex('018002'), 2n ** 60n), 'the digest has 256 bytes, and the limit is 255', 256),
-    sized(() => encode(1, new Uint8Array(300)), 'the digest has 300 bytes, and the limit is 255', 300),
-    [() => encode(2n ** 63n, EXAMPLE), 'the code 9223372036854775808 is 2^63 or more',
-      '"invalid_code","code":"9223372036854775808"'],
-    [() => scaleDecode(new Uint8Array(9).fill(255)), 'the code 18446744073709551615 is 2^63 or more',
-      '"invalid_code","code":"18446744073709551615"'],
-    ...[[0, 'the input is empty'], [3, 'the input ends inside the code (3 of 8 bytes)'],
-      [8, "the input ends before the digest's length"], [10, 'the input ends inside the digest (1 of 2 bytes)']].map(
-      ([count, message]) => [() => scaleDecode(unhex('12000000000000000200').subarray(0, count)), message,
-        '"unexpected_eof"']),
+    ...[decode, read].flatMap((call) => CASES.map(([input, status, words, size]) =>
+      [() => call(unhex(input)), words, `"${status}"${size ? `,"size":${size}` : ''}`])),
+    ...CASES.slice(0, 9).map(([input, status, words]) => [() => head(unhex(input)), words, `"${status}"`]),
+    sized(() => decode(unhex('010000')), '1 byte follows', 1),
+    sized(() => decode(new Uint8Array(302)), '300 bytes follow', 300),
+    sized(() => read(EXAMPLE, 31), 'digest 32 31', 32),
+    sized(() => read(unhex('018002'), 2n ** 60n), 'digest 256 255', 256),
+    sized(() => encode(1, new Uint8Array(300)), 'digest 300 255', 300),
+    ofCode(() => encode(2n ** 63n, EXAMPLE), 2n ** 63n),
+    ofCode(() => scaleDecode(new Uint8Array(9).fill(255)), 2n ** 64n - 1n),
+    ...[[0, 'empty'], [3, 'inside code 3 8'], [8, "before digest's length"], [10, 'inside digest 1 2']].map(
+      ([count, words]) => [() => scaleDecode(scale.subarray(0, count)), words, '"unexpected_eof"']),
   ];
-  for (const [call, message, rest] of cases) {
-    const error = fails(MultihashError, call, message, message);
+  for (const [call, words, rest] of cases) {
+    const error = fails(MultihashError, call, words, words);
     const text = JSON.stringify(error).replace(/,"taken":\d+/, '');
-    same(text, `{"name":"MultihashError","message":${JSON.stringify(message)},"status":${rest}}`, 'in JSON');
+    same(text, `{"name":"MultihashError","message":${JSON.stringify(error.message)},"status":${rest}}`, 'in JSON');
     const again = MultihashError.from(structuredClone(error));
     const fields = ['name', 'message', 'status', 'size', 'code', 'taken', 'isIncomplete'];
     for (const field of keepsCause() ? fields : []) same(again[field], error[field], `${field} of a clone`);
@@ -239,7 +228,7 @@ export async function both() {
   const own = exports.multihash_version();
   for (const number of [undefined, own + 1])
     fails(TypeError, () => core.connectTo({ ...exports, multihash_version: () => number }), `version ${number}`,
-      `the module is not multihash.wasm of version ${core.version}`);
+      `version ${core.version}`);
   fails(RangeError, () => core.connectTo({ ...exports, memory: {} }), 'no memory');
   const later = core.connectLater(bytes);
   core.connect(bytes);

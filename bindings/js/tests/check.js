@@ -16,8 +16,19 @@ export function same(found, wanted, what) {
 /** What a promise gives, or its error, as text. */
 export const told = (promise) => promise.then(String, String);
 
-/** The error of a call, which has to be of that class, and to have that text if one is given. */
-export function fails(kind, call, what, text) {
+const wordsOf = (text) => text.match(/[^\s:,()"]+/g) ?? [];
+
+/** A text has these words in this order: names and numbers, in any sentence. */
+export function says(text, words, what) {
+  let rest = wordsOf(text);
+  for (const word of wordsOf(words)) {
+    if (!rest.includes(word)) throw new Error(`${what}: no ${word} in ${text}, wanted ${words}`);
+    rest = rest.slice(rest.indexOf(word) + 1);
+  }
+}
+
+/** The error of a call, which has to be of that class, and to say those words if some are given. */
+export function fails(kind, call, what, words = '') {
   let error = 'no error';
   try {
     call();
@@ -25,7 +36,7 @@ export function fails(kind, call, what, text) {
     error = found;
   }
   same(error.constructor.name, kind.name, what);
-  if (text) same(error.message, text, what);
+  says(error.message, words, what);
   return error;
 }
 

@@ -1,5 +1,5 @@
 // Hash functions, beside the rows of hashes.tsv, which other programs computed.
-import { hex, same, told, unhex, withoutMemory } from './check.js';
+import { hex, same, says, told, unhex, withoutMemory } from './check.js';
 import { KINDS } from './vectors.js';
 
 // Published digests of abc that hashes.tsv does not have.
@@ -46,7 +46,7 @@ async function rowOf(module, hasher, wanted) {
   same(copied.equals(multihash) && isSame, true, `${name} of bytes that change`);
   for (const bytes of withoutMemory())
     for (const call of [digest(bytes), verify(multihash, bytes)])
-      same((await told(call)).startsWith('TypeError: '), true, `${name} of bytes that are gone`);
+      says(await told(call), 'TypeError', `${name} of bytes that are gone`);
 }
 
 /** The functions, names and codes are those of the rows; only the platform's functions hash. */
@@ -65,12 +65,11 @@ export async function hashes(module, _, text) {
   const claim = Multihash.of(0x1e, ABC);
   const missing = await told(verify(claim, ABC));
   delete Object.prototype.blake3;
-  same(missing, 'RangeError: this platform has no function for the code 0x1e (blake3)', 'a code without a function');
-  same(await told(verify(Multihash.of(0x5555, ABC), ABC)),
-    'RangeError: this platform has no function for the code 0x5555', 'a code without a name');
+  says(missing, 'RangeError code 0x1e blake3', 'a code without a function');
+  says(await told(verify(Multihash.of(0x5555, ABC), ABC)), 'RangeError code 0x5555', 'a code without a name');
   const moved = Multihash.of(0, ABC);
   structuredClone(moved.digest.buffer, { transfer: [moved.digest.buffer] });
-  same((await told(verify(moved, new Uint8Array()))).startsWith('TypeError: '), true, 'a digest that is gone');
+  says(await told(verify(moved, new Uint8Array())), 'TypeError', 'a digest that is gone');
   const { digest } = await sha256.digest(ABC);
   const others = [digest.subarray(1), digest.subarray(0, 31), digest.subarray(0, 0), Uint8Array.of(...digest, 0),
     Uint8Array.of(...digest.subarray(0, 31), digest[31] ^ 1)];
@@ -88,18 +87,15 @@ export async function hashArguments({ Multihash, identity, sha256, verify }) {
     same(`${code} ${hex(digest)}`, `18 ${hex(whole.digest.subarray(0, truncate))}`, `truncate ${truncate}`);
   }
   for (const truncate of [33, -1, 1.5, '20', NaN])
-    same(await told(sha256.digest(ABC, { truncate })),
-      `RangeError: truncate must be a whole number from 0 to 32, got ${truncate}`, 'truncate');
-  same(await told(sha256.digest(ABC, 20)), 'TypeError: options must be an object, got 20', 'options');
+    says(await told(sha256.digest(ABC, { truncate })), `RangeError truncate 32 ${truncate}`, 'truncate');
+  says(await told(sha256.digest(ABC, 20)), 'TypeError options object 20', 'options');
   for (const call of [sha256.digest('abc'), identity.digest('abc'), verify(whole, 'abc')])
-    same(await told(call), 'TypeError: content must be a Uint8Array, a ReadableStream or an async iterable, got string: '
-      + 'new TextEncoder().encode(text) makes bytes', 'a content');
+    says(await told(call), 'TypeError content Uint8Array ReadableStream string TextEncoder', 'a content');
+  says(await told(verify(ABC, whole)), 'TypeError content Object', 'swapped arguments');
   for (const claim of ['1200', {}, null, new Blob()])
-    same((await told(verify(claim, ABC))).startsWith('TypeError: multihash must be a Multihash or its encoding, got '),
-      true, 'a claim');
-  same(await told(verify(ABC, ABC)), 'MultihashError: the input ends inside the digest (1 of 98 bytes)', 'an encoding');
-  same(await told(identity.digest(new Uint8Array(300))),
-    'MultihashError: the digest has 300 bytes, and the limit is 255', 'too long');
+    says(await told(verify(claim, ABC)), 'TypeError multihash Multihash got', 'a claim');
+  says(await told(verify(ABC, ABC)), 'MultihashError digest 1 98', 'an encoding');
+  says(await told(identity.digest(new Uint8Array(300))), 'MultihashError digest 300 255', 'too long');
   same(await verify(Multihash.of(0, new Uint8Array(255)), new Uint8Array(300)), false, 'a content that is too long');
   const longest = await identity.digest(new Uint8Array(255).fill(1));
   same(hex(longest.digest), '01'.repeat(255), 'the longest');
@@ -130,17 +126,14 @@ export async function hashStreams({ hashers, identity, sha256, verify }) {
     }
   }
   same(`${await identity.digest(chunks(content.subarray(0, 3)))}`, '0003000102', 'identity');
-  same(await told(identity.digest(stream())), 'MultihashError: the digest has 2500 bytes, and the limit is 255',
-    'identity');
+  says(await told(identity.digest(stream())), 'MultihashError digest 2500 255', 'identity');
   let ends = 0;
   const texts = { [Symbol.asyncIterator]: () => ({ next: async () => ({ value: 'a' }), return: () => (ends += 1) }) };
-  same(await told(sha256.digest(texts)), 'TypeError: a chunk of the content must be a Uint8Array, got string',
-    'a text');
+  says(await told(sha256.digest(texts)), 'TypeError chunk content Uint8Array string', 'a text');
   same(ends, 1, 'the source is cancelled');
   for (const call of [(source) => verify('1200', source), (source) => sha256.digest(source, 20)]) {
     const source = new ReadableStream({ cancel: () => void (ends += 1) });
-    for (const each of [source, texts])
-      same((await told(call(each))).startsWith('TypeError: '), true, 'a call that fails before it reads');
+    for (const each of [source, texts]) says(await told(call(each)), 'TypeError', 'a call that fails before it reads');
     same(source.locked, false, 'a source that was not read');
   }
   same(ends, 5, 'the sources are cancelled');

@@ -7,7 +7,7 @@ import { test } from 'node:test';
 import { clearImmediate, setImmediate } from 'node:timers';
 import { fileURLToPath } from 'node:url';
 import { SourceTextModule, createContext, runInContext } from 'node:vm';
-import { fails, hex, same, told, unhex } from './check.js';
+import { fails, hex, same, says, told, unhex } from './check.js';
 import { hashStreams, hashes } from './hashes.js';
 import { endedAnywhere } from './stream.js';
 import { testsOf } from './suite.js';
@@ -38,7 +38,6 @@ async function inContext(name, program = '', response = undefined, globals = {})
 /** Where an engine lacks something, or forbids to compile, the error lists engines. */
 async function unfit() {
   const response = { ok: true, arrayBuffer: async () => bytesOf('multihash.wasm') };
-  const engines = /WebAssembly.*BigInt.*forbids.* Node.js .*, Chrome 89, Edge 89, Firefox 90 and Safari 15/;
   const programs = [
     ['', 'CompileError'],
     ['delete globalThis.WebAssembly'],
@@ -48,7 +47,8 @@ async function unfit() {
   for (const [program, cause] of programs) {
     for (const name of ['inline.js', 'index.js']) {
       const error = await inContext(name, program, response).catch((error) => error);
-      same(`${error.cause?.name} ${engines.test(error.message)}`, `${cause} true`, `${name} ${program}`);
+      same(error.cause?.name, cause, `${name} ${program}`);
+      says(error.message, 'WebAssembly BigInt Node.js Chrome Edge Firefox Safari', `${name} ${program}`);
     }
   }
   const error = await inContext('index.js', '', { ok: false, status: 500 }).catch((error) => error);
@@ -61,8 +61,7 @@ async function compiledBefore() {
   const { decode, read, head, scaleDecode, encode, scaleEncode, encodedLength, Multihash } = entry;
   for (const [call, ...words] of [[decode], [read], [head], [scaleDecode], [encode, 1], [scaleEncode, 1],
     [Multihash.of, 1], [encodedLength, 1, 2]])
-    fails(TypeError, () => call(...words, Uint8Array.of(1, 0)), `${call.name} before connect`,
-      "verified-multihash is not connected: import 'verified-multihash', or call connect(module)");
+    fails(TypeError, () => call(...words, Uint8Array.of(1, 0)), `${call.name} before connect`, 'connect module');
   const empty = new Module(Uint8Array.of(0, 97, 115, 109, 1, 0, 0, 0));
   for (const wrong of [undefined, {}, bytesOf('multihash.wasm'), empty])
     fails(TypeError, () => entry.connect(wrong), 'another module');
@@ -78,8 +77,7 @@ async function webCrypto(text) {
   const entries = [{}, { crypto, ArrayBuffer, Blob }].map((globals) => inContext('module.js', '', undefined, globals));
   const [without, entry] = await Promise.all(entries);
   for (const each of [without, entry]) each.connect(new Module(bytesOf('multihash.wasm')));
-  same(await told(without.sha256.digest(new Uint8Array())),
-    'TypeError: WebCrypto is missing: a page has it only over HTTPS or on localhost', 'without HTTPS');
+  says(await told(without.sha256.digest(new Uint8Array())), 'TypeError WebCrypto HTTPS', 'without HTTPS');
   same(`${Object.keys(entry.hashers)}`, 'identity,sha1,sha2-256,sha2-512,sha2-384,dbl-sha2-256', 'of WebCrypto');
   for (const check of [hashes, hashStreams]) await check(entry, '', text);
 }
@@ -99,7 +97,7 @@ async function largeContent({ Multihash, identity, sha256, verify }) {
   const larger = new Uint8Array(2 ** 29); // no memory is touched
   const start = process.cpuUsage();
   same(await verify(Multihash.of(0, Uint8Array.of(1)), larger), false, 'verify');
-  same((await told(identity.digest(larger))).startsWith('MultihashError: '), true, 'digest');
+  says(await told(identity.digest(larger)), 'MultihashError', 'digest');
   const { user, system } = process.cpuUsage(start);
   same(user + system < 3e5, true, `the time of identity: ${user + system}`);
 }
@@ -114,7 +112,9 @@ async function nodeStreams(module) {
   const calls = [ofStream, ofWeb].map((reader) => told(reader.read()));
   ofWeb.release();
   await ofStream.cancel();
-  same(`${await Promise.all(calls)}`, 'null,TypeError: the reader was released', 'calls that wait');
+  const [ended, released] = await Promise.all(calls);
+  same(ended, 'null', 'a call that waits');
+  says(released, 'TypeError released', 'a call that waits');
   const unread = endless();
   await new MultihashReader(unread).cancel();
   same(unread.destroyed, true, 'a stream that was not read is destroyed');
@@ -144,9 +144,9 @@ async function unreadStreams({ Multihash, MultihashReader, hashers, sha256, veri
   new MultihashReader(early); // adds no listener
   await closed(early);
   same(early.listenerCount('error'), 1, 'listeners');
-  same((await told(reader.read())).slice(0, 13), 'Error: ENOENT', 'an error before the first read');
+  says(await told(reader.read()), 'Error ENOENT', 'an error before the first read');
   for (const call of [sha256.digest, (content) => verify(claim, content)])
-    same((await told(call(createReadStream('missing')))).slice(0, 13), 'Error: ENOENT', 'an error while it is read');
+    says(await told(call(createReadStream('missing'))), 'Error ENOENT', 'an error while it is read');
 }
 
 /** The names and numbers that *.d.ts state, the version of package.json, and the entries that connect. */
@@ -184,6 +184,7 @@ export async function run(which) {
   const texts = [vectors, ...beside].map((path) => readFileSync(path, 'utf8'));
   test('declared', () => declared(module, which));
   if (compiled) for (const check of [compiledBefore, unfit, webCrypto]) test(check.name, () => check(texts[1]));
-  if (which === 'index') for (const check of [largeContent, nodeStreams, unreadStreams]) test(check.name, () => check(module));
+  const ofIndex = which === 'index' ? [largeContent, nodeStreams, unreadStreams] : [];
+  for (const check of ofIndex) test(check.name, () => check(module));
   for (const [name, check] of testsOf(which)) test(name, () => check(module, ...texts));
 }

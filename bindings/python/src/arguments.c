@@ -42,7 +42,7 @@ static void raise_negative(const char *name, PyObject *number)
         PyErr_Clear();
         shown = PyNumber_ToBase(number, 16);
     }
-    if (shown != NULL) PyErr_Format(PyExc_ValueError, "%s must be 0 or more, not %U", name, shown);
+    if (shown != NULL) PyErr_Format(PyExc_ValueError, "%s must be 0 or more, not %.300U", name, shown);
     Py_XDECREF(shown);
 }
 

@@ -28,19 +28,19 @@ PyObject *module_of_type(PyTypeObject *type)
 }
 
 /* Raises a MultihashError, without its __init__, which takes longer. It steals the references to the numbers and the
- * facts, of which a null one has raised an error. */
+ * text, of which a null one has raised an error. */
 static PyObject *raise_error(PyObject *module, multihash_status status, PyObject *size, PyObject *code, size_t taken,
-                             PyObject *facts)
+                             PyObject *text)
 {
     const state *own = module == NULL ? NULL : PyModule_GetState(module);
     if (own != NULL && own->statuses == NULL) {
         PyErr_SetString(PyExc_RuntimeError, "verified_multihash was not imported");
         own = NULL;
     }
-    int is_ready = own != NULL && size != NULL && code != NULL && facts != NULL;
+    int is_ready = own != NULL && size != NULL && code != NULL && text != NULL;
     PyObject *count = is_ready ? PyLong_FromSize_t(taken) : NULL, *error = NULL;
     PyObject *values[] = {count == NULL ? NULL : PyTuple_GetItem(own->statuses, (Py_ssize_t)status), size, code, count};
-    PyObject *arguments = values[0] == NULL ? NULL : PyTuple_Pack(5, values[0], size, code, count, facts);
+    PyObject *arguments = values[0] == NULL ? NULL : PyTuple_Pack(5, values[0], size, code, count, text);
     if (arguments != NULL) error = own->new_error((PyTypeObject *)own->error, arguments, NULL);
     int is_whole = error != NULL;
     for (Py_ssize_t at = 0; is_whole && at < FIELDS; at++) {
@@ -52,25 +52,32 @@ static PyObject *raise_error(PyObject *module, multihash_status status, PyObject
     Py_XDECREF(count);
     Py_XDECREF(size);
     Py_XDECREF(code);
-    Py_XDECREF(facts);
+    Py_XDECREF(text);
     return NULL;
 }
 
-PyObject *encoding_error(PyObject *module, multihash_status status, PyObject *length, PyObject *code)
+PyObject *encoding_error(PyObject *module, multihash_encoded made, uint64_t number, PyObject *length, PyObject *code)
 {
-    int is_size = status == MULTIHASH_INVALID_SIZE;
+    char text[MULTIHASH_MESSAGE_SIZE] = "";
+    int is_size = made.status == MULTIHASH_INVALID_SIZE;
     PyObject *wrong = is_size ? length : code, *none = PyLong_FromLong(0);
     Py_XDECREF(is_size ? code : length);
-    return raise_error(module, status, is_size ? wrong : none, is_size ? none : wrong, 0, PyTuple_New(0));
+    if (is_size ? made.size < SIZE_MAX : number < UINT64_MAX) {
+        multihash_encode_message(text, sizeof text, made, number, 0);
+    }
+    return raise_error(module, made.status, is_size ? wrong : none, is_size ? none : wrong, 0, PyUnicode_FromString(text));
 }
 
-/* What the text of an error depends on: the length of the input, the start of it, and the limit. */
-static PyObject *facts_of(const input *from, const size_t *limit)
+/* Why an input is rejected. The limit of a digest is null for SCALE, whose messages depend on no more than was copied. */
+static PyObject *message_of(const input *from, const size_t *limit)
 {
-    Py_ssize_t whole = (Py_ssize_t)from->whole;
-    Py_ssize_t length = (Py_ssize_t)(from->length < MULTIHASH_HEAD_MAX ? from->length : MULTIHASH_HEAD_MAX);
-    if (limit == NULL) return Py_BuildValue("(ny#)", whole, from->bytes, length);
-    return Py_BuildValue("(ny#K)", whole, from->bytes, length, (unsigned long long)*limit);
+    char text[MULTIHASH_MESSAGE_SIZE];
+    if (limit == NULL) {
+        multihash_scale_message(text, sizeof text, from->bytes, from->length);
+    } else {
+        multihash_message(text, sizeof text, from->bytes, from->whole, *limit);
+    }
+    return PyUnicode_FromString(text);
 }
 
 /* For the package: the class of errors, the members of Status, and the names of an error's attributes. */
@@ -105,7 +112,7 @@ PyObject *decoded(PyObject *module, const input *from, multihash_decoded found, 
 {
     if (found.status != MULTIHASH_OK) {
         PyObject *size = PyLong_FromUnsignedLongLong(found.size), *code = PyLong_FromUnsignedLongLong(found.code);
-        return raise_error(module, found.status, size, code, found.taken, facts_of(from, limit));
+        return raise_error(module, found.status, size, code, found.taken, message_of(from, limit));
     }
     const char *digest = (const char *)from->bytes + found.digest_offset;
     PyObject *code = PyLong_FromUnsignedLongLong(found.code);
@@ -167,10 +174,10 @@ static PyObject *head(PyObject *module, PyObject *data)
     input from;
     if (get_input(data, "data", MULTIHASH_HEAD_MAX, &from) < 0) return NULL;
     multihash_front found = multihash_head(from.bytes, from.length);
-    PyObject *facts = found.status == MULTIHASH_OK ? NULL : facts_of(&from, &longest);
+    PyObject *text = found.status == MULTIHASH_OK ? NULL : message_of(&from, &longest);
     Py_DECREF(from.owner);
     if (found.status != MULTIHASH_OK) {
-        return raise_error(module, found.status, PyLong_FromLong(0), PyLong_FromLong(0), found.taken, facts);
+        return raise_error(module, found.status, PyLong_FromLong(0), PyLong_FromLong(0), found.taken, text);
     }
     unsigned long long code = found.code, length = found.digest_length;
     return Py_BuildValue("KKn", code, length, (Py_ssize_t)found.taken);
@@ -193,7 +200,7 @@ static PyObject *encoded(PyObject *module, encoder *function, const char *format
                                  : function(number, digest.bytes, digest.whole, out, sizeof out);
     Py_DECREF(digest.owner);
     if (made.status != MULTIHASH_OK) {
-        return encoding_error(module, made.status, PyLong_FromSize_t(digest.whole), code);
+        return encoding_error(module, made, number, PyLong_FromSize_t(digest.whole), code);
     }
     Py_DECREF(code);
     return PyBytes_FromStringAndSize((const char *)out, (Py_ssize_t)made.length);
@@ -219,7 +226,7 @@ static PyObject *encoded_len(PyObject *module, PyObject *arguments, PyObject *na
     if (get_number(&code, "code", &number) < 0) return NULL;
     if (get_size(&length, "digest_length", &size) == 0) {
         multihash_encoded made = multihash_encoded_len(number, size);
-        if (made.status != MULTIHASH_OK) return encoding_error(module, made.status, length, code);
+        if (made.status != MULTIHASH_OK) return encoding_error(module, made, number, length, code);
         result = PyLong_FromSize_t(made.length);
         Py_DECREF(length);
     }

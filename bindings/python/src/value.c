@@ -37,7 +37,7 @@ static PyObject *multihash_new(PyTypeObject *type, PyObject *arguments, PyObject
     }
     PyObject *module = module_of_type(type);
     Py_DECREF(digest.owner);
-    return encoding_error(module, length.status, PyLong_FromSize_t(digest.whole), code);
+    return encoding_error(module, length, number, PyLong_FromSize_t(digest.whole), code);
 }
 
 static void multihash_dealloc(PyObject *self)

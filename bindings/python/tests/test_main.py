@@ -44,14 +44,14 @@ class Main(unittest.TestCase):
     def test_argument(self):
         for text in (HEX, HEX.upper(), HEX + "\n"):
             self.assertEqual(run(text, input="zz"), (0, SHOWN, ""))
-        reasons = {"": "not enough input bytes", "0041": "Invalid multihash size 65.", "zz": "not hexadecimal"}
-        for text, reason in reasons.items():
-            self.assertEqual(run(text, input=HEX), (1, "", error_of(reason)))
+        for text, _, reason, _ in rows():
+            if text in ("", "0041", "zz"):
+                self.assertEqual(run(text, input=HEX), (1, "", error_of(reason)))
 
     def test_help(self):
         for word in ("-h", "--help"):
             status, page, reason = run(word, input=HEX)
-            self.assertEqual((status, page[:33], reason), (0, "Shows a multihash, as the program", ""))
+            self.assertEqual((status, "mh_show" in page, reason), (0, True, ""))
         command = [sys.executable, "-OO", "-m", "verified_multihash", "--help"]
         self.assertEqual(subprocess.run(command, check=False).returncode, 0)
 

@@ -14,6 +14,7 @@ from unittest.mock import AsyncMock, Mock
 import verified_multihash as vm
 from verified_multihash import Multihash, MultihashError
 
+BUSY = "another call"
 DATA = b"".join(bytes(Multihash(1 << 40, bytes([n] * n))) for n in range(4))
 
 
@@ -50,10 +51,10 @@ class Readers(unittest.TestCase):
         for call in (vm.MultihashReader, vm.AsyncMultihashReader, vm.read_from):
             self.assertRaises(TypeError, call, object())
         for kind in self.readers:
-            self.assertRaisesRegex(ValueError, "__init__ was not called$", kind.__new__(kind).read)
-            self.assertRaisesRegex(RuntimeError, "has begun$", kind.__new__(kind)._end, b"\1\0")
+            self.assertRaisesRegex(ValueError, "__init__", kind.__new__(kind).read)
+            self.assertRaises(RuntimeError, kind.__new__(kind)._end, b"\1\0")
             self.assertRaisesRegex(ValueError, "closed file", kind(closed).read)
-            self.assertRaisesRegex(ValueError, "returned 3 bytes", kind(turns(b"abc")).read)
+            self.assertRaisesRegex(ValueError, "returned 3", kind(turns(b"abc")).read)
             self.assertRaises(TypeError, kind(turns(2)).read)
             self.assertRaises(TypeError, kind(io.StringIO()).read)
             reading, writing = os.pipe()
@@ -62,7 +63,7 @@ class Readers(unittest.TestCase):
                 sink.write(b"\x01\x03abc")  # the pipe stays open: for a byte too many it has none
                 reader = kind(source)
                 self.assertEqual(reader.read().digest, b"abc")
-                self.assertRaisesRegex(BlockingIOError, "^the file has no bytes now$", reader.read)
+                self.assertRaises(BlockingIOError, reader.read)
 
     def test_waiting_files(self):
         """A reader keeps what it has read when a file has no bytes."""
@@ -76,7 +77,7 @@ class Readers(unittest.TestCase):
                     waits += 1
                 self.assertEqual(reader.taken, sum(len(bytes(each)) for each in found))
             self.assertEqual((b"".join(map(bytes, found)), waits), (DATA, len(DATA)))
-            with self.assertRaisesRegex(io.UnsupportedOperation, "^the file does not block"):
+            with self.assertRaisesRegex(io.UnsupportedOperation, "MultihashReader$"):
                 vm.read_from(turns(*late))
 
     def test_growing_files(self):
@@ -119,7 +120,7 @@ class Readers(unittest.TestCase):
 
         def chunk(size):
             for call in (reader.read, functools.partial(reader.__init__, other)):
-                self.assertRaisesRegex(RuntimeError, "has not ended", call)
+                self.assertRaisesRegex(RuntimeError, BUSY, call)
             return bytes(size)
 
         reader = vm.MultihashReader(Mock(read=chunk))
@@ -131,9 +132,9 @@ class Readers(unittest.TestCase):
             first = asyncio.ensure_future(reader.read())
             await asyncio.sleep(0)
             for _ in range(2):
-                with self.assertRaisesRegex(RuntimeError, "has not ended"):
+                with self.assertRaisesRegex(RuntimeError, BUSY):
                     await reader.read()
-                self.assertRaisesRegex(RuntimeError, "has not ended", reader.__init__, other)
+                self.assertRaisesRegex(RuntimeError, BUSY, reader.__init__, other)
             stream.feed_data(bytes(4))
             self.assertEqual([await first, await reader.read()], [Multihash(0, b"")] * 2)
 
@@ -148,11 +149,11 @@ class Readers(unittest.TestCase):
             self.assertRaises(error, vm.MultihashReader(turns(error)).read)
 
         async def run():
-            with self.assertRaisesRegex(TypeError, "a MultihashReader reads from a file$"):
+            with self.assertRaisesRegex(TypeError, "awaited.*MultihashReader"):
                 await vm.AsyncMultihashReader(io.BytesIO(b"\0\0")).read()
             reader = vm.AsyncMultihashReader(Mock(read=AsyncMock(side_effect=[b"\0\0", b"\1"])))
             found = []
-            with self.assertRaisesRegex(RuntimeError, "^the stream raised StopAsyncIteration$"):
+            with self.assertRaisesRegex(RuntimeError, "StopAsyncIteration$"):
                 async for each in reader:
                     found.append(each)
             self.assertEqual((found, reader.rest), ([Multihash(0, b"")], b"\1"))

@@ -12,14 +12,13 @@ verified_multihash.hashes has the names of codes, and makes and verifies multiha
 
 from __future__ import annotations
 
-import enum
 import importlib
 import io
-import re
-from typing import TYPE_CHECKING, AsyncIterator, Iterator, NamedTuple, Optional, Protocol, Tuple, Union
+from typing import TYPE_CHECKING, AsyncIterator, Iterator, NamedTuple, Optional, Protocol, Union
 
 from . import _core
 from ._core import Multihash, compare, decode, encode, encoded_len, read, scale_decode, scale_encode
+from ._status import Status
 
 if TYPE_CHECKING:
     from _typeshed import ReadableBuffer as Buffer
@@ -52,35 +51,6 @@ LENGTH_MAX = 266
 SCALE_LENGTH_MAX = 264
 
 
-class Status(enum.IntEnum):
-    """Why a call failed, with the numbers of the C library.
-
-    INSUFFICIENT: the input ends before or inside a varint.
-    OVERFLOW: a varint has more than nine bytes; numbers of 2^63 and above do.
-    NOT_MINIMAL: a varint of more than one byte ends in a zero byte.
-    INVALID_SIZE: the digest is too long, and `size` is its length; or bytes follow the multihash, and `size` is their
-    number.
-    INVALID_CODE: `code` is 2^63 or more.
-    UNEXPECTED_EOF: the input ends inside the digest or, in SCALE, before it.
-    OK and NO_ROOM, a buffer of C that is too small, are not raised.
-    """
-
-    OK = 0
-    INSUFFICIENT = 1
-    OVERFLOW = 2
-    NOT_MINIMAL = 3
-    INVALID_SIZE = 4
-    INVALID_CODE = 5
-    UNEXPECTED_EOF = 6
-    NO_ROOM = 7
-
-
-# A text, or what it depends on: nothing for a code and a digest; for an input its length, its start, and a limit of
-# the digest, which SCALE does not have.
-_Text = Union[str, Tuple[()], Tuple[int, bytes], Tuple[int, bytes, int]]
-_VARINT = re.compile(b"[\x80-\xff]{1,8}[\1-\x7f]|[\0-\x7f]")
-
-
 class MultihashError(ValueError):
     """The error of invalid input, or of a code or digest that is too large. Its text says what is wrong.
 
@@ -92,7 +62,7 @@ class MultihashError(ValueError):
 
     __slots__ = ("status", "size", "code", "taken")
 
-    def __init__(self, status: int, size: int = 0, code: int = 0, taken: int = 0, text: _Text = "") -> None:
+    def __init__(self, status: int, size: int = 0, code: int = 0, taken: int = 0, text: str = "") -> None:
         self.status = Status(status)
         if self.status is Status.OK:
             raise ValueError("OK is the status of no error")
@@ -113,40 +83,8 @@ class MultihashError(ValueError):
 
     def __str__(self) -> str:
         """Returns the text, or else that of the C library."""
-        text: _Text = self.args[4]
-        if isinstance(text, tuple):
-            return self._text(*text)
         numbers = {Status.INVALID_SIZE: " (%s)" % _shown(self.size), Status.INVALID_CODE: " (%s)" % _shown(self.code)}
-        return text or _core.status_text(self.status) + numbers.get(self.status, "")
-
-    def _text(self, length: int = 0, start: bytes = b"", limit: Optional[int] = None) -> str:
-        if self.status is Status.INVALID_CODE:
-            return "the code %s is 2^63 or more" % _shown(self.code)
-        if self.status is Status.INVALID_SIZE and not start:
-            return "the digest has %s bytes, and the limit is %d" % (_shown(self.size), DIGEST_MAX)
-        if length == 0:
-            return "the input is empty"
-        if limit is None:
-            if length < 8:
-                return "the input ends inside the code (%d of 8 bytes)" % length
-            if length == 8:
-                return "the input ends before the digest's length"
-            return "the input ends inside the digest (%d of %d bytes)" % (length - 9, start[8])
-        code = _VARINT.match(start)
-        name = "digest's length" if code else "code"
-        if self.status is Status.OVERFLOW:
-            return "the varint of the %s has more than nine bytes" % name
-        if self.status is Status.NOT_MINIMAL:
-            return "the varint of the %s is not minimal: it ends in a zero byte" % name
-        if self.status is Status.INSUFFICIENT:
-            where = "before" if code and code.end() == length else "inside"
-            return "the input ends %s the %s" % (where, name)
-        _, size, end = _core.head(start)
-        if self.status is Status.UNEXPECTED_EOF:
-            return "the input ends inside the digest (%d of %d bytes)" % (length - end, size)
-        if size > min(limit, DIGEST_MAX):
-            return "the digest has %d bytes, and the limit is %d" % (size, min(limit, DIGEST_MAX))
-        return "%d byte%s the multihash" % (self.size, " follows" if self.size == 1 else "s follow")
+        return self.args[4] or _core.status_text(self.status) + numbers.get(self.status, "")
 
 
 # The library's errors are made by _core, as __init__ does it.

@@ -11,10 +11,10 @@ import os
 import re
 import sys
 
-from . import MultihashError, Status, read
+from . import MultihashError, Status, _core, read
 
 MOST_INPUT = 65536
-# The reasons that mh_show prints, in the words of the Rust crate multihash; {} is the size.
+# The reasons that mh_show prints, in the words of the Rust crate multihash if it has them; {} is the size.
 REASONS = {
     Status.INSUFFICIENT: "not enough input bytes",
     Status.OVERFLOW: "input bytes exceed maximum",
@@ -66,7 +66,7 @@ def main() -> int:
     except OSError:
         pass
     except MultihashError as error:
-        reason = REASONS[error.status].format(error.size)
+        reason = REASONS.get(error.status, _core.status_text(error.status)).format(error.size)
     except ValueError as error:
         reason = str(error)
     try:

@@ -40,6 +40,14 @@ class _Identity:
         return self._data
 
 
+def _bytes_like(data: Buffer, expected: str = "data must be a bytes-like object") -> Buffer:
+    try:
+        memoryview(data)
+    except TypeError:
+        raise TypeError("%s, not %s" % (expected, type(data).__name__)) from None
+    return data
+
+
 @functools.lru_cache(maxsize=None)
 def _maker(name: str) -> Callable[[], Any]:
     """Returns what makes an object of hashlib, or raises ValueError."""
@@ -72,10 +80,7 @@ class Hasher:
 
     def update(self, data: Buffer) -> None:
         """Appends data. Raises MultihashError if "identity" gets more than DIGEST_MAX bytes."""
-        try:
-            self._hash.update(data)
-        except TypeError:
-            raise TypeError("data must be a bytes-like object, not %s" % type(data).__name__) from None
+        self._hash.update(_bytes_like(data))
 
     def multihash(self) -> Multihash:
         """Returns the multihash of all data so far."""
@@ -86,7 +91,7 @@ class Hasher:
         return Multihash(CODES[self._name], found)
 
 
-def _parts(file: _Readable) -> Iterator[bytes]:
+def _parts(file: _Readable) -> Iterator[Buffer]:
     if not hasattr(file, "read"):
         expected = "file must be an object with a method read, such as open(path, 'rb'), not %s"
         raise TypeError(expected % type(file).__name__)
@@ -96,12 +101,7 @@ def _parts(file: _Readable) -> Iterator[bytes]:
             raise BlockingIOError("the file has no bytes now")
         if not part:
             return
-        try:
-            memoryview(part)
-        except TypeError:
-            expected = "the result of read must be bytes (open the file in binary mode), not %s"
-            raise TypeError(expected % type(part).__name__) from None
-        yield part
+        yield _bytes_like(part, "the result of read must be bytes (open the file in binary mode)")
 
 
 def _digest(parts: Iterable[Buffer], name: str) -> Multihash:
@@ -148,7 +148,7 @@ def verify(multihash: Union[Multihash, Buffer], data: Buffer) -> bool:
     Raises ValueError if the code is not in NAMES, or if this build of hashlib does not have the function. The time
     that it takes to compare digests of equal lengths does not depend on their bytes.
     """
-    return _verify(multihash, [data])
+    return _verify(multihash, [_bytes_like(data)])  # checked first: if the arguments are swapped, data is wrong
 
 
 def verify_file(multihash: Union[Multihash, Buffer], file: _Readable) -> bool:

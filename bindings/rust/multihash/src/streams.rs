@@ -1,5 +1,6 @@
 //! Adapts readers and writers of `std::io` or `no_std_io` to the proved functions, whose errors hold only a text. The
-//! adapter keeps the caller's error.
+//! adapter keeps the caller's error. `with_io` of `verified-multihash` is another one: it needs `std`, and repeats
+//! calls that are interrupted.
 use crate::error::{Error, Kind};
 use crate::io;
 use verified_multihash::{self as proved, no_std_io as bare};

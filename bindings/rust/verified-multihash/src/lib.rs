@@ -10,10 +10,15 @@ extern crate alloc;
 #[cfg(feature = "std")]
 extern crate std as host;
 
+pub mod codes;
+#[cfg(feature = "std")]
+mod io;
 mod rattle;
 #[doc(hidden)]
 pub mod upstream;
 
+#[cfg(feature = "std")]
+pub use crate::io::{with_io, Io};
 use crate::rattle::{std, *};
 mod binary;
 mod compare;

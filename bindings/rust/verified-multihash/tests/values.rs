@@ -2,7 +2,7 @@
 #![cfg(feature = "std")]
 use verified_multihash::no_std_io::{self, Read, SliceWriter, Write};
 use verified_multihash::varint::{self, MAX as CODE_MAX};
-use verified_multihash::{Error, Head, Multihash};
+use verified_multihash::{codes, Error, Head, Multihash};
 
 type Value = Multihash<64>;
 
@@ -28,6 +28,27 @@ fn implemented() {
 fn limits() {
     let error = varint::write(CODE_MAX + 1, &mut SliceWriter::new(&mut [])).expect_err("too large");
     assert_eq!((error.invalid_code(), varint::len(CODE_MAX + 1).is_ok()), (Some(1 << 63), false));
+}
+
+/// Names of the multicodec table, and what is none.
+#[test]
+fn names() {
+    for (constant, code, name) in [
+        (codes::IDENTITY, 0, "identity"),
+        (codes::SHA2_256, 0x12, "sha2-256"),
+        (codes::BLAKE2B_8, 0xb201, "blake2b-8"),
+        (0xb214, 0xb214, "blake2b-160"),
+        (codes::BLAKE2S_256, 0xb260, "blake2s-256"),
+        (codes::SKEIN1024_1024, 0xb3e0, "skein1024-1024"),
+        (codes::POSEIDON_BLS12_381_A2_FC1_SC, 0xb402, "poseidon-bls12_381-a2-fc1-sc"),
+    ] {
+        assert_eq!((constant, codes::name(code), codes::code(name)), (code, Some(name), Some(code)));
+    }
+    assert_eq!([1, 0xb200, 0xb261, u64::MAX].map(codes::name), [None; 4]);
+    assert_eq!(["", "sha256", "SHA2-256", "blake2b-520", "blake2b-"].map(codes::code), [None; 5]);
+    for code in (0..0x100).chain(0xb200..0xb400) {
+        assert!(codes::name(code).map_or(true, |name| codes::code(name) == Some(code)));
+    }
 }
 
 #[test]

@@ -188,7 +188,7 @@ fn check_list(beside: Option<&str>, columns: &str) {
     }
     let list = std::fs::read_to_string(path).expect("the list");
     let mut lines = list.lines();
-    assert_eq!(lines.next(), Some(columns));
+    assert!(lines.next().expect("the columns").starts_with(columns)); // those of other encodings may follow
     for line in lines {
         println!("{line}"); // shown where the test fails
         check_line(line);

@@ -1,0 +1,13 @@
+// The statuses of multihash.h. Made by tools/generate statuses.
+
+/** Their names, by their numbers. */
+export const STATUSES = [
+  'ok',
+  'insufficient',
+  'overflow',
+  'not_minimal',
+  'invalid_size',
+  'invalid_code',
+  'unexpected_eof',
+  'no_room',
+];
