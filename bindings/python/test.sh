@@ -47,6 +47,14 @@ all_tests() {
   unit_tests "$here/tests" PYTHONMALLOC=debug
 }
 
+# Inputs that are drawn have the results that verdicts.py computes.
+drawn() {
+  local -x MULTIHASH_VERDICTS=$work/drawn/verdicts.tsv
+  mkdir "$work/drawn"
+  crates/vectors/verdicts.py --draw 1 3000 > "$work/drawn/verdicts.tsv"
+  "$python" -m unittest discover -s "$here/tests" -k Vectors
+}
+
 # The sdist is all that is needed: what is in the folders above it is not used.
 sdist() {
   mkdir "$work/sdist"
@@ -101,6 +109,7 @@ ONLY='' try "an environment" /usr/bin/python3 -m venv --clear --system-site-pack
 ONLY='' try "the wheel, installed" imports "$work"/dist/*.whl
 try "its licence" has_licence "$work"/venv/lib/python3*/site-packages/verified_multihash-*.dist-info
 try "the tests" all_tests
+try "drawn inputs" drawn
 needs="mypy stubtest" try "types" types
 ONLY='' try "the sdist, installed" sdist
 try "sanitizers" under_sanitizers "$work/sdist"
