@@ -191,7 +191,7 @@ cp crates/vectors/data/values.tsv "$work"
 needs=$cargo try "the tests" rust_tests
 needs=$bare try "the tests without std" without_std
 needs="/usr/bin/cargo /usr/bin/rustc $crates" try "the tests with Debian's Rust" debians_rust
-needs="$cargo $registry/cid-0.5* $registry/multihash-0.11*" try "beside other crates" \
+needs="$cargo $registry/cid-0.5* $registry/multihash-0.11* $registry/unsigned-varint-0.5*" try "beside other crates" \
   tests tests/neighbours cargo test
 try "the proved source" only_removed
 needs=$cargo try "the packed packages" rust_packed
