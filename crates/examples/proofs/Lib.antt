@@ -1,2 +1,1 @@
-mod ErrorLemmas
 pub mod IdentifierLemmas
