@@ -1,6 +1,6 @@
 //! Makes the calls that `crates/speed` makes, of the Rust crate `multihash`: the same inputs, loop and sums.
-//! `rust_speed COUNT ROW..` with the words of `crates/speed/args` before `hash_of` prints `crates/speed/stdout` up to
-//! there.
+//! `rust_speed COUNT ROW..` with the words of `crates/speed/args` before `wrap, 48 bytes` prints `crates/speed/stdout`
+//! up to there.
 //!
 //! To build it, write into an empty folder a Cargo.toml of
 //!

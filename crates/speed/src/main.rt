@@ -8,10 +8,8 @@ use serde_json::Value;
 use std::alloc::Global;
 use std::env;
 use std::hash::{DefaultHasher, Hash, Hasher};
-use storage::content::{hash_of, verify};
-use storage::log::{valid_prefix, write_entry};
 
-// The number of inputs, of the items of a list, and of the entries of a log.
+// The number of inputs, and of the items of a list.
 const ROUND: usize = 8;
 
 // Codes whose varints have one byte and nine.
@@ -38,7 +36,6 @@ struct Input {
     stream: Vec<u8>,
     output: Vec<u8>,
     vector: Vec<u8>,
-    log: Vec<u8>,
 }
 
 impl Input {
@@ -50,11 +47,6 @@ impl Input {
         let items = vec![in alloc; left; ROUND]?;
         let mut stream = Vec::new(alloc);
         list::write_list(&items, &mut stream)?;
-        let hash = hash_of::<32>(&digest);
-        let mut log = Vec::new(alloc);
-        for _ in 0..ROUND {
-            write_entry(&hash, &digest, &mut log)?;
-        }
         Ok(Input {
             alloc,
             code,
@@ -69,7 +61,6 @@ impl Input {
             vector: stream.clone()?,
             stream,
             digest,
-            log,
         })
     }
 }
@@ -154,7 +145,7 @@ fn making(calls: &mut Calls, row: &str) -> Option<u64> {
     })
 }
 
-// The other calls of `multihash`.
+// The other calls.
 fn using(calls: &mut Calls, row: &str) -> Option<u64> {
     Some(match row {
         "to_bytes" => calls.sum(|it| it.left.to_bytes(it.alloc), ok),
@@ -172,16 +163,6 @@ fn using(calls: &mut Calls, row: &str) -> Option<u64> {
         "scale_encode" => calls.sum(|it| it.left.scale_encode(&mut it.output.as_mut_slice()), ok),
         "to_value" => calls.sum(|it| it.left.to_value(it.alloc), ok),
         "write_list, 8 items" => calls.sum(write_list, ok),
-        _ => return storing(calls, row),
-    })
-}
-
-// The calls of `storage`.
-fn storing(calls: &mut Calls, row: &str) -> Option<u64> {
-    Some(match row {
-        "hash_of" => calls.sum(|it| hash_of::<64>(&it.digest), |m| u64::from(m.size())),
-        "verify" | "verify, long code" => calls.sum(|it| verify(&it.left, &it.digest), ok),
-        "valid_prefix, 8 entries" => calls.sum(|it| valid_prefix(&it.log).len(), |len| *len as u64),
         _ => return None,
     })
 }
