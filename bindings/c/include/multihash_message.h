@@ -69,8 +69,8 @@ static inline int mh_message_malformed(char *text, size_t text_size, const uint8
  * multihash_from_prefix may pass the length of the whole input, but then `bytes` has to contain that many bytes, even if
  * multihash_from_prefix needed fewer.
  *
- * If bytes follow the multihash the message says so, which is an error of multihash_from_bytes and
- * multihash_from_prefix alone: after another call has returned MULTIHASH_OK, the message says nothing about it.
+ * Call it only after an error: if `bytes` starts with a multihash and more bytes follow, the message reports these, even
+ * if multihash_read accepted them.
  *
  * Returns: the length of the message. */
 static inline int multihash_message(char *text, size_t text_size, const uint8_t *bytes, size_t bytes_length,
