@@ -2,8 +2,11 @@
 
 /** What came, as an error names it. */
 export function received(value) {
-  if (typeof value === 'object' && value !== null) return Object.prototype.toString.call(value).slice(8, -1);
-  return ['string', 'symbol', 'function'].includes(typeof value) ? typeof value : String(value);
+  if (typeof value === 'object' && value !== null) {
+    const kind = Object.prototype.toString.call(value).slice(8, -1);
+    return kind === 'Object' ? value.constructor?.name || kind : kind;
+  }
+  return ['string', 'symbol', 'function', 'bigint'].includes(typeof value) ? typeof value : String(value);
 }
 
 /** A number, as an error shows it: at most 40 digits. */
@@ -13,20 +16,26 @@ export function shown(number) {
 }
 
 const DECODE = 'Multihash.fromHex(text) decodes hexadecimal';
+const ENCODING = 'open the stream without an encoding';
+const STREAM = 'its stream() is a ReadableStream';
 // What makes an argument of a text, by the name of the argument, and of other values.
 const OF_TEXTS = {
   __proto__: null, bytes: DECODE, multihash: DECODE, code: 'CODES has the codes of names',
-  content: 'new TextEncoder().encode(text) makes bytes',
+  content: 'new TextEncoder().encode(text) makes bytes', source: 'createReadStream(path) opens a file',
+  'a chunk of the content': ENCODING, 'a chunk of the source': ENCODING,
 };
 const OF_OTHERS = {
-  __proto__: null, ArrayBuffer: 'new Uint8Array(buffer) makes one', Response: 'its body is one',
-  Blob: 'its stream() is one', File: 'its stream() is one',
+  __proto__: null, Array: 'Uint8Array.from(array) makes bytes', ArrayBuffer: 'new Uint8Array(buffer) makes bytes',
+  Blob: STREAM, File: STREAM, Multihash: 'its bytes are the encoding', Promise: 'await it',
+  Response: 'its body is a ReadableStream', Uint8Array: 'decode(bytes) and read(bytes) decode it',
+  view: 'new Uint8Array(view.buffer, view.byteOffset, view.byteLength) makes bytes',
 };
 
 /** The error of an argument of another type. */
 export function wrongType(name, expected, value) {
   const got = received(value);
-  const hint = got === 'string' ? OF_TEXTS[name] : OF_OTHERS[got];
+  const isOtherView = ArrayBuffer.isView(value) && got !== 'Uint8Array';
+  const hint = got === 'string' ? OF_TEXTS[name] : OF_OTHERS[isOtherView ? 'view' : got];
   return new TypeError(`${name} must be ${expected}, got ${got}${hint ? `: ${hint}` : ''}`);
 }
 
@@ -78,6 +87,6 @@ export function bits64(number, name) {
   }
   if (typeof number !== 'bigint') throw wrongType(name, 'a number or a bigint', number);
   if (BigInt.asUintN(64, number) !== number)
-    throw new RangeError(`${name} must be from 0 to 2^64 - 1, got ${shown(number)}`);
+    throw new RangeError(`${name} must be from 0 to 2^${name === 'code' ? 63 : 64} - 1, got ${shown(number)}`);
   return number;
 }

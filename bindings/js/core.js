@@ -113,7 +113,7 @@ function unhex(text) {
   const at = text.search(/[^0-9a-f]/i);
   if (at >= 0 || text.length % 2 !== 0) {
     const what = at < 0 ? `an odd number of digits, ${text.length}` :
-      `${JSON.stringify(text[at])} at index ${at}, which is no hexadecimal digit`;
+      `${JSON.stringify(String.fromCodePoint(text.codePointAt(at)))} at index ${at}, which is no hexadecimal digit`;
     throw new MultihashError(`the text has ${what}`, { status: 'not_hexadecimal' });
   }
   const bytes = new Uint8Array(text.length / 2);

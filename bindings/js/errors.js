@@ -37,12 +37,13 @@ export class MultihashError extends Error {
 Object.defineProperty(MultihashError.prototype, 'name',
   { value: 'MultihashError', writable: true, configurable: true });
 
-const counted = (count, verb) => `${count} byte${count === 1 ? ` ${verb}s` : `s ${verb}`}`;
+const counted = (count) => `${count} byte${count === 1 ? '' : 's'}`;
 
-export const tooLong = (size, limit) => `the digest has ${size} bytes, and the limit is ${limit}`;
+export const tooLong = (size, limit) => `the digest has ${counted(size)}, and the limit is ${limit}`;
 export const tooLarge = (code) => `the code ${code} is 2^63 or more`;
-export const trailing = (count) => `${counted(count, 'follow')} the multihash`;
-export const truncated = (part, count, length) => `the input ends inside the ${part} (${count} of ${length} bytes)`;
+export const trailing = (count) => `${counted(count)} follow${count === 1 ? 's' : ''} the multihash`;
+export const truncated = (part, count, length) =>
+  `the input ends ${count === 0 ? 'before' : 'inside'} the ${part} (${count} of ${length} bytes)`;
 
 /** What is wrong with the varints at the start of an input of that length. */
 export function malformed(status, input, length) {

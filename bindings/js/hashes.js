@@ -1,7 +1,8 @@
 // Hash functions of node:crypto or WebCrypto, which make and verify multihashes.
 import { bufferOf, checkedLength, checkedOptions, isBytes, shown, viewOf, wrongType } from './arguments.js';
 import { CODES, NAMES } from './codes.js';
-import { DIGEST_MAX, Multihash, decode, encodedLength } from './core.js';
+import { DIGEST_MAX, Multihash, decode } from './core.js';
+import { MultihashError } from './errors.js';
 import { sourceOf } from './sources.js';
 
 export { CODES, NAMES };
@@ -68,6 +69,7 @@ async function reading(content, call) {
   let source;
   const open = () => (source ??= sourceOf(content, 'content', 'a Uint8Array, '));
   try {
+    if (content?.readableEnded) throw new TypeError('content is a stream that was read before: open it again');
     return await call(open);
   } catch (error) {
     if (!isBytes(content)) await (async () => open().close())().catch(() => {}); // the first error is the one to know
@@ -123,10 +125,14 @@ function hasher(name) {
     digest: (content, options = {}) => reading(content, async (open) => {
       const { truncate } = checkedOptions(options);
       const whole = await digestOf(beginnings[name], content, open);
-      if (whole.length > DIGEST_MAX) encodedLength(code, whole.length); // throws
-      const size = truncate ?? whole.length;
-      if (!Number.isInteger(size) || size < 0 || size > whole.length)
-        throw new RangeError(`truncate must be a whole number from 0 to ${whole.length}, got ${shown(size)}`);
+      const { length } = whole;
+      if (length > DIGEST_MAX)
+        throw new MultihashError(`identity takes at most ${DIGEST_MAX} bytes of content, got ${length}`,
+          { status: 'invalid_size', size: length });
+      const size = truncate ?? length;
+      if (typeof size !== 'number') throw wrongType('truncate', 'a number', size);
+      if (!Number.isInteger(size) || size < 0 || size > length)
+        throw new RangeError(`truncate must be a whole number from 0 to ${length}, got ${shown(size)}`);
       return Multihash.of(code, whole.subarray(0, size));
     }),
   });

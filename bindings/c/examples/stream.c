@@ -64,11 +64,8 @@ int main(void)
         for (size_t i = 0; i < found.digest_length; i++) printf("%02x", from.bytes[found.digest_offset + i]);
         printf("\n");
     }
-    if (result == STREAM_REJECTED || result == STREAM_CUT) {
-        char text[MULTIHASH_MESSAGE_SIZE];
-        multihash_message(text, sizeof text, from.bytes, from.have, from.limit);
-        fprintf(stderr, "%s\n", text);
-    }
+    if (result == STREAM_REJECTED || result == STREAM_CUT)
+        multihash_print_message(stderr, from.bytes, from.have, from.limit);
     if (result == STREAM_FAILED) perror("read");
     return result != STREAM_END;
 }

@@ -35,11 +35,7 @@ static unsigned hash_stream(FILE *from, const EVP_MD *function, uint8_t *digest)
 static int verify(const uint8_t *bytes, size_t length)
 {
     multihash_decoded found = multihash_from_bytes(bytes, length);
-    if (found.status != MULTIHASH_OK) {
-        char text[MULTIHASH_MESSAGE_SIZE];
-        multihash_message(text, sizeof text, bytes, length, MULTIHASH_DIGEST_MAX);
-        return fprintf(stderr, "%s\n", text), 2;
-    }
+    if (found.status != MULTIHASH_OK) return multihash_print_message(stderr, bytes, length, MULTIHASH_DIGEST_MAX), 2;
     EVP_MD *function = function_of(found.code);
     if (function == NULL) return fprintf(stderr, "no hash function has that code\n"), 2;
     uint8_t digest[EVP_MAX_MD_SIZE];

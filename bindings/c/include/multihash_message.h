@@ -4,7 +4,8 @@
 /* Messages for the errors of multihash.h, with the numbers that the text of a status lacks: "the input ends inside the
  * digest (3 of 32 bytes)". These functions are defined in the header, over snprintf; they are tested, not proved.
  *
- * Call one after a call of multihash.h has failed. It writes the message to `text` as snprintf does: at most `text_size`
+ * Call one after a call of multihash.h has failed. Except for multihash_print_message, it writes the message to `text` as
+ * snprintf does: at most `text_size`
  * bytes, of which the last is zero. If `text_size` is 0, `text` may be null. It returns the length of the whole message,
  * without the zero byte: if that is `text_size` or more, the message was truncated. A buffer of MULTIHASH_MESSAGE_SIZE
  * bytes is large enough for each. */
@@ -26,8 +27,8 @@ extern "C" {
 /* The message for a part of an encoding that is truncated. */
 static inline int mh_message_cut(char *text, size_t text_size, const char *part, uint64_t there, uint64_t whole)
 {
-    return snprintf(text, text_size, "the input ends inside the %s (%" PRIu64 " of %" PRIu64 " bytes)", part, there,
-                    whole);
+    return snprintf(text, text_size, "the input ends %s the %s (%" PRIu64 " of %" PRIu64 " bytes)",
+                    there == 0 ? "before" : "inside", part, there, whole);
 }
 
 static inline int mh_message_too_long(char *text, size_t text_size, uint64_t length, uint64_t limit)
@@ -68,6 +69,9 @@ static inline int mh_message_malformed(char *text, size_t text_size, const uint8
  * multihash_from_prefix may pass the length of the whole input, but then `bytes` has to contain that many bytes, even if
  * multihash_from_prefix needed fewer.
  *
+ * Call it only after an error: if `bytes` starts with a multihash and more bytes follow, the message reports these, even
+ * if multihash_read accepted them.
+ *
  * Returns: the length of the message. */
 static inline int multihash_message(char *text, size_t text_size, const uint8_t *bytes, size_t bytes_length,
                                     size_t limit)
@@ -83,6 +87,16 @@ static inline int multihash_message(char *text, size_t text_size, const uint8_t 
     if (there == length) return snprintf(text, text_size, "ok");
     return snprintf(text, text_size, "%" PRIu64 " byte%s the multihash", there - length,
                     there - length == 1 ? " follows" : "s follow");
+}
+
+/* Writes the message of multihash_message and a newline to a stream, such as stderr.
+ *
+ * Returns: what fprintf returns, which is negative if the output failed. */
+static inline int multihash_print_message(FILE *to, const uint8_t *bytes, size_t bytes_length, size_t limit)
+{
+    char text[MULTIHASH_MESSAGE_SIZE];
+    multihash_message(text, sizeof text, bytes, bytes_length, limit);
+    return fprintf(to, "%s\n", text);
 }
 
 /* Writes why `bytes` does not start with the SCALE encoding of a multihash, after a call of multihash_scale_decode has

@@ -46,7 +46,7 @@ static const rejected inputs[] = {
     {BYTES(LONGEST_HEAD), ANY, MULTIHASH_INVALID_SIZE,
      "the digest has 9223372036854775807 bytes, and the limit is 255"},
     {BYTES("\x12\x20\x01\x02\x03"), ANY, MULTIHASH_UNEXPECTED_EOF, "the input ends inside the digest (3 of 32 bytes)"},
-    {BYTES("\x12\x01"), ANY, MULTIHASH_UNEXPECTED_EOF, "the input ends inside the digest (0 of 1 bytes)"},
+    {BYTES("\x12\x01"), ANY, MULTIHASH_UNEXPECTED_EOF, "the input ends before the digest (0 of 1 bytes)"},
     {BYTES("\x12\xff\x01\x07"), ANY, MULTIHASH_UNEXPECTED_EOF, "the input ends inside the digest (1 of 255 bytes)"},
     {BYTES("\x12\x01\x07\x07"), ANY, MULTIHASH_INVALID_SIZE, "1 byte follows the multihash"},
     {BYTES("\x00\x00\x07\x07"), ANY, MULTIHASH_INVALID_SIZE, "2 bytes follow the multihash"},
@@ -60,7 +60,7 @@ static const rejected scale_inputs[] = {
     {BYTES(""), ANY, MULTIHASH_UNEXPECTED_EOF, "the input is empty"},
     {BYTES("\x12\0\0\0\0\0\0"), ANY, MULTIHASH_UNEXPECTED_EOF, "the input ends inside the code (7 of 8 bytes)"},
     {BYTES("\x12\0\0\0\0\0\0\0"), ANY, MULTIHASH_UNEXPECTED_EOF, "the input ends before the digest's length"},
-    {BYTES("\x12\0\0\0\0\0\0\0\x20"), ANY, MULTIHASH_UNEXPECTED_EOF, "the input ends inside the digest (0 of 32 bytes)"},
+    {BYTES("\x12\0\0\0\0\0\0\0\x20"), ANY, MULTIHASH_UNEXPECTED_EOF, "the input ends before the digest (0 of 32 bytes)"},
     {BYTES("\x12\0\0\0\0\0\0\0\xff\x07"), ANY, MULTIHASH_UNEXPECTED_EOF,
      "the input ends inside the digest (1 of 255 bytes)"},
     {BYTES("\0\0\0\0\0\0\0\x80"), ANY, MULTIHASH_INVALID_CODE, "the code 9223372036854775808 is 2^63 or more"},
@@ -127,5 +127,10 @@ void check_messages(void)
     CHECK(multihash_message(message, short_size, ok, 0, ANY) == 18 && strcmp(message, "the") == 0);
     CHECK(multihash_message(NULL, 0, ok, 0, ANY) == 18);
     check_message_is(multihash_message(message, sizeof message, ok, sizeof ok, ANY), "ok");
+    FILE *file = tmpfile();
+    CHECK(file != NULL && multihash_print_message(file, ok, 0, ANY) == 19);
+    rewind(file);
+    CHECK(fgets(message, sizeof message, file) != NULL && strcmp(message, "the input is empty\n") == 0);
+    fclose(file);
     check_message_is(multihash_scale_message(message, sizeof message, scale_ok, sizeof scale_ok), "ok");
 }

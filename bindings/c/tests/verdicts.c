@@ -23,6 +23,7 @@ static void check_word(multihash_status status, const char *word)
 {
     static char words[16][32] = {"pair"};
     CHECK(status < 16);
+    CHECK(multihash_is_incomplete(status) == (strcmp(word, "insufficient") == 0 || strcmp(word, "unexpected_eof") == 0));
     if (words[status][0] == '\0') snprintf(words[status], sizeof words[status], "%s", word);
     for (size_t i = 0; i < 16; i++) CHECK((strcmp(words[i], word) == 0) == (i == status));
 }

@@ -34,11 +34,15 @@ export function bytesAlone({ Multihash, MultihashReader, decode, encode, head, r
       fails(TypeError, () => call(wrong), `${name} ${what}`, words);
     }
   }
-  const received = [[null, 'null'], [34, '34'], [34n, '34'], [[22, 0], 'Array'], [() => 0, 'function'],
-    ['1620', 'string: Multihash.fromHex(text) decodes hexadecimal'], [undefined, 'undefined'],
-    [new ArrayBuffer(4), 'ArrayBuffer: new Uint8Array(buffer) makes one'], [Symbol('bytes'), 'symbol']];
+  const received = [[null, 'null'], [34, '34'], [34n, 'bigint'], [[22, 0], 'Array Uint8Array.from'],
+    [() => 0, 'function'], ['1620', 'string Multihash.fromHex'], [undefined, 'undefined'],
+    [{ __proto__: null }, 'Object'], [new ArrayBuffer(4), 'ArrayBuffer new Uint8Array buffer'], [Symbol('bytes'), 'symbol'],
+    [Promise.resolve(), 'Promise await'], [Multihash.of(1, new Uint8Array()), 'Multihash bytes'],
+    [new DataView(new ArrayBuffer(4)), 'DataView view.byteLength'], [new Uint16Array(2), 'Uint16Array view.byteLength']];
   for (const [value, text] of received)
     fails(TypeError, () => decode(value), text, `bytes Uint8Array got ${text}`);
+  for (const [value, text] of [['path', 'string createReadStream'], [EXAMPLE, 'Uint8Array read bytes']])
+    fails(TypeError, () => new MultihashReader(value), text, `source ReadableStream ${text}`);
 }
 
 export function numbers({ Multihash, MultihashError, encode, encodedLength, read, scaleEncode }) {
@@ -54,8 +58,9 @@ export function numbers({ Multihash, MultihashError, encode, encodedLength, read
       fails(TypeError, () => call(wrong), kind, `${name} number bigint ${kind}`);
     for (const wrong of [-1, 1.5, NaN, Infinity, 2 ** 53])
       fails(RangeError, () => call(wrong), `${wrong}`, `${name} 2^53 ${wrong}`);
-    for (const wrong of [-1n, 1n << 64n]) fails(RangeError, () => call(wrong), `${wrong}`, `${name} 2^64 ${wrong}`);
-    fails(RangeError, () => call(10n ** 4000n), 'long', `${name} 2^64 1${'0'.repeat(39)}...`);
+    const most = name === 'code' ? '2^63' : '2^64';
+    for (const wrong of [-1n, 1n << 64n]) fails(RangeError, () => call(wrong), `${wrong}`, `${name} ${most} ${wrong}`);
+    fails(RangeError, () => call(10n ** 4000n), 'long', `${name} ${most} 1${'0'.repeat(39)}...`);
   }
   const code = 1n << 63n;
   for (const encoder of encoders) {
@@ -141,7 +146,8 @@ export function multihashes(module) {
   same(`${multihash} ${new Map([[`${multihash}`, 1]]).get(hex(EXAMPLE))}`, `${hex(EXAMPLE)} 1`, 'as text');
   for (const text of [`${multihash}`, `${multihash}`.toUpperCase()])
     same(Multihash.fromHex(text).equals(multihash), true, 'from text');
-  for (const [text, words] of [['162', 'odd 3'], ['1g01', 'g 1'], ['0x1600', 'x 1'], [' 1600', '0']]) {
+  const noDigits = [['162', 'odd 3'], ['1g01', 'g 1'], ['0x1600', 'x 1'], [' 1600', '0'], ['1\u{1f600}', '\u{1f600} 1']];
+  for (const [text, words] of noDigits) {
     const error = fails(MultihashError, () => Multihash.fromHex(text), text, words);
     same(`${error.status} ${error.isIncomplete}`, 'not_hexadecimal false', text);
   }
@@ -197,6 +203,7 @@ export function errors({ MultihashError, decode, encode, head, read, scaleDecode
     sized(() => decode(unhex('010000')), '1 byte follows', 1),
     sized(() => decode(new Uint8Array(302)), '300 bytes follow', 300),
     sized(() => read(EXAMPLE, 31), 'digest 32 31', 32),
+    sized(() => read(unhex('120107'), 0), 'digest 1 byte 0', 1),
     sized(() => read(unhex('018002'), 2n ** 60n), 'digest 256 255', 256),
     sized(() => encode(1, new Uint8Array(300)), 'digest 300 255', 300),
     ofCode(() => encode(2n ** 63n, EXAMPLE), 2n ** 63n),

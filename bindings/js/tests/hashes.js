@@ -86,16 +86,18 @@ export async function hashArguments({ Multihash, identity, sha256, verify }) {
     const { code, digest } = await sha256.digest(ABC, { truncate });
     same(`${code} ${hex(digest)}`, `18 ${hex(whole.digest.subarray(0, truncate))}`, `truncate ${truncate}`);
   }
-  for (const truncate of [33, -1, 1.5, '20', NaN])
+  for (const truncate of ['20', 20n])
+    says(await told(sha256.digest(ABC, { truncate })), `TypeError truncate number ${typeof truncate}`, 'truncate');
+  for (const truncate of [33, -1, 1.5, NaN])
     says(await told(sha256.digest(ABC, { truncate })), `RangeError truncate 32 ${truncate}`, 'truncate');
   says(await told(sha256.digest(ABC, 20)), 'TypeError options object 20', 'options');
   for (const call of [sha256.digest('abc'), identity.digest('abc'), verify(whole, 'abc')])
     says(await told(call), 'TypeError content Uint8Array ReadableStream string TextEncoder', 'a content');
-  says(await told(verify(ABC, whole)), 'TypeError content Object', 'swapped arguments');
+  says(await told(verify(ABC, whole)), 'TypeError content Multihash', 'swapped arguments');
   for (const claim of ['1200', {}, null, new Blob()])
     says(await told(verify(claim, ABC)), 'TypeError multihash Multihash got', 'a claim');
   says(await told(verify(ABC, ABC)), 'MultihashError digest 1 98', 'an encoding');
-  says(await told(identity.digest(new Uint8Array(300))), 'MultihashError digest 300 255', 'too long');
+  says(await told(identity.digest(new Uint8Array(300))), 'MultihashError identity 255 300', 'too long');
   same(await verify(Multihash.of(0, new Uint8Array(255)), new Uint8Array(300)), false, 'a content that is too long');
   const longest = await identity.digest(new Uint8Array(255).fill(1));
   same(hex(longest.digest), '01'.repeat(255), 'the longest');
@@ -126,10 +128,10 @@ export async function hashStreams({ hashers, identity, sha256, verify }) {
     }
   }
   same(`${await identity.digest(chunks(content.subarray(0, 3)))}`, '0003000102', 'identity');
-  says(await told(identity.digest(stream())), 'MultihashError digest 2500 255', 'identity');
+  says(await told(identity.digest(stream())), 'MultihashError identity 255 2500', 'identity');
   let ends = 0;
   const texts = { [Symbol.asyncIterator]: () => ({ next: async () => ({ value: 'a' }), return: () => (ends += 1) }) };
-  says(await told(sha256.digest(texts)), 'TypeError chunk content Uint8Array string', 'a text');
+  says(await told(sha256.digest(texts)), 'TypeError chunk content Uint8Array string encoding', 'a text');
   same(ends, 1, 'the source is cancelled');
   for (const call of [(source) => verify('1200', source), (source) => sha256.digest(source, 20)]) {
     const source = new ReadableStream({ cancel: () => void (ends += 1) });

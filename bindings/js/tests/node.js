@@ -64,7 +64,7 @@ async function compiledBefore() {
     fails(TypeError, () => call(...words, Uint8Array.of(1, 0)), `${call.name} before connect`, 'connect module');
   const empty = new Module(Uint8Array.of(0, 97, 115, 109, 1, 0, 0, 0));
   for (const wrong of [undefined, {}, bytesOf('multihash.wasm'), empty])
-    fails(TypeError, () => entry.connect(wrong), 'another module');
+    fails(TypeError, () => entry.connect(wrong), 'another module', 'module');
   for (const encoding of ['1202abab', '1202cdcd']) {
     entry.connect(new Module(bytesOf('multihash.wasm'))); // the second one changes nothing
     const { code, digest } = entry.decode(unhex(encoding));
@@ -115,6 +115,11 @@ async function nodeStreams(module) {
   const [ended, released] = await Promise.all(calls);
   same(ended, 'null', 'a call that waits');
   says(released, 'TypeError released', 'a call that waits');
+  const file = new URL('../package.json', import.meta.url);
+  for (const content of [Readable.from([Uint8Array.of(1)]), createReadStream(file)]) {
+    await module.sha256.digest(content);
+    says(await told(module.sha256.digest(content)), 'TypeError content', 'a stream that was read');
+  }
   const unread = endless();
   await new MultihashReader(unread).cancel();
   same(unread.destroyed, true, 'a stream that was not read is destroyed');

@@ -193,10 +193,10 @@ async function failingCancellations(module) {
 async function wrongSources(module, stream) {
   const texts = new module.MultihashReader(chunks(stream.subarray(0, 9), 'text', stream.subarray(9)));
   for (const text of [await drained(texts), await drained(texts)])
-    says(`${text.error} ${text.found.length} ${text.rest.length}`, 'TypeError chunk source Uint8Array string 0 9',
+    says(`${text.error} ${text.found.length} ${text.rest.length}`, 'TypeError chunk source Uint8Array string encoding 0 9',
       'a chunk that is text');
   const kinds = [[null, 'null'], [3, '3'], ['ab', 'string'], [[stream], 'Array'],
-    [new Response(), 'Response: its body is one'], [new Blob([]), 'Blob: its stream() is one'],
+    [new Response(), 'Response body'], [new Blob([]), 'Blob stream'], [new (class Own {})(), 'Own'],
     [{ [Symbol.asyncIterator]: () => null }, 'Object'], [{ [Symbol.asyncIterator]: () => ({}) }, 'Object']];
   for (const [source, kind] of kinds)
     fails(TypeError, () => new module.MultihashReader(source), 'a source', `source ReadableStream iterable ${kind}`);

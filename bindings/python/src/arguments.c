@@ -17,7 +17,7 @@ PyObject *wrong_type(const char *name, const char *expected, PyObject *argument)
     return NULL;
 }
 
-/* The same in place of CPython's TypeError, which does not name the argument. A text has a hint. */
+/* The same in place of CPython's TypeError, which does not name the argument. A text or a coroutine has a hint. */
 static void rename_error(const char *name, const char *expected, PyObject *argument)
 {
     static const char *hints[][2] = {
@@ -31,18 +31,27 @@ static void rename_error(const char *name, const char *expected, PyObject *argum
     for (size_t at = 0; PyUnicode_Check(argument) && at < sizeof hints / sizeof *hints; at++) {
         if (strcmp(name, hints[at][0]) == 0) expected = hints[at][1];
     }
-    wrong_type(name, expected, argument);
+    int is_awaitable = strcmp(name, RESULT_OF_READ) == 0 && PyObject_HasAttrString(argument, "__await__");
+    wrong_type(name, is_awaitable ? "bytes (an AsyncMultihashReader awaits read)" : expected, argument);
 }
 
-/* Of a number that is negative. CPython may refuse to convert one with thousands of decimal digits. */
-static void raise_negative(const char *name, PyObject *number)
+PyObject *shown_number(PyObject *number)
 {
     PyObject *shown = PyObject_Str(number);
-    if (shown == NULL && PyErr_ExceptionMatches(PyExc_ValueError)) {
+    if (shown == NULL && PyErr_ExceptionMatches(PyExc_ValueError)) { /* it has thousands of decimal digits */
         PyErr_Clear();
         shown = PyNumber_ToBase(number, 16);
     }
-    if (shown != NULL) PyErr_Format(PyExc_ValueError, "%s must be 0 or more, not %.300U", name, shown);
+    if (shown == NULL || PyUnicode_GetLength(shown) <= 40) return shown;
+    PyObject *front = PyUnicode_FromFormat("%.40U...", shown);
+    Py_DECREF(shown);
+    return front;
+}
+
+static void raise_negative(const char *name, PyObject *number)
+{
+    PyObject *shown = shown_number(number);
+    if (shown != NULL) PyErr_Format(PyExc_ValueError, "%s must be 0 or more, not %U", name, shown);
     Py_XDECREF(shown);
 }
 

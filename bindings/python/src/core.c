@@ -56,16 +56,17 @@ static PyObject *raise_error(PyObject *module, multihash_status status, PyObject
     return NULL;
 }
 
-PyObject *encoding_error(PyObject *module, multihash_encoded made, uint64_t number, PyObject *length, PyObject *code)
+/* The texts are those of multihash_encode_message, whose numbers have 64 bits. */
+PyObject *encoding_error(PyObject *module, multihash_status status, PyObject *length, PyObject *code)
 {
-    char text[MULTIHASH_MESSAGE_SIZE] = "";
-    int is_size = made.status == MULTIHASH_INVALID_SIZE;
+    static const char *texts[] = {"the code %U is 2^63 or more", "the digest has %U bytes, and the limit is %d"};
+    int is_size = status == MULTIHASH_INVALID_SIZE;
     PyObject *wrong = is_size ? length : code, *none = PyLong_FromLong(0);
     Py_XDECREF(is_size ? code : length);
-    if (is_size ? made.size < SIZE_MAX : number < UINT64_MAX) {
-        multihash_encode_message(text, sizeof text, made, number, 0);
-    }
-    return raise_error(module, made.status, is_size ? wrong : none, is_size ? none : wrong, 0, PyUnicode_FromString(text));
+    PyObject *shown = wrong == NULL ? NULL : shown_number(wrong);
+    PyObject *text = shown == NULL ? NULL : PyUnicode_FromFormat(texts[is_size], shown, MULTIHASH_DIGEST_MAX);
+    Py_XDECREF(shown);
+    return raise_error(module, status, is_size ? wrong : none, is_size ? none : wrong, 0, text);
 }
 
 /* Why an input is rejected. The limit of a digest is null for SCALE, whose messages depend on no more than was copied. */
@@ -200,7 +201,7 @@ static PyObject *encoded(PyObject *module, encoder *function, const char *format
                                  : function(number, digest.bytes, digest.whole, out, sizeof out);
     Py_DECREF(digest.owner);
     if (made.status != MULTIHASH_OK) {
-        return encoding_error(module, made, number, PyLong_FromSize_t(digest.whole), code);
+        return encoding_error(module, made.status, PyLong_FromSize_t(digest.whole), code);
     }
     Py_DECREF(code);
     return PyBytes_FromStringAndSize((const char *)out, (Py_ssize_t)made.length);
@@ -226,7 +227,7 @@ static PyObject *encoded_len(PyObject *module, PyObject *arguments, PyObject *na
     if (get_number(&code, "code", &number) < 0) return NULL;
     if (get_size(&length, "digest_length", &size) == 0) {
         multihash_encoded made = multihash_encoded_len(number, size);
-        if (made.status != MULTIHASH_OK) return encoding_error(module, made, number, length, code);
+        if (made.status != MULTIHASH_OK) return encoding_error(module, made.status, length, code);
         result = PyLong_FromSize_t(made.length);
         Py_DECREF(length);
     }

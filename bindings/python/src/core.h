@@ -24,6 +24,9 @@ typedef struct input {
 /* Raises a TypeError, `name must be expected, not its type`, and returns null. */
 PyObject *wrong_type(const char *name, const char *expected, PyObject *argument);
 
+/* A number as messages have it: at most 40 digits. */
+PyObject *shown_number(PyObject *number);
+
 /* The name of what a file returned, as an argument. */
 #define RESULT_OF_READ "the result of read"
 
@@ -53,10 +56,8 @@ extern long version; /* of CPython, as sys.hexversion */
 /* The module of a type, which keeps it; null is a failure that has raised an error. */
 PyObject *module_of_type(PyTypeObject *type);
 
-/* Raises the error of an encoding, whose code is that number, as `get_number` has it. It steals the references to the
- * length, which may be null, and to the code. If a number may be the largest in place of a larger one, the text is that
- * of the status. */
-PyObject *encoding_error(PyObject *module, multihash_encoded made, uint64_t number, PyObject *length, PyObject *code);
+/* Raises the error of an encoding. It steals the references to the length, which may be null, and to the code. */
+PyObject *encoding_error(PyObject *module, multihash_status status, PyObject *length, PyObject *code);
 
 /* The multihash that a decoding found in an input, or its error. The limit of a digest is null for SCALE. */
 PyObject *decoded(PyObject *module, const input *from, multihash_decoded found, const size_t *limit);

@@ -13,13 +13,17 @@ typedef struct reader_object {
     uint8_t rest[MULTIHASH_HEAD_MAX + MULTIHASH_DIGEST_MAX];
 } reader_object;
 
+#define FILES "an object with a method read, such as open(path, 'rb'), io.BytesIO(data) or socket.makefile('rb')"
+#define STREAMS "an object with an awaitable read, such as an asyncio.StreamReader"
+
 /* What a reader of that file calls. */
-static PyObject *read_of(PyObject *file)
+static PyObject *read_of(PyObject *reader, PyObject *file)
 {
     PyObject *read = attribute_of(file, "read");
     if (read != NULL || !PyErr_ExceptionMatches(PyExc_AttributeError)) return read;
     PyErr_Clear();
-    return wrong_type("file or stream", "an object with a method read, such as open(path, 'rb')", file);
+    int is_async = PyObject_HasAttrString(reader, "__anext__");
+    return wrong_type(is_async ? "stream" : "file", is_async ? STREAMS : FILES, file);
 }
 
 /* Raises an error if a call of the file has not returned. */
@@ -40,7 +44,7 @@ static int reader_init(PyObject *self, PyObject *arguments, PyObject *named)
     if (most != NULL && get_size(&most, "limit", &limit) < 0) return -1;
     Py_XDECREF(most);
     if ((module = module_of_type(Py_TYPE(self))) == NULL) return -1;
-    if ((read = read_of(file)) == NULL) return -1;
+    if ((read = read_of(self, file)) == NULL) return -1;
     if (check_idle(reader) < 0) {
         Py_DECREF(read);
         return -1;

@@ -1,6 +1,8 @@
 /* The type Multihash: a code and a digest. */
 #include "core.h"
 
+#include <ctype.h>
+
 typedef struct multihash_object {
     PyObject_HEAD
     PyObject *weak_references;
@@ -37,7 +39,7 @@ static PyObject *multihash_new(PyTypeObject *type, PyObject *arguments, PyObject
     }
     PyObject *module = module_of_type(type);
     Py_DECREF(digest.owner);
-    return encoding_error(module, length, number, PyLong_FromSize_t(digest.whole), code);
+    return encoding_error(module, length.status, PyLong_FromSize_t(digest.whole), code);
 }
 
 static void multihash_dealloc(PyObject *self)
@@ -141,6 +143,19 @@ static PyObject *multihash_hex(PyObject *self, PyObject *unused)
     return multihash_str(self);
 }
 
+/* In place of the error of bytes.fromhex, which names the position after such a text. */
+static void rename_odd(PyObject *text)
+{
+    Py_ssize_t length = PyUnicode_GetLength(text), digits = 0, blanks = 0;
+    for (Py_ssize_t at = 0; at < length; at++) {
+        Py_UCS4 letter = PyUnicode_ReadChar(text, at);
+        digits += letter < 128 && isxdigit((int)letter) != 0;
+        blanks += letter < 128 && isspace((int)letter) != 0;
+    }
+    if (digits % 2 == 0 || digits + blanks < length) return;
+    PyErr_Format(PyExc_ValueError, "the text has an odd number of hexadecimal digits, %zd", digits);
+}
+
 /* Makes a value of a subclass by a call of it, as bytes.fromhex does. */
 static PyObject *multihash_fromhex(PyObject *type, PyObject *text)
 {
@@ -150,6 +165,7 @@ static PyObject *multihash_fromhex(PyObject *type, PyObject *text)
     PyObject *function = attribute_of((PyObject *)&PyBytes_Type, "fromhex");
     PyObject *bytes = function == NULL ? NULL : PyObject_CallFunctionObjArgs(function, text, NULL);
     Py_XDECREF(function);
+    if (bytes == NULL && PyErr_ExceptionMatches(PyExc_ValueError)) rename_odd(text);
     input from;
     PyObject *multihash = NULL;
     if (bytes != NULL && get_input(bytes, "text", 0, &from) == 0) multihash = decoded_whole(module, &from);
@@ -166,6 +182,13 @@ static PyObject *multihash_replace(PyObject *self, PyObject *arguments, PyObject
 {
     const multihash_object *multihash = (const multihash_object *)self;
     PyObject *named = Py_BuildValue("{sOsO}", "code", multihash->code, "digest", multihash->digest), *made = NULL;
+    PyObject *name, *value;
+    int has_own = (newfunc)PyType_GetSlot(Py_TYPE(self), Py_tp_new) != multihash_new; /* a subclass with other parameters */
+    for (Py_ssize_t at = 0; !has_own && named != NULL && changes != NULL && PyDict_Next(changes, &at, &name, &value);) {
+        if (PyDict_Contains(named, name) != 0) continue;
+        PyErr_Format(PyExc_TypeError, "a Multihash has no field %U: code or digest", name);
+        Py_CLEAR(named);
+    }
     if (named != NULL && (changes == NULL || PyDict_Update(named, changes) == 0)) {
         made = PyObject_Call((PyObject *)Py_TYPE(self), arguments, named);
     }

@@ -67,7 +67,7 @@ class Hashes(unittest.TestCase):
                 self.assertIs(hashes.verify_file(claimed, io.BytesIO(whole[:-1])), False)
         self.assertIs(hashes.verify_file(Multihash(0, b"abc"), io.BytesIO(data)), False)
         self.assertRaises(MultihashError, hashes.digest_file, io.BytesIO(data), "identity")
-        for error, turn in ((BlockingIOError, None), (RuntimeError, StopIteration), (OSError, OSError)):
+        for error, turn in ((BlockingIOError, None), (TypeError, 3), (RuntimeError, StopIteration), (OSError, OSError)):
             file = Mock(read=Mock(side_effect=[b"ab", turn]))
             self.assertRaises(error, hashes.verify_file, hashes.digest(b"ab", "sha1"), file)
 
@@ -93,9 +93,11 @@ class Hashes(unittest.TestCase):
 
     def test_errors(self):
         for code in (1, 0xB200, 0xB241 + 32):
-            self.assertRaisesRegex(ValueError, "code %#x " % code, hashes.verify, Multihash(code, b""), b"")
-        for name in ("sha256", "sha2_256", "", "blake2b-512 ", None, 0x12, ("sha1", "md5")):
+            self.assertRaisesRegex(ValueError, "code %#x$" % code, hashes.verify, Multihash(code, b""), b"")
+        for name in ("sha256", "sha2_256", "", "blake2b-512 "):
             self.assertRaises(ValueError, hashes.digest, b"abc", name)
+        for wrong in (None, 0x12, ("sha1", "md5"), bytearray()):
+            self.assertRaises(TypeError, hashes.digest, b"abc", wrong)
         self.assertRaises(MultihashError, hashes.digest, bytes(256), "identity")
         self.assertRaises(MultihashError, hashes.verify, b"\x12", b"abc")
         for name in ("identity", "sha2-256", "shake-128", "blake2b-256"):

@@ -48,6 +48,10 @@ class Main(unittest.TestCase):
             if text in ("", "0041", "zz"):
                 self.assertEqual(run(text, input=HEX), (1, "", error_of(reason)))
 
+    def test_arguments(self):
+        status, output, reason = run(HEX, HEX)
+        self.assertEqual((status, output, "[HEX]" in reason), (1, "", True))
+
     def test_help(self):
         for word in ("-h", "--help"):
             status, page, reason = run(word, input=HEX)

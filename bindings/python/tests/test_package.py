@@ -14,6 +14,7 @@ import sys
 import tempfile
 import unittest
 import weakref
+from unittest.mock import Mock
 
 import verified_multihash as vm
 from test_readers import Awaited
@@ -37,14 +38,21 @@ NAMED_CALLS = {
 
 
 def shown(number):
-    """A number as texts have it: CPython converts no more than 4300 digits, from the versions of 2022 on."""
+    """A number in a repr: CPython converts no more than 4300 digits, from the versions of 2022 on."""
     try:
         return str(number)
     except ValueError:
         return hex(number)
 
 
+def front_of(number):
+    """A number as texts have it: at most 40 digits."""
+    text = shown(number)
+    return text if len(text) <= 40 else text[:40] + "..."
+
+
 LONGEST = b"\xff" * 8 + b"\x7f"  # varint
+COROUTINES = Mock(**{"read.return_value": type("coroutine", (), {"__await__": None})()})
 # Words of what each wrong call says: its text alone has to be enough. The tests of the library for C have more inputs.
 TEXTS = [
     (vm.decode, [b""], "input empty"),
@@ -59,24 +67,39 @@ TEXTS = [
     (vm.read_from, [io.BytesIO(b"\x12\3ab")], "digest 2 3"),
     (vm.scale_decode, [bytes(8) + b"\3ab"], "digest 2 3"),
     (vm.scale_decode, [bytes(7) + b"\x80"], "code 9223372036854775808 2^63"),
-    (vm.encoded_len, [18, 10**5000], "digest %s" % shown(10**5000)),
+    (vm.encoded_len, [18, 1 << 64], "digest 18446744073709551616 255"),
+    (vm.encoded_len, [18, 10**5000], "digest %s 255" % front_of(10**5000)),
+    (vm.encode, [10**4400, b""], "code %s 2^63" % front_of(10**4400)),
     (vm.decode, ["1220"], "data bytes Multihash.fromhex str"),
     (vm.read, [3], "data bytes-like int"),
     (Multihash.fromhex, [b"1220"], "text str decode bytes"),
+    (Multihash.fromhex, ["12 0"], "odd 3"),
+    (Multihash.fromhex, ["12 0x"], "position"),
+    (VALUE.__replace__, {"name": 1}, "name code digest"),
     (Multihash, [18, "abc"], "digest bytes bytes.fromhex str"),
     (Multihash, ["sha2-256", b"abc"], "code int hashes.CODES str"),
     (vm.encode, [1.5, b""], "code int float"),
-    (vm.encode, [-(10**5000), b""], "code 0 %.300s" % shown(-(10**5000))),
+    (vm.encode, [-(10**5000), b""], "code 0 %s" % front_of(-(10**5000))),
     (vm.encoded_len, [18, b""], "digest_length int bytes"),
     (vm.read, [b"\0\0", "9"], "limit int str"),
-    (vm.MultihashReader, ["path"], "file stream read open path str"),
+    (vm.MultihashReader, ["path"], "file read open path io.BytesIO socket.makefile str"),
+    (vm.AsyncMultihashReader, [None], "stream read asyncio.StreamReader NoneType"),
     (vm.read_from, [io.StringIO("1220")], "read bytes binary str"),
+    (vm.read_from, [COROUTINES], "read bytes AsyncMultihashReader coroutine"),
+    (vm.read_from, [Mock(read=int)], "read bytes-like int"),
     (hashes.digest, [b"", "sha256"], "name hashes.CODES 'sha256'"),
+    (hashes.digest, [b"", "x" * 999], "name hashes.CODES %.60r" % ("x" * 99)),
+    (hashes.digest, ["sha2-256", bytes(999)], "name str 'sha2-256' bytes"),
     (hashes.digest, [b"", "blake3"], "hashlib blake3"),
-    (hashes.verify, [Multihash(1, b""), b""], "code 0x1 hashes.NAMES"),
-    (hashes.verify, ["1220", b""], "multihash Multihash encoding str"),
-    (hashes.verify, [b"abc", Multihash(1, b"")], "data bytes-like Multihash"),
-    (hashes.digest_file, ["path", "sha1"], "file read open path str"),
+    (hashes.digest, ["abc", "sha1"], "data bytes-like text.encode str"),
+    (hashes.digest, [io.BytesIO(), "sha1"], "data bytes-like digest_file verify_file BytesIO"),
+    (hashes.digest, [bytes(256), "identity"], "identity 255 256"),
+    (hashes.verify, [Multihash(1, b""), b""], "code 0x1"),
+    (hashes.verify, ["1220", b""], "multihash Multihash encoding Multihash.fromhex str"),
+    (hashes.verify, [b"abc", Multihash(1, b"")], "data bytes-like multihash first Multihash"),
+    (hashes.digest_file, ["path", "sha1"], "file read open path io.BytesIO str"),
+    (hashes.digest_file, [io.StringIO("abc"), "sha1"], "read bytes-like binary str"),
+    (hashes.digest_file, [COROUTINES, "sha1"], "read bytes-like read async coroutine"),
 ]
 
 
@@ -152,10 +175,10 @@ class Arguments(unittest.TestCase):
             for wrong in (18.0, "18", None, b"\x12"):
                 self.assertRaises(TypeError, call, wrong, b"")
             for code in NEGATIVE:
-                self.assertRaisesRegex(ValueError, "code .* %d$" % code, call, code, b"")
+                self.assertRaisesRegex(ValueError, "code .* %s$" % re.escape(front_of(code)), call, code, b"")
             for code in (1 << 63, (1 << 64) - 1, 1 << 64, (1 << 64) + 18, 1 << 700, 10**5000):
                 status, size, found, text = self.error_of(call, code, bytes(255))
-                self.assertEqual((status, size, found, shown(code) in text), (Status.INVALID_CODE, 0, code, True))
+                self.assertEqual((status, size, found, front_of(code) in text), (Status.INVALID_CODE, 0, code, True))
                 self.assertEqual(self.error_of(call, code, bytes(256))[:3], (Status.INVALID_SIZE, 256, 0))
         self.assertEqual(self.error_of(vm.scale_decode, bytes(7) + b"\x80\0")[2], 1 << 63)
         for length in (256, 1 << 63, 1 << 64, (1 << 64) + 5, 1 << 700):
@@ -214,7 +237,7 @@ class Arguments(unittest.TestCase):
     def test_texts(self):
         for call, arguments, words in TEXTS:
             with self.assertRaises((TypeError, ValueError)) as raised:
-                call(*arguments)
+                call(**arguments) if isinstance(arguments, dict) else call(*arguments)
             self.assertTrue(says(str(raised.exception), words), (raised.exception, words))
 
 

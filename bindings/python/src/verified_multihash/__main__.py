@@ -58,6 +58,8 @@ def main() -> int:
     try:
         if sys.argv[1:2] in (["-h"], ["--help"]):
             lines = (__doc__ or "").encode()  # None by -OO
+        elif sys.argv[2:]:
+            raise ValueError("more than one argument; usage: python -m verified_multihash [HEX]")
         else:
             lines = _shown(os.fsencode(sys.argv[1]) if sys.argv[1:] else _input())
         reason = "output not written"

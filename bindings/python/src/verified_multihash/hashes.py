@@ -8,7 +8,7 @@ import hmac
 from types import MappingProxyType
 from typing import TYPE_CHECKING, Any, Callable, Iterable, Iterator, Mapping, Union
 
-from . import Multihash, MultihashError, _codes, _Readable, decode
+from . import DIGEST_MAX, Multihash, MultihashError, Status, _codes, _Readable, decode
 
 if TYPE_CHECKING:
     from _typeshed import ReadableBuffer as Buffer
@@ -33,18 +33,33 @@ class _Identity:
         self._data = b""
 
     def update(self, data: Buffer) -> None:
-        """Raises MultihashError for more than DIGEST_MAX bytes, and copies no more than these."""
-        self._data = Multihash(0, self._data + Multihash(0, data).digest).digest
+        """Raises MultihashError for more than DIGEST_MAX bytes, before it copies them."""
+        view = memoryview(data)
+        size = len(self._data) + view.nbytes
+        if size > DIGEST_MAX:
+            text = "identity takes at most %d bytes of content, got %d" % (DIGEST_MAX, size)
+            raise MultihashError(Status.INVALID_SIZE, size, text=text)
+        self._data += view.tobytes()
 
     def digest(self) -> bytes:
         return self._data
 
 
-def _bytes_like(data: Buffer, expected: str = "data must be a bytes-like object") -> Buffer:
+# What helps if an argument has an attribute: a text, a multihash, a file; a chunk that is a text or a coroutine.
+_HINTS = {
+    "encode": " (text.encode() makes one)",
+    "hexdigest": " (verify takes the multihash first)",
+    "read": " (digest_file and verify_file take files)",
+}
+_CHUNK_HINTS = {"encode": " (open the file in binary mode)", "__await__": " (read must not be async)"}
+
+
+def _bytes_like(data: Buffer, name: str = "data", hints: Mapping[str, str] = _HINTS) -> Buffer:
     try:
         memoryview(data)
     except TypeError:
-        raise TypeError("%s, not %s" % (expected, type(data).__name__)) from None
+        hint = next((hints[each] for each in hints if hasattr(data, each)), "")
+        raise TypeError("%s must be a bytes-like object%s, not %s" % (name, hint, type(data).__name__)) from None
     return data
 
 
@@ -52,7 +67,7 @@ def _bytes_like(data: Buffer, expected: str = "data must be a bytes-like object"
 def _maker(name: str) -> Callable[[], Any]:
     """Returns what makes an object of hashlib, or raises ValueError."""
     if name not in CODES:
-        raise ValueError("name must be in hashes.CODES, such as 'sha2-256', not %r" % (name,))
+        raise ValueError("name must be in hashes.CODES, such as 'sha2-256', not %.60r" % name)
     kind, _, bits = name.partition("-")
     if kind == "identity":
         return _Identity
@@ -75,6 +90,8 @@ class Hasher:
     __slots__ = ("_name", "_hash")
 
     def __init__(self, name: str) -> None:
+        if not isinstance(name, str):
+            raise TypeError("name must be a str such as 'sha2-256', not %s" % type(name).__name__)
         self._name = name
         self._hash = _maker(name)()
 
@@ -93,7 +110,7 @@ class Hasher:
 
 def _parts(file: _Readable) -> Iterator[Buffer]:
     if not hasattr(file, "read"):
-        expected = "file must be an object with a method read, such as open(path, 'rb'), not %s"
+        expected = "file must be an object with a method read, such as open(path, 'rb') or io.BytesIO(data), not %s"
         raise TypeError(expected % type(file).__name__)
     while True:
         part = file.read(1 << 18)
@@ -101,7 +118,7 @@ def _parts(file: _Readable) -> Iterator[Buffer]:
             raise BlockingIOError("the file has no bytes now")
         if not part:
             return
-        yield _bytes_like(part, "the result of read must be bytes (open the file in binary mode)")
+        yield _bytes_like(part, "the result of read", _CHUNK_HINTS)
 
 
 def _digest(parts: Iterable[Buffer], name: str) -> Multihash:
@@ -129,10 +146,10 @@ def _verify(multihash: Union[Multihash, Buffer], parts: Iterable[Buffer]) -> boo
     try:
         claimed = multihash if isinstance(multihash, Multihash) else decode(multihash)
     except TypeError:
-        kind = type(multihash).__name__
-        raise TypeError("multihash must be a Multihash or its encoding, not %s" % kind) from None
+        expected = "multihash must be a Multihash or its encoding (Multihash.fromhex takes text), not %s"
+        raise TypeError(expected % type(multihash).__name__) from None
     if claimed.code not in NAMES:
-        raise ValueError("the code %#x has no name in hashes.NAMES" % claimed.code)
+        raise ValueError("cannot verify: no hash function is known for the code %#x" % claimed.code)
     hasher = Hasher(NAMES[claimed.code])
     for part in parts:
         try:
