@@ -1,7 +1,7 @@
 #!/usr/bin/env bash
 # The packages for Rust: their tests over the test vectors and drawn inputs, with and without std, by other versions and
-# on other targets, beside other crates; that the proved source is packed without its contracts
-# alone; the packages as packed, and in place of upstream's; serde; lints.
+# on other targets, beside other crates; that the source is the proved one, without its contracts; the packages as
+# packed, and in place of upstream's; serde; lints.
 # shellcheck source=checks/lib/tap.sh
 . "$(dirname "$0")/lib/tap.sh"
 registry=/usr/share/cargo/registry

@@ -44,6 +44,8 @@ STATED = (
     (r"encoding \| 2 to (\d+)", HEADER, r"MULTIHASH_LENGTH_MAX (\d+)"),
     (r"varints[^|]*\| 2 to (\d+)", HEADER, r"MULTIHASH_HEAD_MAX (\d+)"),
     (r"SCALE[^|]*\| 9 to (\d+)", HEADER, r"MULTIHASH_SCALE_LENGTH_MAX (\d+)"),
+    (r"input has at most ([\d,]+)", "crates/mh_show/src/run.rt", r"MOST_INPUT: usize = (.*);"),
+    (r"digest of at most (\d+)", "crates/mh_show/src/show.rt", r"Multihash::<(\d+)>::from_bytes"),
 )
 
 
@@ -117,11 +119,11 @@ def stated_errors() -> Iterator[str]:
     """Compares versions and limits of pages with where they are from."""
     for form, source, origin in STATED:
         wanted = "".join(re.findall(origin, read(source)))
-        found = {path: [*re.finditer(form, read(path))] for path in (*pages(), f"{JS}/core.js")}
+        found = {path: [*re.finditer(form, read(path))] for path in (*pages(), f"{JS}/core.js", MAN)}
         if not any(found.values()):
             yield f"{source}: no page has what it states: {form}"
         for path, parts in found.items():
-            if wanted not in [part[1] for part in parts]:
+            if wanted not in [part[1].replace(",", "") for part in parts]:
                 yield from (f"{placed(path, part[0])}: {part[0]}, {source} has {wanted}" for part in parts)
 
 

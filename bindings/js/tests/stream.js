@@ -23,7 +23,8 @@ const RELEASED = 'TypeError released';
 
 async function cutAt(module, stream, cut, wanted) {
   const [left, right] = [stream.subarray(0, cut), stream.subarray(cut)];
-  same(`${(await readAll(module, chunks(left, right))).found}`, wanted, `cut at ${cut}`);
+  const both = new module.MultihashReader(chunks(left, right));
+  same(`${(await drained(both)).found}, ${both.taken}`, `${wanted}, ${stream.length}`, `cut at ${cut}`);
   const { found, error, rest } = await readAll(module, chunks(left));
   same(error?.isIncomplete, rest.length > 0 ? true : undefined, `the error at ${cut}`);
   same(hex(rest), hex(stream.subarray(cut - rest.length, cut)), `rest at ${cut}`);

@@ -44,10 +44,15 @@ const error = new MultihashError('a text', { status: 'invalid_size', size: 2n **
 export const plain: Error = error;
 // @ts-expect-error 'ok' is the status of no error
 new MultihashError('a text', { status: 'ok' });
+// @ts-expect-error 'no_room' is no status of an error
+new MultihashError('a text', { status: 'no_room' });
 // @ts-expect-error a field may be absent, not undefined
 new MultihashError('a text', { status: 'overflow', taken: undefined });
 is<Status>()(error.status);
-is<Wide | undefined>()(error.size ?? error.code ?? error.taken);
+is<readonly [Wide | undefined, Wide | undefined, number | undefined, boolean]>()(
+  [error.size, error.code, error.taken, error.isIncomplete] as const);
+is<{ name: string; message: string; status: Status; size?: number | string; code?: number | string; taken?: number }>()(
+  error.toJSON());
 isFixed(error as Omit<MultihashError, 'name' | 'message' | 'stack'>);
 isFixed(error.cause);
 is<Details>()(error.cause);
@@ -55,6 +60,7 @@ is<MultihashError | undefined>()(MultihashError.from({}));
 
 declare const stream: ReadableStream<Uint8Array>;
 const reader = new MultihashReader(stream, { limit: 64, rest: bytes });
+new MultihashReader(stream, { limit: 2n ** 60n });
 export const source: ByteStream = stream;
 export const iterable = (chunks: AsyncIterable<Uint8Array>): MultihashReader => new MultihashReader(chunks);
 // @ts-expect-error chunks are no texts
@@ -67,9 +73,11 @@ is<Uint8Array>()(reader.rest);
 is<number>()(reader.taken);
 isFixed(reader);
 await reader.cancel('a reason');
+is<void>()(reader.release());
 await reader[Symbol.asyncDispose]();
 
 module.connect({});
+is<string>()(index.version);
 export const entries: (typeof index)[] = [inline, module, hashes];
 
 /** As in js-multiformats, whose `CID.create` takes it. */
@@ -88,6 +96,8 @@ export const theirs: MultihashDigest[] = [found.narrow(), Multihash.of(0x12, byt
 // @ts-expect-error the code may be a bigint
 export const wide: MultihashDigest = found;
 export const theirHashers: MultihashHasher[] = [sha256, identity];
+is<readonly [0x20, 0x13, 0x56]>()(
+  [hashers['sha2-384'].code, hashers['sha2-512'].code, hashers['dbl-sha2-256'].code] as const);
 isFixed(sha256);
 is<readonly [0, 0x20, 0x13]>()([identity.code, sha384.code, sha512.code] as const);
 is<Multihash<0x12>>()(await sha256.digest(bytes));

@@ -49,6 +49,9 @@ class Hashes(unittest.TestCase):
                 self.assertEqual(hashes.digest(b"abc", name).hexdigest(), known.get(name))
             except ValueError as error:
                 self.assertIn(name, str(error))
+                self.assertRaises(
+                    ValueError, hashlib.new, {"ripemd-160": "ripemd160", "sm3-256": "sm3"}.get(name, name)
+                )
 
     def test_parts(self):
         """Data in parts, or read from a file in parts, have the multihash of the whole."""

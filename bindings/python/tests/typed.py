@@ -32,6 +32,7 @@ class Sha256(Multihash):
 
 assert_type((Sha256(18, digest=DATA), Sha256.fromhex("1200")), Tuple[Sha256, Sha256])
 assert_type((multihash.code, multihash.digest, multihash.hex(), hash(multihash)), Tuple[int, bytes, str, int])
+assert_type(multihash.hexdigest(), str)
 assert_type((multihash.__replace__(digest=DATA), bytes(multihash)), Tuple[Multihash, bytes])
 assert_type((multihash < multihash, multihash >= multihash), Tuple[bool, bool])
 Multihash("sha2-256", DATA)  # type: ignore[arg-type]

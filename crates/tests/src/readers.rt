@@ -62,8 +62,7 @@ fn expect_ends(rt: &impl Abort, sample: &Sample<255>) {
 
 #[test]
 fn an_ended_reader_is_not_asked_again(rt: HostRuntime) {
-    let forms = [Form::Binary, Form::Scale];
-    for sample in &expect_ok!(&rt; samples::<255>(rt.alloc(), &forms, 0)) {
+    for sample in &expect_ok!(&rt; samples::<255>(rt.alloc(), &Form::SINGLE, 0)) {
         expect_ends(&rt, sample);
     }
 }

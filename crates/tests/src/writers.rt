@@ -59,13 +59,7 @@ fn each_length_is_written(rt: HostRuntime) {
 
 // A borrowed writer has the trait's own `write_all`, which makes no call for no bytes.
 fn expect_calls<const S: usize>(rt: &impl Abort, alloc: Global, sample: &Sample<S>) {
-    // The code and the size of a SCALE form are one write.
-    let writes = if matches!(sample.form, Form::Scale) {
-        2
-    } else {
-        3
-    };
-    let whole = sample.items.len().saturating_mul(writes);
+    let whole = sample.items.len().saturating_mul(sample.form.writes());
     let mut writer = CountsWrites::new(alloc);
     check!(rt; sample.writes(&mut writer, false).is_ok(), sample.form);
     check_eq!(rt; (writer.parts, writer.whole), (0, whole), sample.form);

@@ -40,6 +40,13 @@ fn names() {
         (0xb214, 0xb214, "blake2b-160"),
         (codes::BLAKE2S_256, 0xb260, "blake2s-256"),
         (codes::SKEIN1024_1024, 0xb3e0, "skein1024-1024"),
+        (codes::KANGAROOTWELVE, 0x1d01, "kangarootwelve"),
+        (codes::KECCAK_224, 0x1a, "keccak-224"),
+        (codes::KECCAK_384, 0x1c, "keccak-384"),
+        (codes::KECCAK_512, 0x1d, "keccak-512"),
+        (codes::BLAKE3, 0x1e, "blake3"),
+        (codes::RIPEMD_256, 0x1054, "ripemd-256"),
+        (codes::XXH_64, 0xb3e2, "xxh-64"),
         (codes::POSEIDON_BLS12_381_A2_FC1_SC, 0xb402, "poseidon-bls12_381-a2-fc1-sc"),
     ] {
         assert_eq!((constant, codes::name(code), codes::code(name)), (code, Some(name), Some(code)));
