@@ -8,6 +8,12 @@ require cc cmake python3 readelf pkg-config
 # shellcheck source=checks/lib/installed.sh
 . checks/lib/installed.sh
 
+# Compilers warn of nothing in them.
+compile_examples() {
+  local each
+  for each in "$c"/examples/*.c; do cc "${c_flags[@]}" -I "$c/include" -fsyntax-only "$each"; done
+}
+
 # The reader of a stream, over pipes that are cut at each byte.
 stream_example() {
   cc "${c_flags[@]}" "${sanitize[@]}" -I "$c/include" -I "$c/examples" "$c/tests/stream.c" "$source" -o "$work/stream"
@@ -88,6 +94,7 @@ in_go() {
   go run . | diff <(echo 'code 18, digest abc') -
 }
 
+needs=/usr/include/openssl/evp.h try "the examples" compile_examples
 try "the reader of a stream" stream_example
 needs=/usr/include/openssl/evp.h try "the example that hashes" verify_example
 ONLY='' try "a prefix" installs

@@ -44,9 +44,16 @@ packs() {
   mv "$work/moved" "$prefix"
 }
 
+# They are well formed, and the first, which has the names of all functions, is linked from each.
+man_pages() {
+  mandoc -T lint "$prefix"/share/man/{man3/multihash.3,man1/mh_show.1}
+  diff <(sed -n 's/^\.Nm \(\w*\).*/\1/p' "$prefix/share/man/man3/multihash.3" | sort) \
+    <(basename -s .3 -a "$prefix"/share/man/man3/* | sort)
+}
+
 ONLY='' try "building" build built -DCMAKE_INSTALL_PREFIX="$prefix"
 ONLY='' try "installing" installs
-needs=mandoc try "man pages" mandoc -T lint "$prefix"/share/man/{man3/multihash.3,man1/mh_show.1}
+needs=mandoc try "man pages" man_pages
 try "a build for debugging" debug_build
 ONLY='' try "packing" packs
 try "the installed test of nothing" rejects "no multihash_c.pc" bindings/c/examples/test.sh "$work/none"

@@ -49,7 +49,7 @@ class Item(NamedTuple):
         return Parser(self.path, it.text, ranges if it.kind == "fn" else [(it.after, it.end)])
 
     def refuse(self, node: Node, what: str) -> NoReturn:
-        raise Refused(f"{self.path}:{node.line}: {what}: {node.kind} {node.name}")
+        raise Refused(f"{self.path}:{node.line}: {what}, in the {node.kind} {node.name}")
 
     def about(self) -> list[str]:
         """Returns the comment before the item, and what a function requires, if that is plain: C has no test of it."""

@@ -58,6 +58,9 @@ export async function hashes(module, _, text) {
     if (hashers[name]) await rowOf(module, hashers[name], row);
   }
   for (const name of ALWAYS) same(hashers[name]?.name, name, 'functions of all platforms');
+  const platform = hashers['sha3-256'] ? process.getBuiltinModule('node:crypto').getHashes() : [];
+  for (const [name, theirs] of [['sm3-256', 'sm3'], ['ripemd-160', 'ripemd160']])
+    if (platform.includes(theirs)) same(hashers[name]?.name, name, 'a function of another name');
   for (const each of [identity, sha256, sha384, sha512]) same(hashers[each.name], each, 'a function with a name');
   same(`${CODES.constructor} ${NAMES.toString} ${hashers.valueOf}`, 'undefined undefined undefined', 'not names');
   same([CODES, NAMES, hashers, sha256].every(Object.isFrozen), true, 'constants');

@@ -189,6 +189,7 @@ class Arguments(unittest.TestCase):
 
     def test_limits(self):
         """Each call that reads has a limit, which is the longest digest if none is given."""
+        self.assertEqual((vm.DIGEST_MAX, vm.HEAD_MAX, vm.LENGTH_MAX, vm.SCALE_LENGTH_MAX), (255, 18, 266, 264))
         data = {size: bytes(Multihash(1, bytes(size))) for size in (3, 255)}
         for call in (
             lambda data, *limit: vm.read(data, *limit)[0],
