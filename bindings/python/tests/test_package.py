@@ -79,7 +79,7 @@ TEXTS = [
     (Multihash, [18, "abc"], "digest bytes bytes.fromhex str"),
     (Multihash, ["sha2-256", b"abc"], "code int hashes.CODES str"),
     (vm.encode, [1.5, b""], "code int float"),
-    (vm.encode, [-(10**5000), b""], "code 0 %s" % front_of(-(10**5000))),
+    (vm.encode, [-(10**5000), b""], "code %s" % front_of(-(10**5000))),
     (vm.encoded_len, [18, b""], "digest_length int bytes"),
     (vm.read, [b"\0\0", "9"], "limit int str"),
     (vm.MultihashReader, ["path"], "file read open path io.BytesIO socket.makefile str"),
