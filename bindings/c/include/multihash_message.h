@@ -5,10 +5,9 @@
  * digest (3 of 32 bytes)". These functions are defined in the header, over snprintf; they are tested, not proved.
  *
  * Call one after a call of multihash.h has failed. Except for multihash_print_message, it writes the message to `text` as
- * snprintf does: at most `text_size`
- * bytes, of which the last is zero. If `text_size` is 0, `text` may be null. It returns the length of the whole message,
- * without the zero byte: if that is `text_size` or more, the message was truncated. A buffer of MULTIHASH_MESSAGE_SIZE
- * bytes is large enough for each. */
+ * snprintf does: at most `text_size` bytes, of which the last is zero. If `text_size` is 0, `text` may be null. It
+ * returns the length of the whole message, without the zero byte: if that is `text_size` or more, the message was
+ * truncated. A buffer of MULTIHASH_MESSAGE_SIZE bytes is large enough for each. */
 #ifndef MULTIHASH_MESSAGE_H
 #define MULTIHASH_MESSAGE_H
 
