@@ -5,32 +5,47 @@
 """
 import re
 import sys
+from collections.abc import Sequence
 from pathlib import Path
 
-HEADER = (Path(__file__).resolve().parents[1] / "bindings/c/include/multihash.h").read_text("utf-8")
-STATUSES = re.findall(r"/\*((?:(?!\*/).)*)\*/\s*MULTIHASH_(\w+) = (\d+)", HEADER, re.S)
-# The text of each file, and what has a row of each status in it.
+C = Path(__file__).resolve().parents[1] / "bindings/c"
+HEADER, PROGRAM = ((C / name).read_text("utf-8") for name in ("include/multihash.h", "examples/mh_show.c"))
+# The name, the number, the name in lower case, and the comment, whose lines begin with asterisks.
+STATUSES = [
+    (name, number, name.lower(), " ".join(comment.replace("\n     *", "").split()))
+    for comment, name, number in re.findall(r"/\*((?:(?!\*/).)*)\*/\s*MULTIHASH_(\w+) = (\d+)", HEADER, re.S)
+]
+INCOMPLETE = re.findall(r"status == MULTIHASH_(\w+)", HEADER)
+REASONS = re.findall(r'case MULTIHASH_(\w+):\s*return (".*");', PROGRAM)
+
+
+def rows(*lines: str, of: Sequence[tuple[str, ...]] = STATUSES) -> str:
+    """Returns the lines for each row, which has what their braces stand for."""
+    return "\n".join(line.format(*row) for row in of for line in lines)
+
+
 FILES = {
-    "statuses.js": (
-        """// The statuses of multihash.h. Made by tools/generate statuses.
+    "statuses.js": f"""// The statuses of multihash.h. Made by tools/generate statuses.
 
 /** Their names, by their numbers. */
 export const STATUSES = [
-{}];
+{rows("  '{2}',")}
+];
+
+/** Those of truncated input. */
+export const INCOMPLETE = {[name.lower() for name in INCOMPLETE]};
 """,
-        "  '{lower}',\n",
-    ),
-    "statuses.d.ts": (
-        """// The statuses of multihash.h. Made by tools/generate statuses.
+    "statuses.d.ts": f"""// The statuses of multihash.h. Made by tools/generate statuses.
 
 /** Their names, by their numbers. */
 export const STATUSES: readonly [
-{}];
+{rows("  /* {3} */", "  '{2}',")}
+];
+
+/** Those of truncated input. */
+export const INCOMPLETE: readonly string[];
 """,
-        "  /* {text} */\n  '{lower}',\n",
-    ),
-    "_status.py": (
-        '''"""The statuses of multihash.h. Made by tools/generate statuses."""
+    "_status.py": f'''"""The statuses of multihash.h. Made by tools/generate statuses."""
 
 import enum
 
@@ -38,28 +53,24 @@ import enum
 class Status(enum.IntEnum):
     """Why a call failed, with the numbers of the C library. OK and NO_ROOM are not raised.
 
-{}    """
+{rows("    {0}: {3}")}
+    """
 
     __module__ = "verified_multihash"  # where pickled values find it
-{}''',
-        "    {name}: {text}\n",
-        "    {name} = {number}\n",
-    ),
+{rows("    {0} = {1}")}
+
+
+INCOMPLETE = ({", ".join("Status." + name for name in INCOMPLETE)})
+
+# What mh_show prints: the words of the Rust crate multihash.
+REASONS = {{
+{rows("    Status.{}: {},", of=REASONS)}
+}}
+''',
 }
-
-
-def rows(form: str) -> str:
-    """Returns a row for each status. A comment of several lines, which begin with asterisks, is one."""
-    return "".join(
-        form.format(
-            name=name, lower=name.lower(), number=number, text=" ".join(comment.replace("\n     *", "").split())
-        )
-        for comment, name, number in STATUSES
-    )
 
 
 if __name__ == "__main__":
     if len(sys.argv) != 2 or sys.argv[1] not in FILES:
         sys.exit(__doc__)
-    shape, *forms = FILES[sys.argv[1]]
-    sys.stdout.write(shape.format(*map(rows, forms)))
+    sys.stdout.write(FILES[sys.argv[1]])

@@ -1,8 +1,8 @@
 // Multihashes over a proved library, compiled to WebAssembly. A program imports index.js, inline.js or
 // module.js, which connect the functions here to an instance of the module.
 import { NUMBERS, bits64, checkedLength, isBytes, viewOf, wrongType } from './arguments.js';
-import { INCOMPLETE, MultihashError, forJSON, malformed, tooLarge, tooLong, trailing, truncated } from './errors.js';
-import { STATUSES } from './statuses.js';
+import { MultihashError, encodingError, forJSON, reasonOf, scaleReasonOf } from './errors.js';
+import { INCOMPLETE, STATUSES } from './statuses.js';
 
 /** The maximum length of a digest, in bytes. */
 export const DIGEST_MAX = 255;
@@ -230,21 +230,16 @@ function found() {
 
 // ---- decoding
 
-/** Why the result of a decoding is an error: the parts of the input before it are decoded again. */
-function reasonOf(status, length, taken, limit) {
-  if (status !== 'invalid_size' && status !== 'unexpected_eof')
-    return malformed(status, memory.subarray(first), length);
-  library.multihash_head(resultAt, firstAt, NUMBERS[Math.min(length, PREFIX_MAX)]);
-  const [digestLength, headLength] = [wide(4), words[6]];
-  if (status === 'unexpected_eof') return truncated('digest', length - headLength, digestLength);
-  return digestLength > limit ? tooLong(digestLength, limit) : trailing(length - headLength - digestLength);
-}
+/** The fields of the error in the result of a decoding: a number that does not belong to its status is 0. */
+const detailsOf = (taken) =>
+  ({ status: STATUSES[words[0]], size: wide(2) || undefined, code: wide(4) || undefined, taken });
 
 /** The error in the result of a decoding that consumed `taken` bytes of an input of that length. */
 function rejected(length, taken, limit = DIGEST_MAX) {
-  const status = STATUSES[words[0]];
-  const size = status === 'invalid_size' ? wide(2) : undefined;
-  return new MultihashError(reasonOf(status, length, taken, limit), { status, size, taken });
+  const details = detailsOf(taken);
+  library.multihash_head(resultAt, firstAt, NUMBERS[Math.min(length, PREFIX_MAX)]);
+  const head = { taken: words[6], digestLength: wide(4) };
+  return new MultihashError(reasonOf(details.status, limit, memory.subarray(first), length, head), details);
 }
 
 /** Decodes the multihash whose encoding is the whole of the bytes. */
@@ -289,34 +284,22 @@ export function head(bytes) {
   return { code: wide(2), digestLength: wide(4), taken: words[6] };
 }
 
-/** Why the result of a decoding from SCALE is an error. */
-function scaleReasonOf(length) {
-  if (STATUSES[words[0]] === 'invalid_code') return tooLarge(wide(4));
-  if (length === 0) return 'the input is empty';
-  if (length < 8) return truncated('code', length, 8);
-  if (length === 8) return "the input ends before the digest's length";
-  return truncated('digest', length - 9, memory[first + 8]);
-}
-
 /** Decodes the multihash whose SCALE encoding is a prefix of the bytes. */
 export function scaleDecode(bytes) {
   const length = put(bytes, 'bytes');
   library.multihash_scale_decode(resultAt, firstAt, NUMBERS[Math.min(length, PREFIX_MAX)]);
   const taken = words[10];
   if (words[0] === 0) return { multihash: found(), taken };
-  const status = STATUSES[words[0]];
-  const code = status === 'invalid_code' ? wide(4) : undefined;
-  throw new MultihashError(scaleReasonOf(length), { status, code, taken });
+  const details = detailsOf(taken);
+  throw new MultihashError(scaleReasonOf(details, memory.subarray(first), length), details);
 }
 
 // ---- encoding
 
 /** The length in the result of an encoding. */
 function made(code) {
-  const status = STATUSES[words[0]];
-  if (status === 'ok') return words[4];
-  if (status === 'invalid_code') throw new MultihashError(tooLarge(code), { status, code: resultOf(code) });
-  throw new MultihashError(tooLong(wide(2), DIGEST_MAX), { status, size: wide(2) });
+  if (words[0] === 0) return words[4];
+  throw encodingError(STATUSES[words[0]], wide(2), resultOf(code), DIGEST_MAX);
 }
 
 /** Copies a digest to the first input and returns its length as a BigInt. Throws if it is too long. */

@@ -1,8 +1,6 @@
 // MultihashError, the error of invalid input, and its texts.
-import { STATUSES } from './statuses.js';
+import { INCOMPLETE, STATUSES } from './statuses.js';
 
-/** The statuses of truncated input. */
-export const INCOMPLETE = ['insufficient', 'unexpected_eof'];
 const ALL = [...STATUSES.slice(1), 'not_hexadecimal'];
 
 /** A number as JSON.stringify accepts it: a bigint as decimal text. */
@@ -39,14 +37,18 @@ Object.defineProperty(MultihashError.prototype, 'name',
 
 const counted = (count) => `${count} byte${count === 1 ? '' : 's'}`;
 
-export const tooLong = (size, limit) => `the digest has ${counted(size)}, and the limit is ${limit}`;
-export const tooLarge = (code) => `the code ${code} is 2^63 or more`;
-export const trailing = (count) => `${counted(count)} follow${count === 1 ? 's' : ''} the multihash`;
-export const truncated = (part, count, length) =>
+const tooLong = (size, limit) => `the digest has ${counted(size)}, and the limit is ${limit}`;
+const tooLarge = (code) => `the code ${code} is 2^63 or more`;
+const truncated = (part, count, length) =>
   `the input ends ${count === 0 ? 'before' : 'inside'} the ${part} (${count} of ${length} bytes)`;
 
-/** What is wrong with the varints at the start of an input of that length. */
-export function malformed(status, input, length) {
+/** Why an input of that length is rejected. The last argument is what `multihash_head` returns for it. */
+export function reasonOf(status, limit, input, length, { taken, digestLength }) {
+  const rest = length - taken;
+  if (status === 'unexpected_eof') return truncated('digest', rest, digestLength);
+  if (status === 'invalid_size' && digestLength > limit) return tooLong(digestLength, limit);
+  if (status === 'invalid_size')
+    return `${counted(rest - digestLength)} follow${rest - digestLength === 1 ? 's' : ''} the multihash`;
   const codeEnd = input.subarray(0, Math.min(length, 9)).findIndex((byte) => byte < 128) + 1;
   const isCode = codeEnd === 0 || (status === 'not_minimal' && codeEnd > 1 && input[codeEnd - 1] === 0);
   const name = isCode ? 'code' : "digest's length";
@@ -54,4 +56,19 @@ export function malformed(status, input, length) {
   if (status === 'not_minimal') return `the varint of the ${name} is not minimal: it ends in a zero byte`;
   if (length === 0) return 'the input is empty';
   return `the input ends ${length === codeEnd ? 'before' : 'inside'} the ${name}`;
+}
+
+/** Why an input of that length is rejected as SCALE. */
+export function scaleReasonOf({ status, code }, input, length) {
+  if (status === 'invalid_code') return tooLarge(code);
+  if (length === 0) return 'the input is empty';
+  if (length < 8) return truncated('code', length, 8);
+  if (length === 8) return "the input ends before the digest's length";
+  return truncated('digest', length - 9, input[8]);
+}
+
+/** The error of an encoding. */
+export function encodingError(status, size, code, limit) {
+  if (status === 'invalid_code') return new MultihashError(tooLarge(code), { status, code });
+  return new MultihashError(tooLong(size, limit), { status, size });
 }

@@ -25,9 +25,9 @@ export type Status = Exclude<(typeof STATUSES)[number], 'ok' | 'no_room'> | 'not
 /** The fields of an error. */
 export interface Details {
   readonly status: Status;
-  /** With `invalid_size`: the digest's length, or the number of trailing bytes. */
+  /** The invalid size: the digest's length, or the number of trailing bytes. */
   readonly size?: Wide;
-  /** With `invalid_code`: the code. */
+  /** The invalid code. */
   readonly code?: Wide;
   /** The number of bytes that a decoding consumed. */
   readonly taken?: number;

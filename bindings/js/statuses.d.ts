@@ -19,3 +19,6 @@ export const STATUSES: readonly [
   /* `out` is too small. `length` is the size it needs. */
   'no_room',
 ];
+
+/** Those of truncated input. */
+export const INCOMPLETE: readonly string[];

@@ -11,3 +11,6 @@ export const STATUSES = [
   'unexpected_eof',
   'no_room',
 ];
+
+/** Those of truncated input. */
+export const INCOMPLETE = ['insufficient', 'unexpected_eof'];

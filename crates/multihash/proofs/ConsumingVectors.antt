@@ -46,9 +46,8 @@ no_other_front_error (f, e, has) =
 abbrev ReadRejects : Refusal → Type 0
 ReadRejects (of_io own) = IsUnexpectedEof own
 ReadRejects (of_size size) = 4 < size
-ReadRejects (of_code code) = ⊥
 ReadRejects (of_varint f) = ⊤
-ReadRejects of_not_bytes = ⊥
+ReadRejects e = ⊥
 
 read_rejects_only : (e : Refusal) → ReadMayFailWith 4 e → ReadRejects e
 read_rejects_only e (inl (size, is, large)) = subst ReadRejects (sym is) large

@@ -67,8 +67,7 @@ abbrev DecodingRejects : Refusal → Type 0
 DecodingRejects (of_io error) = IsUnexpectedEof error
 DecodingRejects (of_size size) = 4 < size
 DecodingRejects (of_code code) = largest < code
-DecodingRejects (of_varint f) = ⊥
-DecodingRejects of_not_bytes = ⊥
+DecodingRejects e = ⊥
 
 decoding_rejects_only : (e : Refusal) → ScaleMayFailWith 4 e → DecodingRejects e
 decoding_rejects_only e (inl (code, is, large)) = subst DecodingRejects (sym is) (omega (arith, large))

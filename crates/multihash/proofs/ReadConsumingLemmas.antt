@@ -9,7 +9,7 @@ use Rattle.multihash.specs.Verdict.{Verdict, accepted, invalid_size, invalid_cod
 use Rattle.std.specs.Io.KnownBytes.{IsAtEnd, prepend_known}
 use Rattle.multihash.specs.Reading.{Consumes, HasFewerThan}
 use Rattle.multihash.specs.Fault.{Fault, IsUnexpectedEof, IsOwnFault}
-use Rattle.multihash.specs.Refusal.{Refusal, of_io, of_size, of_code, of_varint, of_not_bytes, IsReaderError, IsEof, IsInvalidSize, IsVarintError, IsAnyVarintError}
+use Rattle.multihash.specs.Refusal.{Refusal, of_io, of_size, of_code, of_varint, IsReaderError, IsEof, IsInvalidSize, IsVarintError, IsAnyVarintError}
 use Rattle.multihash.specs.Consuming.{ReadMayFailWith, ConsumesShortestSettling, ConsumesNothingSettling, EndsOrFails, ReadMeets, ConsumesAtVarintError, ConsumesVarint, IsFrontErrorAt, IsHeadError}
 use Rattle.multihash.specs.Outcome.{IsErrorOf, IsResultOf}
 use Rattle.multihash.specs.Multihash.{Fields, pair_of}
@@ -22,11 +22,10 @@ use Rattle.multihash.proofs.SettlingLemmas.{verdict_kept, none_settles, IsIncomp
 
 -- the verdict of an error
 abbrev error_verdict : Refusal → Verdict
-error_verdict (of_io error) = unexpected_eof
 error_verdict (of_size size) = invalid_size size
 error_verdict (of_code code) = invalid_code code
 error_verdict (of_varint error) = malformed error
-error_verdict of_not_bytes = unexpected_eof
+error_verdict e = unexpected_eof
 
 verdict_of_error : (e : Refusal) (v : Verdict) → IsErrorOf e v → v ≡ error_verdict e
 verdict_of_error e (accepted p) given = absurd given

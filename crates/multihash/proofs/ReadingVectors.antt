@@ -37,11 +37,8 @@ no_standard_text_is_empty = ((λ h. cc), (λ h. cc), λ h. cc)
 
 -- the size in an error
 abbrev pub size_in : Refusal → ℕ
-size_in (of_io error) = 0
 size_in (of_size size) = size
-size_in (of_code code) = 0
-size_in (of_varint error) = 0
-size_in of_not_bytes = 0
+size_in e = 0
 
 no_other_ends : ¬ (IsEof (of_io other)) × ¬ (IsEof (of_io full)) × ¬ (IsEof (of_io memory)) × ¬ (IsEof (of_varint insufficient))
     × ((code : ℕ) → ¬ (IsEof (of_code code)))

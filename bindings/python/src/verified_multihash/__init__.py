@@ -18,7 +18,7 @@ from typing import TYPE_CHECKING, AsyncIterator, Iterator, NamedTuple, Optional,
 
 from . import _core
 from ._core import Multihash, compare, decode, encode, encoded_len, read, scale_decode, scale_encode
-from ._status import Status
+from ._status import INCOMPLETE, Status
 
 if TYPE_CHECKING:
     from _typeshed import ReadableBuffer as Buffer
@@ -55,8 +55,8 @@ class MultihashError(ValueError):
     """The error of invalid input, or of a code or digest that is too large. Its text says what is wrong.
 
     `status` is the kind of the error, a Status.
-    `size` is, at INVALID_SIZE, the length of the digest or the number of trailing bytes, otherwise 0.
-    `code` is, at INVALID_CODE, the code, otherwise 0.
+    `size` is the invalid size: the length of the digest or the number of trailing bytes, otherwise 0.
+    `code` is the invalid code, otherwise 0.
     `taken` is the number of bytes that were consumed.
     """
 
@@ -75,7 +75,7 @@ class MultihashError(ValueError):
     def is_incomplete(self) -> bool:
         """Whether the input is truncated. In `read`, `head`, `scale_decode` and the readers, only then can more input
         change the result."""
-        return self.status in (Status.INSUFFICIENT, Status.UNEXPECTED_EOF)
+        return self.status in INCOMPLETE
 
     def __repr__(self) -> str:
         numbers = tuple(map(_shown, (self.size, self.code, self.taken)))
@@ -83,8 +83,8 @@ class MultihashError(ValueError):
 
     def __str__(self) -> str:
         """Returns the text, or else that of the C library."""
-        numbers = {Status.INVALID_SIZE: " (%s)" % _shown(self.size), Status.INVALID_CODE: " (%s)" % _shown(self.code)}
-        return self.args[4] or _core.status_text(self.status) + numbers.get(self.status, "")
+        number = self.size or self.code
+        return self.args[4] or _core.status_text(self.status) + (" (%s)" % _shown(number) if number else "")
 
 
 # The library's errors are made by _core, as __init__ does it.

@@ -12,16 +12,9 @@ import re
 import sys
 
 from . import MultihashError, Status, _core, read
+from ._status import REASONS
 
 MOST_INPUT = 65536
-# The reasons that mh_show prints, in the words of the Rust crate multihash if it has them; {} is the size.
-REASONS = {
-    Status.INSUFFICIENT: "not enough input bytes",
-    Status.OVERFLOW: "input bytes exceed maximum",
-    Status.NOT_MINIMAL: "encoding is not minimal",
-    Status.INVALID_SIZE: "Invalid multihash size {}.",
-    Status.UNEXPECTED_EOF: "failed to fill whole buffer",
-}
 
 
 def _input() -> bytes:
@@ -68,7 +61,9 @@ def main() -> int:
     except OSError:
         pass
     except MultihashError as error:
-        reason = REASONS.get(error.status, _core.status_text(error.status)).format(error.size)
+        reason = REASONS.get(error.status, _core.status_text(error.status))
+        if error.status is Status.INVALID_SIZE:
+            reason = "Invalid multihash size %d." % error.size
     except ValueError as error:
         reason = str(error)
     try:

@@ -25,3 +25,14 @@ class Status(enum.IntEnum):
     INVALID_CODE = 5
     UNEXPECTED_EOF = 6
     NO_ROOM = 7
+
+
+INCOMPLETE = (Status.INSUFFICIENT, Status.UNEXPECTED_EOF)
+
+# What mh_show prints: the words of the Rust crate multihash.
+REASONS = {
+    Status.INSUFFICIENT: "not enough input bytes",
+    Status.OVERFLOW: "input bytes exceed maximum",
+    Status.NOT_MINIMAL: "encoding is not minimal",
+    Status.UNEXPECTED_EOF: "failed to fill whole buffer",
+}
