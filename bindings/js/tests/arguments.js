@@ -192,7 +192,7 @@ const CASES = [
 ];
 
 /** The words of each error, and what JSON.stringify makes of it: only texts and numbers that are exact. */
-export function errors({ MultihashError, decode, encode, head, read, scaleDecode }) {
+export function errors({ Multihash, MultihashError, decode, encode, head, read, scaleDecode }) {
   const sized = (call, words, size) => [call, words, `"invalid_size","size":${size}`];
   const ofCode = (call, code) => [call, `code ${code} 2^63`, `"invalid_code","code":"${code}"`];
   const scale = unhex('12000000000000000200');
@@ -206,6 +206,7 @@ export function errors({ MultihashError, decode, encode, head, read, scaleDecode
     sized(() => read(unhex('120107'), 0), 'digest 1 byte 0', 1),
     sized(() => read(unhex('018002'), 2n ** 60n), 'digest 256 255', 256),
     sized(() => encode(1, new Uint8Array(300)), 'digest 300 255', 300),
+    [() => Multihash.fromHex('1g'), 'g 1', '"not_hexadecimal"'],
     ofCode(() => encode(2n ** 63n, EXAMPLE), 2n ** 63n),
     ofCode(() => scaleDecode(new Uint8Array(9).fill(255)), 2n ** 64n - 1n),
     ...[[0, 'empty'], [3, 'inside code 3 8'], [8, "before digest's length"], [10, 'inside digest 1 2']].map(
@@ -216,9 +217,9 @@ export function errors({ MultihashError, decode, encode, head, read, scaleDecode
     const text = JSON.stringify(error).replace(/,"taken":\d+/, '');
     same(text, `{"name":"MultihashError","message":${JSON.stringify(error.message)},"status":${rest}}`, 'in JSON');
     const again = MultihashError.from(structuredClone(error));
+    same(again instanceof MultihashError, keepsCause(), `from a clone: ${words}`);
     const fields = ['name', 'message', 'status', 'size', 'code', 'taken', 'isIncomplete'];
     for (const field of keepsCause() ? fields : []) same(again[field], error[field], `${field} of a clone`);
-    same(again instanceof MultihashError, keepsCause(), 'from a clone');
     same(MultihashError.from(error), error, 'from itself');
   }
   same(JSON.stringify(Object.getOwnPropertyDescriptor(MultihashError.prototype, 'name')),

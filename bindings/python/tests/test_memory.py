@@ -38,6 +38,7 @@ def calls():
 CALLS = {str((call.__name__, each)): (call, each) for call, each in calls()}
 CALLS["a subclass"] = Named, [1 << 62, b"abc"]
 CALLS["values"] = lambda: (OTHER.code, OTHER.digest, OTHER.hexdigest(), bytes(OTHER), repr(OTHER), hash(OTHER)), ()
+CALLS["format"] = OTHER.__format__, [""]
 CALLS["hexadecimal"] = lambda: (Multihash.fromhex(OTHER.hex()), Named.fromhex(str(VALUE))), ()
 CALLS["replace"] = lambda: (VALUE.__replace__(digest=b"d"), Named(1, b"a").__replace__(code=2)), ()
 CALLS["order"] = lambda: (VALUE == OTHER, VALUE < OTHER, VALUE == 1, VALUE == Named(VALUE.code, VALUE.digest)), ()

@@ -68,6 +68,7 @@ fn failing() {
         (|| Err(io::Error::new(ErrorKind::TimedOut, "größer"))) as Event,
         || Err(io::Error::new(ErrorKind::UnexpectedEof, "größer")),
         || Err(io::Error::from_raw_os_error(5)),
+        || Err(ErrorKind::WouldBlock.into()),
     ] {
         let wanted = event().expect_err("a failure");
         each_byte(event, true, |result, _, _| {
