@@ -1,11 +1,58 @@
 #!/usr/bin/env bash
-# What CMake builds of the library for C: for other machines, two of them emulated, and with other options than the
-# defaults.
+# What CMake builds, installs and packs of the library for C: on this machine, where its tests pass, its files are there,
+# and the installed test passes; for other machines, two of them emulated; and with other options than the defaults.
 # shellcheck source=checks/lib/tap.sh
 . "$(dirname "$0")/lib/tap.sh"
-require cc cmake python3 readelf
+require cc cmake python3 readelf pkg-config
 # shellcheck source=checks/lib/installed.sh
 . checks/lib/installed.sh
+prefix="$work/a #prefix's"
+
+# In the configured prefix, whose name is no word of a shell.
+installs() {
+  cmake --install "$work/built"
+  is_installed "$prefix" lib
+  "$prefix/bin/mh_show" < crates/mh_show/stdin | diff - "$expected"
+}
+
+# By a generator of several configurations, under a name for debugging, by a compiler whose default is C90, with the
+# sources of each target as one unit.
+debug_build() {
+  cmake -S "$top" -B "$work/debug" -G "Ninja Multi-Config" -DCMAKE_C_STANDARD=90 -DCMAKE_DEBUG_POSTFIX=d \
+    -DCMAKE_UNITY_BUILD=ON -DCMAKE_INSTALL_PREFIX="$work/debug.prefix"
+  cmake --build "$work/debug" --config Debug
+  prints '100% tests passed, 0 tests failed out of ' ctest -C Debug --test-dir "$work/debug"
+  cmake --install "$work/debug" --config Debug
+  [ -e "$work/debug.prefix/lib/libmultihash_cd.a" ]
+  "$work/debug.prefix/$document/examples/test.sh" "$work/debug.prefix"
+}
+
+# The package works where it was unpacked, also with other folders of each kind and another program.
+packs() {
+  local name packed
+  packed=multihash_c-$version-$(uname -m).tar.gz
+  cp "$(type -P true)" "$work/program"
+  (cd "$work"; build other -DBUILD_SHARED_LIBS=ON -DMULTIHASH_C_PROGRAM=program \
+    -DCMAKE_INSTALL_{LIBDIR=lib/other,INCLUDEDIR=headers/c,DOCDIR=pages/c,MANDIR=manual,BINDIR=other/bin})
+  for name in built other; do
+    mkdir "$work/un packed $name"
+    (cd "$work/$name"; cpack -B "$work/$name/packed")
+    tar xf "$work/$name/packed/$packed" -C "$work/un packed $name" --strip-components=1
+  done
+  mv "$prefix" "$work/moved"
+  works "$work/un packed built" lib
+  local bin=other/bin include=headers/c document=pages/c man=manual
+  works "$work/un packed other" lib/other
+  cmp "$work/program" "$work/un packed other/$bin/mh_show"
+  mv "$work/moved" "$prefix"
+}
+
+# They are well formed, and the first, which has the names of all functions, is linked from each.
+man_pages() {
+  mandoc -T lint "$prefix"/share/man/{man3/multihash.3,man1/mh_show.1}
+  diff <(sed -n 's/^\.Nm \(\w*\).*/\1/p' "$prefix/share/man/man3/multihash.3" | sort) \
+    <(basename -s .3 -a "$prefix"/share/man/man3/* | sort)
+}
 
 # A system has a shared library or not.
 systems() {
@@ -62,20 +109,13 @@ has_options_of_project() {
   done
 }
 
-# By a generator of several configurations, each of which has a name of the library.
-has_configurations() {
-  local kind
-  cmake -S "$top" -B "$work/several" -G "Ninja Multi-Config" -DBUILD_TESTING=OFF -DCMAKE_DEBUG_POSTFIX=d
-  for kind in Debug Release; do
-    cmake --build "$work/several" --config $kind
-    cmake --install "$work/several" --config $kind --prefix "$work/several.$kind"
-  done
-  grep ' -lmultihash_cd$' "$work/several.Debug/lib/pkgconfig/multihash_c.pc"
-  grep ' -lmultihash_c$' "$work/several.Release/lib/pkgconfig/multihash_c.pc"
-}
-
+ONLY='' try "building" build built -DCMAKE_INSTALL_PREFIX="$prefix"
+ONLY='' try "installing" installs
+needs=mandoc try "man pages" man_pages
+needs=ninja try "a build for debugging" debug_build
+ONLY='' try "packing" packs
+try "the installed test of nothing" rejects "no multihash_c.pc" bindings/c/examples/test.sh "$work/none"
 needs="ar" try "options of a project" has_options_of_project
-needs=ninja try "several configurations" has_configurations
 needs=clang try "other systems" systems
 try "flags of a distribution" with_flags
 needs="aarch64-linux-gnu-gcc qemu-aarch64" try "building for aarch64" builds_for_aarch64
