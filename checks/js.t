@@ -16,7 +16,7 @@ npm_test() { (cd "$here"; ulimit -t 600; npm test -- "$@"); }
 drawn() {
   local -x MULTIHASH_VERDICTS=$work/drawn/verdicts.tsv
   mkdir "$work/drawn"
-  cp "$vectors"/{hashes,values}.tsv "$work/drawn"
+  cp "$vectors"/{hashes,messages,values}.tsv "$work/drawn"
   crates/vectors/verdicts.py --draw 1 3000 > "$work/drawn/verdicts.tsv"
   crates/vectors/verdicts.py --more 1 3000 | sed -n '/^order/p' >> "$work/drawn/verdicts.tsv"
   npm_test --test-name-pattern=vectors

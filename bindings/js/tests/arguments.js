@@ -1,7 +1,7 @@
 // Arguments of wrong types and ranges, and what results and errors are.
 import base64 from '../bytes.js';
 import { fails, hex, same, says, unhex, withoutMemory } from './check.js';
-import { Lying } from './vectors.js';
+import { Lying, rowsOf } from './vectors.js';
 
 let turn = 0; // a module is imported anew each time
 const EXAMPLE = unhex('1620644bcc7e564373040999aac89e7622f3ca71fba1d972fd94a31c3bfbf24e3938');
@@ -173,43 +173,35 @@ export function multihashes(module) {
 /** Whether a clone of an error keeps its cause, which Safari drops. */
 const keepsCause = () => structuredClone(new Error('text', { cause: 3 })).cause === 3;
 
-/** Inputs, the status of their error, words of its text, and its size. */
-const CASES = [
-  ['', 'insufficient', 'empty'],
-  ['80', 'insufficient', 'inside code'],
-  ['12', 'insufficient', "before digest's length"],
-  ['1280', 'insufficient', "inside digest's length"],
-  ['8000', 'not_minimal', 'code'],
-  ['92000107', 'not_minimal', 'code'],
-  ['01808000', 'not_minimal', "digest's length"],
-  [`${'ff'.repeat(8)}7f8100`, 'not_minimal', "digest's length"],
-  ['ff'.repeat(9), 'overflow', 'code nine'],
-  [`01${'ff'.repeat(9)}`, 'overflow', "digest's length nine"],
-  ['010200', 'unexpected_eof', 'digest 1 2'],
-  ['01ff01', 'unexpected_eof', 'digest 0 255'],
-  ['018002', 'invalid_size', 'digest 256 255', 256],
-  ['12ffffffffffffffff7f', 'invalid_size', 'digest 9223372036854775807 255', '"9223372036854775807"'],
-];
+/** The names and numbers of a message, in order. */
+const gist = (text) => `${text.match(/\d+|code|digest|length|empty|inside|before|minimal|nine|follow/g)}`;
 
-/** The words of each error, and what JSON.stringify makes of it: only texts and numbers that are exact. */
-export function errors({ MultihashError, decode, encode, head, read, scaleDecode }) {
-  const sized = (call, words, size) => [call, words, `"invalid_size","size":${size}`];
-  const ofCode = (call, code) => [call, `code ${code} 2^63`, `"invalid_code","code":"${code}"`];
-  const scale = unhex('12000000000000000200');
+/** The calls that reject the input of a row of messages.tsv. */
+function callsOf({ decode, head, read, scaleDecode }, { call, limit, input, status }) {
+  const bytes = unhex(input);
+  if (call === 'scale_decode') return [() => scaleDecode(bytes)];
+  const calls = call === 'read' ? [() => read(bytes, BigInt(limit))] : [];
+  if (limit === '255') calls.push(() => decode(bytes));
+  if (['insufficient', 'overflow', 'not_minimal'].includes(status)) calls.push(() => head(bytes));
+  return calls;
+}
+
+/** The message of each error, and what JSON.stringify makes of it: only texts and numbers that are exact. */
+export function errors(module, _verdicts, _hashes, _values, messages) {
+  const { MultihashError, decode, encode } = module;
+  for (const row of rowsOf(messages)) {
+    for (const call of callsOf(module, row)) {
+      const { status, message } = fails(MultihashError, call, row.input);
+      same(`${status} ${gist(message)}`, `${row.status} ${gist(row.message)}`, row.input);
+    }
+  }
+  const code = 2n ** 63n;
   const cases = [
-    ...[decode, read].flatMap((call) => CASES.map(([input, status, words, size]) =>
-      [() => call(unhex(input)), words, `"${status}"${size ? `,"size":${size}` : ''}`])),
-    ...CASES.slice(0, 9).map(([input, status, words]) => [() => head(unhex(input)), words, `"${status}"`]),
-    sized(() => decode(unhex('010000')), '1 byte follows', 1),
-    sized(() => decode(new Uint8Array(302)), '300 bytes follow', 300),
-    sized(() => read(EXAMPLE, 31), 'digest 32 31', 32),
-    sized(() => read(unhex('120107'), 0), 'digest 1 byte 0', 1),
-    sized(() => read(unhex('018002'), 2n ** 60n), 'digest 256 255', 256),
-    sized(() => encode(1, new Uint8Array(300)), 'digest 300 255', 300),
-    ofCode(() => encode(2n ** 63n, EXAMPLE), 2n ** 63n),
-    ofCode(() => scaleDecode(new Uint8Array(9).fill(255)), 2n ** 64n - 1n),
-    ...[[0, 'empty'], [3, 'inside code 3 8'], [8, "before digest's length"], [10, 'inside digest 1 2']].map(
-      ([count, words]) => [() => scaleDecode(scale.subarray(0, count)), words, '"unexpected_eof"']),
+    [() => encode(1, new Uint8Array(300)), 'digest 300 255', '"invalid_size","size":300'],
+    [() => encode(code, EXAMPLE), `code ${code} 2^63`, `"invalid_code","code":"${code}"`],
+    [() => decode(unhex('12ffffffffffffffff7f')), 'digest', `"invalid_size","size":"${code - 1n}"`],
+    [() => decode(new Uint8Array(302)), '300 bytes follow', '"invalid_size","size":300'],
+    [() => decode(unhex('80')), 'code', '"insufficient"'],
   ];
   for (const [call, words, rest] of cases) {
     const error = fails(MultihashError, call, words, words);

@@ -187,7 +187,7 @@ async function connected(globals) {
   return entry;
 }
 
-const beside = ['hashes.tsv', 'values.tsv'].map((name) => join(dirname(vectors), name));
+const beside = ['hashes.tsv', 'values.tsv', 'messages.tsv'].map((name) => join(dirname(vectors), name));
 const texts = [vectors, ...beside].map((path) => readFileSync(path, 'utf8'));
 const entries = { index: await index(), inline: await inline(), module: await connected() };
 for (const check of [compiledBefore, unfit, webCrypto]) test(check.name, () => check(texts[1]));

@@ -128,6 +128,11 @@ function rowOf([columns], line) {
   return Object.fromEntries(line.split('\t').map((word, at) => [names[at], word]));
 }
 
+export function rowsOf(text) {
+  const lines = text.trim().split('\n');
+  return lines.slice(1).map((line) => rowOf(lines, line));
+}
+
 /** Compares the results for the input of a line with it. */
 function checkLine(module, line, row, kind) {
   const { S, read, read_taken: readTaken, from_bytes: whole, scale_decode: scale, scale_taken: scaleTaken } = row;
