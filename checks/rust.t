@@ -71,7 +71,7 @@ test_targets() {
   done
   for target in thumbv6m-none-eabi wasm32-unknown-unknown; do
     needs="$bare $targets/$target/lib/libcore-*.rlib" try "a build for $target" \
-      in_crate multihash cargo build --no-default-features --features alloc --target $target
+      in_crate multihash cargo build --no-default-features --target $target
   done
 }
 
