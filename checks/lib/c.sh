@@ -9,7 +9,7 @@ ulimit -c 0
 top=$PWD
 c=$top/bindings/c
 source=$c/src/multihash.c
-tests=("$c"/tests/{test,verdicts,models,inputs,messages}.c)
+tests=("$c"/tests/{test,verdicts,models,inputs}.c)
 data=$top/crates/vectors/data
 # what Clang needs for sanitizers and the fuzzer
 clang_runtime=$(clang --rtlib=compiler-rt -print-libgcc-file-name 2> /dev/null || true)

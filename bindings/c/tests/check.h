@@ -34,8 +34,7 @@ void check_length(uint64_t code, size_t length);
 void check_text(multihash_status status, size_t room);
 void check_input(uint64_t code, const uint8_t *bytes, size_t length, size_t limit);
 
-/* messages.c and verdicts.c */
-void check_messages(void);
+/* verdicts.c */
 void replay(const char *name);
 
 #endif

@@ -1,4 +1,5 @@
-/* The test vectors, verdicts.tsv, values.tsv and messages.tsv of crates/vectors: the library has the results of each line. */
+/* The test vectors: the library has the results of each line of verdicts.tsv, values.tsv and messages.tsv of
+ * crates/vectors. */
 #include "check.h"
 #include "multihash_message.h"
 
