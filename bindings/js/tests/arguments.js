@@ -9,38 +9,34 @@ const EXAMPLE = unhex('1620644bcc7e564373040999aac89e7622f3ca71fba1d972fd94a31c3
 const INSPECT = Symbol.for('nodejs.util.inspect.custom');
 const kindOf = (value) => Object.prototype.toString.call(value);
 
-function noBytes() {
-  const others = [34, 34n, '1620', [22, 0], null, undefined, true, {}, { length: 1, 0: 0 }, Symbol('bytes'), () => 0];
-  const buffers = [new ArrayBuffer(4), new DataView(new ArrayBuffer(4)), new Uint16Array(2), new Int8Array(2),
-    new Uint8ClampedArray(2)];
-  const feigned = [new Proxy(new Uint8Array(2), {}), Object.create(Uint8Array.prototype),
-    { __proto__: new Uint8Array(2) }];
-  return [...others, ...buffers, ...feigned];
-}
+/** What is no bytes, and what an error says of it, of `bytes` with a hint. */
+const noBytes = ({ Multihash }) => [
+  [null, 'null'], [undefined, 'undefined'], [true, 'true'], [34, '34'], [34n, 'bigint'], [Symbol('bytes'), 'symbol'],
+  ['1620', 'string Multihash.fromHex'], [() => 0, 'function'], [Promise.resolve(), 'Promise await'],
+  [{}, 'Object'], [{ length: 1, 0: 0 }, 'Object'], [{ __proto__: null }, 'Object'], [[22, 0], 'Array Uint8Array.from'],
+  [Multihash.of(1, new Uint8Array()), 'Multihash bytes'], [new ArrayBuffer(4), 'ArrayBuffer new Uint8Array buffer'],
+  [new DataView(new ArrayBuffer(4)), 'DataView view.byteLength'], [new Uint16Array(2), 'Uint16Array view.byteLength'],
+  [new Int8Array(2), 'Int8Array'], [new Uint8ClampedArray(2), 'Uint8ClampedArray'],
+  [new Proxy(new Uint8Array(2), {}), ''], [Object.create(Uint8Array.prototype), ''],
+  [{ __proto__: new Uint8Array(2) }, ''],
+];
 
 /** Bytes are a Uint8Array. The error names the argument. */
-export function bytesAlone({ Multihash, MultihashReader, decode, encode, head, read, scaleDecode, scaleEncode }) {
+export function bytesAlone(module) {
+  const { Multihash, MultihashReader, decode, encode, head, read, scaleDecode, scaleEncode } = module;
   const nothing = { [Symbol.asyncIterator]: () => ({ next() {} }) };
   const calls = [
     ...[decode, read, head, scaleDecode].map((call) => ['bytes', call]),
     ...[encode, scaleEncode, Multihash.of].map((call) => ['digest', (bytes) => call(18, bytes)]),
     ['rest', (bytes) => new MultihashReader(nothing, { rest: bytes ?? null })],
   ];
-  const gone = withoutMemory();
-  for (const wrong of [...noBytes(), ...gone]) {
-    const what = kindOf(wrong);
+  const gone = withoutMemory().map((bytes) => [bytes, 'detached']);
+  for (const [wrong, text] of [...noBytes(module), ...gone]) {
     for (const [name, call] of calls) {
-      const words = `${name} Uint8Array${gone.includes(wrong) ? ' detached' : ''}`;
-      fails(TypeError, () => call(wrong), `${name} ${what}`, words);
+      const hint = name === 'bytes' || text === 'detached' ? text : '';
+      fails(TypeError, () => call(wrong), `${name} ${kindOf(wrong)}`, `${name} Uint8Array ${hint}`);
     }
   }
-  const received = [[null, 'null'], [34, '34'], [34n, 'bigint'], [[22, 0], 'Array Uint8Array.from'],
-    [() => 0, 'function'], ['1620', 'string Multihash.fromHex'], [undefined, 'undefined'],
-    [{ __proto__: null }, 'Object'], [new ArrayBuffer(4), 'ArrayBuffer new Uint8Array buffer'], [Symbol('bytes'), 'symbol'],
-    [Promise.resolve(), 'Promise await'], [Multihash.of(1, new Uint8Array()), 'Multihash bytes'],
-    [new DataView(new ArrayBuffer(4)), 'DataView view.byteLength'], [new Uint16Array(2), 'Uint16Array view.byteLength']];
-  for (const [value, text] of received)
-    fails(TypeError, () => decode(value), text, `bytes Uint8Array got ${text}`);
   for (const [value, text] of [['path', 'string createReadStream'], [EXAMPLE, 'Uint8Array read bytes']])
     fails(TypeError, () => new MultihashReader(value), text, `source ReadableStream ${text}`);
 }

@@ -1,5 +1,5 @@
-// The tests in Node.js: all of index.js, and of the other entries how they load. MULTIHASH_VERDICTS names the test vectors,
-// if not those of the repository.
+// The tests in Node.js: all of index.js, and of the other entries how they load. MULTIHASH_VERDICTS names the test
+// vectors, if not those of the repository.
 import { createReadStream, readFileSync } from 'node:fs';
 import { dirname, join } from 'node:path';
 import { Readable } from 'node:stream';
