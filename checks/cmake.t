@@ -1,6 +1,8 @@
 #!/usr/bin/env bash
-# What CMake builds, installs and packs of the library for C: on this machine, where its tests pass, its files are there,
-# and the installed test passes; for other machines, two of them emulated; and with other options than the defaults.
+# What CMake builds, installs and packs of the library for C: on this machine, where its tests pass, its files are
+# there, and the installed test passes; for other machines, two of them emulated; with other options than the defaults.
+# Projects that use it, by CMake and in Go.
+# shellcheck disable=SC2016 # what CMake expands
 # shellcheck source=checks/lib/tap.sh
 . "$(dirname "$0")/lib/tap.sh"
 require cc cmake python3 readelf pkg-config
@@ -109,12 +111,62 @@ has_options_of_project() {
   done
 }
 
+# The example in a project of CMake, whose last lines are those of the standard input, with each library. Further words
+# are options.
+in_project() {
+  local kind to=$1
+  mkdir "$to"
+  { printf '%s\n' "$(grep ^cmake_minimum_required CMakeLists.txt)" 'project(example VERSION 7 LANGUAGES C)' \
+    'add_executable(program ${source})'; cat; } > "$to/CMakeLists.txt"
+  for kind in shared static; do
+    cmake -S "$to" -B "$to/$kind" -Dsource="$c/examples/mh_show.c" -Dkind=$kind \
+      -DBUILD_SHARED_LIBS="$([ $kind = static ] || echo ON)" "${@:2}"
+    cmake --build "$to/$kind"
+    "$to/$kind/program" < crates/mh_show/stdin | diff - "$expected"
+  done
+}
+
+# It has the repository as a folder, which brings the library and nothing else, whatever the project hides or shares.
+by_subdirectory() {
+  local to=$work/folder
+  printf '%s\n' "add_subdirectory(\"$top\" multihash_c)" 'target_link_libraries(program multihash_c::${kind})' |
+    in_project "$to" -DCMAKE_C_VISIBILITY_PRESET=hidden -DCMAKE_INSTALL_PREFIX="$to/prefix"
+  readelf -Ws "$to/static/multihash_c/libmultihash_c.a" | grep ' HIDDEN .* multihash_encode$'
+  cmake --install "$to/static"
+  has_flags "$to/prefix" lib
+  (cd "$to/prefix"; find . ! -type d | sort) |
+    diff <(files_in lib | sed -E '/\/(bin|share)\/|\.so/d; s/-release/-noconfig/' | sort) -
+}
+
+# As the page says, over what find_package finds. It rejects another major version.
+by_find_package() {
+  local to=$work/project
+  block_of bindings/c/README.md cmake | sed -E 's/(.*::)shared(.*::)static$/\1${kind}\2/' |
+    in_project "$to" -DCMAKE_PREFIX_PATH="$work/un packed built"
+  grep -F 'multihash_c::${kind})' "$to/CMakeLists.txt"
+  sed -i "s/(multihash_c [0-9.]*/(multihash_c $((major - 1)).9/" "$to/CMakeLists.txt"
+  rejects "compatible with requested version" cmake -S "$to" -B "$to/shared"
+}
+
+# The example of bindings/c/README.md for Go, in a module of its own. cgo takes no prefix with a blank.
+in_go() {
+  local -x PKG_CONFIG_PATH=$work/go/lib/pkgconfig LD_LIBRARY_PATH=$work/go/lib GOCACHE=$work/go.cache
+  cp -r "$work/un packed built" "$work/go"
+  block_of bindings/c/README.md go > "$work/go/main.go"
+  echo 'module example' > "$work/go/go.mod"
+  cd "$work/go"
+  go run . | diff <(echo 'code 18, digest abc') -
+}
+
 ONLY='' try "building" build built -DCMAKE_INSTALL_PREFIX="$prefix"
 ONLY='' try "installing" installs
 needs=mandoc try "man pages" man_pages
 needs=ninja try "a build for debugging" debug_build
 ONLY='' try "packing" packs
 try "the installed test of nothing" rejects "no multihash_c.pc" bindings/c/examples/test.sh "$work/none"
+try "a project of CMake" by_find_package
+try "a folder of a project of CMake" by_subdirectory
+needs=go try "Go" in_go
 needs="ar" try "options of a project" has_options_of_project
 needs=clang try "other systems" systems
 try "flags of a distribution" with_flags
