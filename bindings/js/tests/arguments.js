@@ -92,7 +92,7 @@ export function equality(module) {
   const noCodes = ['0', '', false, [], [0], null, undefined, Symbol('0'), Object.create(null)];
   for (const code of [...noCodes, { valueOf: () => 0 }])
     same(multihash.equals({ code, digest }), false, `equals, a code: ${kindOf(code)}`);
-  for (const other of [[5], '5', new Int8Array([5]), new Lying([5, 6, 7])])
+  for (const other of [[5], '5', new Int8Array([5]), Uint8Array.of(6), new Lying([5, 6, 7])])
     same(multihash.equals({ code: 0, digest: other }), false, `equals, a digest: ${kindOf(other)}`);
   for (const value of [null, undefined, 22, 'text', {}, EXAMPLE])
     same(multihash.equals(value), false, `equals ${kindOf(value)}`);
@@ -101,30 +101,9 @@ export function equality(module) {
     fails(TypeError, () => empty.equals({ code: 18, digest }), 'a digest that is gone');
 }
 
-/** The order by the code, the digest's length, and the digest. */
-function order(left, right) {
-  const keys = [left, right].map(({ code, size, digest }) => [BigInt(code), size, hex(digest)]);
-  const at = keys[0].findIndex((key, index) => key !== keys[1][index]);
-  return at < 0 ? 0 : keys[0][at] < keys[1][at] ? -1 : 1;
-}
-
-/** Multihashes that differ in any byte, in a length or a code, and what is not a multihash. */
-export function comparison(module) {
-  const { Multihash, compare } = module;
-  const { code, digest } = module.decode(EXAMPLE);
-  const changed = Array.from(digest, (byte, at) => digest.with(at, byte ^ (at % 2 ? 0x80 : 1)));
-  const digests = [digest, digest.subarray(1), digest.subarray(0, 31), Uint8Array.of(...digest, 0), new Uint8Array(),
-    new Uint8Array(255), ...changed];
-  const codes = [0, 21, 2 ** 53 - 1, 2n ** 53n, 2n ** 60n, 2n ** 60n + 1n, 2n ** 63n - 1n];
-  const others = [...codes.map((other) => Multihash.of(other, digest)),
-    ...digests.map((other) => Multihash.of(22n, other))];
-  for (const left of others) {
-    for (const right of others) {
-      same(compare(left, right), order(left, right), `compare ${left} ${right}`);
-      same(left.equals(right), left === right, `equals ${left} ${right}`);
-    }
-  }
-  const multihash = Multihash.of(code, digest);
+/** What is not a multihash, or has lost its digest. The lists of vectors.js have orders. */
+export function comparison({ Multihash, compare, decode }) {
+  const multihash = decode(EXAMPLE);
   for (const [other, text] of [[{ ...multihash }, 'Object'], [EXAMPLE, 'Uint8Array'], [null, 'null']]) {
     fails(TypeError, () => compare(other, multihash), 'compare', `left Multihash ${text}`);
     fails(TypeError, () => compare(multihash, other), 'compare', `right Multihash ${text}`);
