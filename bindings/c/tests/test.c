@@ -1,47 +1,10 @@
-/* The tests of the library: each function is compared with the models, over prefixes of encodings, every capacity, null
- * with length 0, the test vectors and random inputs, and messages. C11 and C++17. Exits with status 1 at
- * the first error.
+/* The tests of the library: each function is compared with the models, over the test vectors, random inputs, streams and
+ * large buffers; and messages. C11 and C++17. Exits with status 1 at the first error.
  *
  *   test VECTORS SEED COUNT          runs all cases
  *   test VECTORS SEED COUNT CASE     runs one of them */
 #include "check.h"
 #include "multihash_message.h"
-
-/* Each prefix of the longest encoding whose code and digest's length have that many bytes. */
-static void check_cuts(void)
-{
-    static const uint8_t digest[MULTIHASH_DIGEST_MAX] = {0};
-    uint8_t bytes[MULTIHASH_LENGTH_MAX];
-    for (unsigned bits = 7; bits <= 63; bits += 7) {
-        for (size_t size = 127; size <= 255; size += 128) {
-            uint64_t code = ((uint64_t)1 << bits) - 1;
-            size_t whole = multihash_encode(code, digest, size, bytes, sizeof bytes).length;
-            CHECK(multihash_from_bytes(bytes, whole).digest_length == size);
-            for (size_t length = 0; length <= whole; length++) {
-                uint8_t *input = copy_of(bytes, length);
-                check_decodings(input, length, length % 2 == 0 ? SIZE_MAX / 2 + 1 : size);
-                release(input);
-            }
-        }
-    }
-}
-
-/* Each capacity from 0 to more than is needed, and each error of an encoding before those of capacities. */
-static void check_capacities(void)
-{
-    static const uint64_t codes[] = {0,       127,     128,       16383,                   16384,
-                                     2097151, 2097152, INT64_MAX, (uint64_t)INT64_MAX + 1, UINT64_MAX};
-    static const size_t lengths[] = {0, 1, 32, 127, 128, 255, 256, 300};
-    uint8_t digest[300];
-    for (size_t i = 0; i < sizeof digest; i++) digest[i] = (uint8_t)(7 * i + 3);
-    for (size_t i = 0; i < sizeof codes / sizeof codes[0]; i++) {
-        for (size_t k = 0; k < sizeof lengths / sizeof lengths[0]; k++) {
-            uint8_t *exact = copy_of(digest, lengths[k]);
-            for (size_t room = 0; room <= 320; room++) check_encodings(codes[i], exact, lengths[k], room);
-            release(exact);
-        }
-    }
-}
 
 /* Encodings one after another, of codes and digests of several lengths: all prefixes, with room for each number. */
 static void check_streams(void)
@@ -73,22 +36,12 @@ static void check_orders(void)
     }
 }
 
-static void check_lengths(void)
-{
-    for (size_t length = 0; length <= 600; length++) {
-        for (unsigned bits = 0; bits < 64; bits++) {
-            check_length(((uint64_t)1 << bits) - 1, length);
-            check_length((uint64_t)1 << bits, length);
-        }
-    }
-    check_length(0, SIZE_MAX);
-    check_encodings(0, (const uint8_t *)"", SIZE_MAX, 9); /* rejected without an access */
-}
-
-/* Buffers of more than 2^32 bytes, of which few are accessed. */
+/* A length that no buffer has, which is rejected without an access, and buffers of more than 2^32 bytes. */
 static void check_large(void)
 {
     static const uint8_t digest[] = {7};
+    check_length(0, SIZE_MAX);
+    check_encodings(0, digest, SIZE_MAX, 9);
     uint64_t length = ((uint64_t)1 << 32) + 300;
     size_t room = (size_t)length;
     uint8_t *bytes = sparse(length);
@@ -198,11 +151,8 @@ static const struct {
     const char *name;
     void (*run)(void);
 } cases[] = {
-    {"cuts", check_cuts},
-    {"capacities", check_capacities},
     {"streams", check_streams},
     {"orders", check_orders},
-    {"lengths", check_lengths},
     {"large", check_large},
     {"texts", check_texts},
     {"version", check_version},
