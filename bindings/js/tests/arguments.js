@@ -59,14 +59,7 @@ export function numbers({ Multihash, MultihashError, encode, encodedLength, read
     fails(RangeError, () => call(10n ** 4000n), 'long', `${name} ${most} 1${'0'.repeat(39)}...`);
   }
   const code = 1n << 63n;
-  for (const encoder of encoders) {
-    const error = fails(MultihashError, () => encoder(code, digest), 'a code');
-    same(`${error.status} ${error.code}`, `invalid_code ${code}`, 'the code of an error');
-    for (const size of [256, 300]) {
-      const first = fails(MultihashError, () => encoder(code, new Uint8Array(size)), 'size first');
-      same(`${first.status} ${first.size} ${first.code}`, `invalid_size ${size} undefined`, 'size first');
-    }
-  }
+  same(fails(MultihashError, () => encodedLength(code, 2), 'a code').code, code, 'a code');
   const long = 2n ** 63n + 256n;
   same(fails(MultihashError, () => encodedLength(code, long), 'a length').size, long, 'a length');
   same(read(EXAMPLE, (1n << 64n) - 1n).taken, 34, 'the largest limit');

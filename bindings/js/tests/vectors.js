@@ -174,7 +174,7 @@ function encoded(module, call, code, digest) {
     return hex(call(code, digest));
   } catch (error) {
     if (!(error instanceof module.MultihashError)) throw error;
-    return `${error.status} ${error.size ?? error.code}`;
+    return [error.status, error.size ?? [], error.code ?? []].flat().join(' ');
   }
 }
 
@@ -189,7 +189,8 @@ export function values(module, verdicts, hashes, text) {
     const { limit, code, digest: digits, encoding, scale } = rowOf(lines, line);
     const digest = unhex(digits);
     if (digest.length > Number(limit) && digest.length <= 255) continue;
-    same(encoded(module, module.encode, BigInt(code), digest), encoding, line);
+    for (const call of [module.encode, (code, digest) => module.Multihash.of(code, digest).bytes])
+      same(encoded(module, call, BigInt(code), digest), encoding, line);
     same(encoded(module, module.scaleEncode, BigInt(code), digest), scale, line);
   }
 }
