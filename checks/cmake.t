@@ -96,7 +96,7 @@ with_flags() {
 
 # The variables that a project sets before it adds the repository count each time that it is configured.
 has_options_of_project() {
-  local to=$work/project
+  local to=$work/options
   mkdir "$to"
   cc -c -xc /dev/null -o "$to/own.o"
   ar rc "$to/own.a" "$to/own.o"

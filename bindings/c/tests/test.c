@@ -56,15 +56,6 @@ static void check_large(void)
     CHECK(multihash_compare(18, bytes + 1, room - 1, 18, bytes, room - 1) == -1);
 }
 
-static void check_texts(void)
-{
-    for (size_t room = 0; room <= 60; room++) {
-        for (multihash_status i = 0; i < 300; i++) check_text(i, room);
-        for (unsigned bits = 9; bits < 32; bits++) check_text((multihash_status)1 << bits, room);
-        check_text(UINT32_MAX, room);
-    }
-}
-
 static void check_version(void)
 {
     char text[32];
@@ -154,7 +145,6 @@ static const struct {
     {"streams", check_streams},
     {"orders", check_orders},
     {"large", check_large},
-    {"texts", check_texts},
     {"version", check_version},
     {"messages", check_messages},
     {"vectors", check_vectors},
