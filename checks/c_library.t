@@ -1,6 +1,6 @@
 #!/usr/bin/env bash
-# The library for C on this machine: compilers warn of nothing in its headers and source; its tests pass, plain and under
-# sanitizers.
+# The library for C: compilers warn of nothing in its headers and source; its tests pass, under sanitizers, a fuzzer,
+# and in emulators of other machines; it needs no C library; its examples.
 # shellcheck source=checks/lib/tap.sh
 . "$(dirname "$0")/lib/tap.sh"
 require cc python3
@@ -53,7 +53,75 @@ test_compilers() {
     build_and_run clang-memory "" clang "${c_flags[@]}" "${heap[@]}" -fsanitize=memory "${tests[@]}" "$source"
 }
 
+# Objects for machines without a C library, and for macOS and MSVC's mode of Clang without their headers. All that they
+# need are the functions that the page names, and what linkers make.
+freestanding() {
+  local target
+  for target in arm64-apple-macos11 wasm32-unknown-unknown thumbv7em-none-eabi riscv32-unknown-elf \
+    x86_64-pc-windows-msvc; do
+    clang --target=$target -ffreestanding -nostdlibinc "${c_flags[@]}" -O2 -I "$c/include" -c "$source" \
+      -o "$work/free.o"
+    llvm-nm --undefined-only -j "$work/free.o" | sed -E 's/^_*//; /^stack_(chk_fail|chk_guard|pointer)$/d' | sort |
+      comm -23 - <(printf "%s\n" aeabi_memclr8 memcmp memcpy memset) | diff /dev/null -
+  done
+}
+
+# For a compiler that is neither GCC nor Clang the source has no name that only these know, which begin with two
+# underscores.
+has_no_extensions() {
+  clang --target=x86_64-pc-windows-msvc -ffreestanding -nostdlibinc -I "$c/include" -E -P "$source" |
+    { grep -w '__[[:alnum:]_]*' || true; } | diff /dev/null -
+}
+
+# The tests on a machine, by a compiler and a command that runs its programs.
+on_machine() {
+  needs="$needs $2-gcc $3" try "$1" \
+    build_and_run "$2" "$3" "$2-gcc" "${c_flags[@]}" -O2 -static "${tests[@]}" "$source"
+}
+
+# Compilers warn of nothing in the examples.
+compile_examples() {
+  local each
+  for each in "$c"/examples/*.c; do cc "${c_flags[@]}" -I "$c/include" -fsyntax-only "$each"; done
+}
+
+# The reader of a stream, over pipes that are cut at each byte.
+stream_example() {
+  cc "${c_flags[@]}" "${sanitize[@]}" -I "$c/include" -I "$c/examples" "$c/tests/stream.c" "$source" -o "$work/stream"
+  "$work/stream"
+}
+
+# The example that hashes, over each row of hashes.tsv: for some codes it has no function.
+verify_example() {
+  local code name digest hex
+  cc "${c_flags[@]}" "${sanitize[@]}" -I "$c/include" "$c/examples/verify.c" "$source" -lcrypto -o "$work/verify"
+  while IFS=$'\t' read -r code name digest; do
+    hex=
+    for ((code = code; code > 127; code >>= 7)); do hex+=$(printf %02x $((code & 127 | 128))); done
+    hex+=$(printf %02x%02x "$code" $((${#digest} / 2)))$digest
+    if [[ $name == @(identity|shake-*|keccak-256|dbl-*|md4|sm3-256|blake2b-8|blake2b-256|blake2s-8|blake2s-128) ]]; then
+      rejects "no hash function" "$work/verify" "$hex" <<< abc
+    else
+      prints "the same" "$work/verify" "$hex" < <(printf abc)
+      rejects "another content" "$work/verify" "$hex" <<< abc
+    fi
+  done < <(sed 1d "$top/crates/vectors/data/hashes.tsv")
+  rejects "another content" "$work/verify" 1201ba < <(printf abc)
+  rejects "the input ends inside the digest (1 of 32 bytes)" "$work/verify" 1220ba
+  rejects "the content cannot be hashed" "$work/verify" 1201ba < "$work"
+}
+
 test_compilers
 needs=objdump try "no state" keeps_no_state "$work/cc-2.o"
+needs="clang llvm-nm" try "objects without a C library" freestanding
+needs=clang try "other compilers" has_no_extensions
+needs="clang $clang_runtime" try "fuzzing" bindings/c/fuzz.sh
+on_machine "x86, 32 bits" i686-linux-gnu qemu-i386
+needs=--all on_machine riscv64 riscv64-linux-gnu qemu-riscv64
+on_machine "armhf, 32 bits" arm-linux-gnueabihf qemu-arm
+on_machine "s390x, big-endian" s390x-linux-gnu qemu-s390x
+needs=/usr/include/openssl/evp.h try "the examples" compile_examples
+try "the reader of a stream" stream_example
+needs=/usr/include/openssl/evp.h try "the example that hashes" verify_example
 try "the version that files state" tools/version.py --check
 finish

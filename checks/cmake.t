@@ -1,11 +1,60 @@
 #!/usr/bin/env bash
-# What CMake builds of the library for C: for other machines, two of them emulated, and with other options than the
-# defaults.
+# What CMake builds, installs and packs of the library for C: on this machine, where its tests pass, its files are
+# there, and the installed test passes; for other machines, two of them emulated; with other options than the defaults.
+# Projects that use it, by CMake and in Go.
+# shellcheck disable=SC2016 # what CMake expands
 # shellcheck source=checks/lib/tap.sh
 . "$(dirname "$0")/lib/tap.sh"
-require cc cmake python3 readelf
+require cc cmake python3 readelf pkg-config
 # shellcheck source=checks/lib/installed.sh
 . checks/lib/installed.sh
+prefix="$work/a #prefix's"
+
+# In the configured prefix, whose name is no word of a shell.
+installs() {
+  cmake --install "$work/built"
+  is_installed "$prefix" lib
+  "$prefix/bin/mh_show" < crates/mh_show/stdin | diff - "$expected"
+}
+
+# By a generator of several configurations, under a name for debugging, by a compiler whose default is C90, with the
+# sources of each target as one unit.
+debug_build() {
+  cmake -S "$top" -B "$work/debug" -G "Ninja Multi-Config" -DCMAKE_C_STANDARD=90 -DCMAKE_DEBUG_POSTFIX=d \
+    -DCMAKE_UNITY_BUILD=ON -DCMAKE_INSTALL_PREFIX="$work/debug.prefix"
+  cmake --build "$work/debug" --config Debug
+  prints '100% tests passed, 0 tests failed out of ' ctest -C Debug --test-dir "$work/debug"
+  cmake --install "$work/debug" --config Debug
+  [ -e "$work/debug.prefix/lib/libmultihash_cd.a" ]
+  "$work/debug.prefix/$document/examples/test.sh" "$work/debug.prefix"
+}
+
+# The package works where it was unpacked, also with other folders of each kind and another program.
+packs() {
+  local name packed
+  packed=multihash_c-$version-$(uname -m).tar.gz
+  cp "$(type -P true)" "$work/program"
+  (cd "$work"; build other -DBUILD_SHARED_LIBS=ON -DMULTIHASH_C_PROGRAM=program \
+    -DCMAKE_INSTALL_{LIBDIR=lib/other,INCLUDEDIR=headers/c,DOCDIR=pages/c,MANDIR=manual,BINDIR=other/bin})
+  for name in built other; do
+    mkdir "$work/un packed $name"
+    (cd "$work/$name"; cpack -B "$work/$name/packed")
+    tar xf "$work/$name/packed/$packed" -C "$work/un packed $name" --strip-components=1
+  done
+  mv "$prefix" "$work/moved"
+  works "$work/un packed built" lib
+  local bin=other/bin include=headers/c document=pages/c man=manual
+  works "$work/un packed other" lib/other
+  cmp "$work/program" "$work/un packed other/$bin/mh_show"
+  mv "$work/moved" "$prefix"
+}
+
+# They are well formed, and the first, which has the names of all functions, is linked from each.
+man_pages() {
+  mandoc -T lint "$prefix"/share/man/{man3/multihash.3,man1/mh_show.1}
+  diff <(sed -n 's/^\.Nm \(\w*\).*/\1/p' "$prefix/share/man/man3/multihash.3" | sort) \
+    <(basename -s .3 -a "$prefix"/share/man/man3/* | sort)
+}
 
 # A system has a shared library or not.
 systems() {
@@ -47,7 +96,7 @@ with_flags() {
 
 # The variables that a project sets before it adds the repository count each time that it is configured.
 has_options_of_project() {
-  local to=$work/project
+  local to=$work/options
   mkdir "$to"
   cc -c -xc /dev/null -o "$to/own.o"
   ar rc "$to/own.a" "$to/own.o"
@@ -62,20 +111,63 @@ has_options_of_project() {
   done
 }
 
-# By a generator of several configurations, each of which has a name of the library.
-has_configurations() {
-  local kind
-  cmake -S "$top" -B "$work/several" -G "Ninja Multi-Config" -DBUILD_TESTING=OFF -DCMAKE_DEBUG_POSTFIX=d
-  for kind in Debug Release; do
-    cmake --build "$work/several" --config $kind
-    cmake --install "$work/several" --config $kind --prefix "$work/several.$kind"
+# The example in a project of CMake, whose last lines are those of the standard input, with each library. Further words
+# are options.
+in_project() {
+  local kind to=$1
+  mkdir "$to"
+  { printf '%s\n' "$(grep ^cmake_minimum_required CMakeLists.txt)" 'project(example VERSION 7 LANGUAGES C)' \
+    'add_executable(program ${source})'; cat; } > "$to/CMakeLists.txt"
+  for kind in shared static; do
+    cmake -S "$to" -B "$to/$kind" -Dsource="$c/examples/mh_show.c" -Dkind=$kind \
+      -DBUILD_SHARED_LIBS="$([ $kind = static ] || echo ON)" "${@:2}"
+    cmake --build "$to/$kind"
+    "$to/$kind/program" < crates/mh_show/stdin | diff - "$expected"
   done
-  grep ' -lmultihash_cd$' "$work/several.Debug/lib/pkgconfig/multihash_c.pc"
-  grep ' -lmultihash_c$' "$work/several.Release/lib/pkgconfig/multihash_c.pc"
 }
 
+# It has the repository as a folder, which brings the library and nothing else, whatever the project hides or shares.
+by_subdirectory() {
+  local to=$work/folder
+  printf '%s\n' "add_subdirectory(\"$top\" multihash_c)" 'target_link_libraries(program multihash_c::${kind})' |
+    in_project "$to" -DCMAKE_C_VISIBILITY_PRESET=hidden -DCMAKE_INSTALL_PREFIX="$to/prefix"
+  readelf -Ws "$to/static/multihash_c/libmultihash_c.a" | grep ' HIDDEN .* multihash_encode$'
+  cmake --install "$to/static"
+  has_flags "$to/prefix" lib
+  (cd "$to/prefix"; find . ! -type d | sort) |
+    diff <(files_in lib | sed -E '/\/(bin|share)\/|\.so/d; s/-release/-noconfig/' | sort) -
+}
+
+# As the page says, over what find_package finds. It rejects another major version.
+by_find_package() {
+  local to=$work/project
+  block_of bindings/c/README.md cmake | sed -E 's/(.*::)shared(.*::)static$/\1${kind}\2/' |
+    in_project "$to" -DCMAKE_PREFIX_PATH="$work/un packed built"
+  grep -F 'multihash_c::${kind})' "$to/CMakeLists.txt"
+  sed -i "s/(multihash_c [0-9.]*/(multihash_c $((major - 1)).9/" "$to/CMakeLists.txt"
+  rejects "compatible with requested version" cmake -S "$to" -B "$to/shared"
+}
+
+# The example of bindings/c/README.md for Go, in a module of its own. cgo takes no prefix with a blank.
+in_go() {
+  local -x PKG_CONFIG_PATH=$work/go/lib/pkgconfig LD_LIBRARY_PATH=$work/go/lib GOCACHE=$work/go.cache
+  cp -r "$work/un packed built" "$work/go"
+  block_of bindings/c/README.md go > "$work/go/main.go"
+  echo 'module example' > "$work/go/go.mod"
+  cd "$work/go"
+  go run . | diff <(echo 'code 18, digest abc') -
+}
+
+ONLY='' try "building" build built -DCMAKE_INSTALL_PREFIX="$prefix"
+ONLY='' try "installing" installs
+needs=mandoc try "man pages" man_pages
+needs=ninja try "a build for debugging" debug_build
+ONLY='' try "packing" packs
+try "the installed test of nothing" rejects "no multihash_c.pc" bindings/c/examples/test.sh "$work/none"
+try "a project of CMake" by_find_package
+try "a folder of a project of CMake" by_subdirectory
+needs=go try "Go" in_go
 needs="ar" try "options of a project" has_options_of_project
-needs=ninja try "several configurations" has_configurations
 needs=clang try "other systems" systems
 try "flags of a distribution" with_flags
 needs="aarch64-linux-gnu-gcc qemu-aarch64" try "building for aarch64" builds_for_aarch64

@@ -1,8 +1,24 @@
 #!/usr/bin/env bash
-# Compares the generated files that need no kit with what tools/generate makes; compiled.t compares the WebAssembly. A
-# result has the command that makes the files anew.
+# Compares the generated files with what tools/generate makes, and the C source with what Rattle's compiler makes of the
+# same functions. A result has the command that makes the files anew.
 # shellcheck source=checks/lib/tap.sh
 . "$(dirname "$0")/lib/tap.sh"
+# shellcheck source=checks/lib/c.sh
+. checks/lib/c.sh
+# shellcheck source=tools/tool_versions
+. tools/tool_versions
+
+# The tests over the source and the archive, in one program.
+beside_archive() {
+  tools/generate archive "$work/proved.a" --cpu=x86-64
+  exported | sed 's/.*/& proved_&/' > "$work/renamed"
+  objcopy --redefine-syms="$work/renamed" "$work/proved.a"
+  mapfile -t calls < <(exported | sed '/version$/d; s/^/-Wl,--wrap=/')
+  build_and_run beside "" cc "${c_flags[@]}" -O2 "${tests[@]}" "$c/tests/beside.c" "$source" "$work/proved.a" \
+    "${calls[@]}"
+}
 
 for what in c rust contracts vectors names statuses; do try "tools/generate $what" tools/generate "$what" --check; done
+needs="rt wasm-opt=$binaryen wasm2wat=$wabt" try "tools/generate wasm" tools/generate wasm --check
+needs="rt cc objcopy /lib64/ld-linux-x86-64.so.2" try "beside the C source" beside_archive
 finish

@@ -1,3 +1,97 @@
 #!/usr/bin/env bash
-# Tests the package for JavaScript.
-exec "$(dirname "$0")/../bindings/js/test.sh"
+# Tests the package for JavaScript, as it is here and as packed: in Node.js, in browsers, its types.
+# shellcheck source=checks/lib/tap.sh
+. "$(dirname "$0")/lib/tap.sh"
+top=$PWD
+here=$top/bindings/js
+vectors=$top/crates/vectors/data
+node=node=$(sed -n 's/.*"node": ">=\(.*\)".*/\1/p' bindings/js/package.json)+
+
+export MULTIHASH_VERDICTS=$vectors/verdicts.tsv
+
+# All tests, or those that words choose. No process may take more than that CPU time.
+npm_test() { (cd "$here"; ulimit -t 600; npm test -- "$@"); }
+
+# Inputs that are drawn have the results that verdicts.py computes.
+drawn() {
+  local -x MULTIHASH_VERDICTS=$work/drawn/verdicts.tsv
+  mkdir "$work/drawn"
+  cp "$vectors"/{hashes,messages,values}.tsv "$work/drawn"
+  crates/vectors/verdicts.py --draw 1 3000 > "$work/drawn/verdicts.tsv"
+  crates/vectors/verdicts.py --more 1 3000 | sed -n '/^order/p' >> "$work/drawn/verdicts.tsv"
+  npm_test --test-name-pattern=vectors
+}
+
+# The module has the instructions of WebAssembly's first version and bulk memory operations, and no others.
+# shellcheck disable=SC2086 # words
+old_module() {
+  local later
+  later=$(wasm-validate --help | sed -n 's/.* \(--disable-[a-z-]*\) .*/\1/p')
+  wasm-validate ${later/--disable-bulk-memory/} "$here/multihash.wasm"
+}
+
+# The command of README.md installs the package in a folder of a user's own.
+page_install() {
+  mkdir "$work/own"
+  cd "$work/own"
+  npm_config_offline=true npm_config_cache=$work/npm MH=$top bash -c "$(block_of "$here/README.md" sh)"
+  node --input-type=module -e "import 'verified-multihash'"
+}
+
+# What is packed is installed elsewhere and imported from CommonJS.
+packed_script() {
+  local at=$work/elsewhere
+  (cd "$here"; npm pack --loglevel=error --pack-destination "$work")
+  mkdir "$at"
+  cd "$at"
+  npm_config_offline=true npm_config_cache=$work/npm npm install --loglevel=error "$work"/verified-multihash-*.tgz
+  block_of "$here/README.md" html > page.html
+  cmp "$top/LICENSE" node_modules/verified-multihash/LICENSE
+  node --no-warnings --input-type=commonjs -e "
+    require('verified-multihash/package.json');
+    if (process.features.require_module) require('verified-multihash/inline').decode(Uint8Array.of(1, 0));
+    const compiled = new \
+      WebAssembly.Module(require('fs').readFileSync(require.resolve('verified-multihash/multihash.wasm')));
+    import('verified-multihash/module').then((found) => console.log(found.connect(compiled), \
+      found.decode(Uint8Array.of(2, 0)).code));
+    for (const name of ['', '/inline', '/hashes'])
+      import('verified-multihash' + name).then((found) => console.log(found.decode(Uint8Array.of(1, 0)).code));" |
+    sort | paste -sd ' ' | grep -x '1 1 1 undefined 2'
+}
+
+# The types of what is packed, which need none of pages.
+packed_types() {
+  local strict=(tsc --noEmit --strict --exactOptionalPropertyTypes --target es2022 --module nodenext
+    --moduleResolution nodenext)
+  cd "$work/elsewhere"
+  cp "$here/tests/types.ts" .
+  echo '{ "type": "module" }' > package.json
+  "${strict[@]}" --lib es2022,dom,dom.iterable types.ts
+  printf '%s\n' "export * from 'verified-multihash/module';" "// @ts-expect-error no types of pages are there" \
+    "export type Compiled = WebAssembly.Module;" > no_page.ts
+  "${strict[@]}" --lib es2022 no_page.ts
+  printf "export * from 'verified-multihash/%s';\n" inline module hashes > entries.ts
+  tsc --noEmit --strict --target es2022 --module es2022 --moduleResolution node entries.ts
+}
+
+# The page of README.md, over the unpacked package.
+packed_page() {
+  node "$here/tests/browser.js" "$1" "tests/page.html?shown=page.html&shown=code+18,+size+2" "$here" "$work/elsewhere"
+}
+
+test_browser() {
+  local name=$1 tools="$node $2"
+  needs=$tools try "in $name" node "$here/tests/browser.js" "$name" tests/page.html "$here" "$vectors"
+  needs=$tools try "the packed package's page in $name" packed_page "$name"
+}
+
+needs=wasm-validate try "the WebAssembly for old engines" old_module
+needs="$node npm" try "in Node.js" npm_test
+needs="$node npm" try "drawn inputs" drawn
+needs="$node npm" try "the page's installation" page_install
+ONLY='' needs="$node npm" try "the packed package" packed_script
+needs="$node npm tsc" try "the packed package's types" packed_types
+test_browser chromium chromium
+test_browser firefox firefox-esr
+test_browser webkit "WebKitWebDriver xvfb-run"
+finish

@@ -1,3 +1,135 @@
 #!/usr/bin/env bash
-# Tests the package for Python.
-exec "$(dirname "$0")/../bindings/python/test.sh"
+# Builds the sdist and the wheel of the package for Python, installs the wheel into a new virtual environment, and runs
+# all tests there: with the debug allocator, from the sdist, and under sanitizers. /usr/bin/python3 has headers,
+# _testcapi, build, setuptools, venv and wheel.
+# shellcheck source=checks/lib/tap.sh
+. "$(dirname "$0")/lib/tap.sh"
+here=$PWD/bindings/python
+require cc /usr/bin/python3 /usr/include/python3*/Python.h python:{_testcapi,build,ensurepip,setuptools,wheel}
+python=$work/venv/bin/python
+export MULTIHASH_VERDICTS=$PWD/crates/vectors/data/verdicts.tsv
+
+# The module has no warnings.
+warnings="-std=c89 -Wall -Wextra -Wshadow -Wconversion -Wsign-conversion -Werror"
+builds() { CC="cc $warnings" "$here/pack.sh" "$work/dist" "$(uname -m)"; }
+
+# Installs what is named without a network, in place of what was installed.
+installs() {
+  "$python" -m pip install --quiet --disable-pip-version-check --no-index --no-build-isolation --force-reinstall "$1"
+}
+
+# What is installed is imported, from the environment.
+imports() {
+  installs "$1"
+  cd "$work"
+  "$python" -c 'import verified_multihash as found; print(found.__version__, found.__file__)' |
+    grep "^[0-9.]* $work/venv/"
+}
+
+# The tests of a folder over what is installed, with variables that the other words set; for unittest no tests pass too.
+# No process may take more than that CPU time.
+unit_tests() {
+  cd "$work"
+  ulimit -t 600
+  env "${@:2}" "$python" -m unittest discover -s "$1" 2>&1 | tee "$work/tested"
+  grep '^Ran [1-9]' "$work/tested"
+}
+
+# A wheel has the licence of the repository, and states it.
+has_licence() {
+  diff LICENSE "$(find "$1" -name LICENSE)"
+  sed -nE 's/^License(-Expression)?: //p' "$1/METADATA" | diff - <(echo MIT)
+}
+
+# All tests of the wheel. CPython's debug allocator sees a write after a block.
+all_tests() {
+  grep -F .whl "$work"/venv/lib/python*/site-packages/verified_multihash-*/direct_url.json
+  unit_tests "$here/tests" PYTHONMALLOC=debug
+}
+
+# Inputs that are drawn have the results that verdicts.py computes.
+drawn() {
+  local -x MULTIHASH_VERDICTS=$work/drawn/verdicts.tsv
+  mkdir "$work/drawn"
+  crates/vectors/verdicts.py --draw 1 3000 > "$work/drawn/verdicts.tsv"
+  "$python" -m unittest discover -s "$here/tests" -k Vectors
+}
+
+# The CID that ipfs_cid, a command that Debian has, prints of a small file.
+same_cid() {
+  cd "$work"
+  echo hello > file
+  "$python" - << 'END' > cid
+import base64, pathlib
+from verified_multihash import hashes
+
+content = pathlib.Path("file").read_bytes()
+size = len(content)
+block = bytes([10, size + 6, 8, 2, 18, size]) + content + bytes([24, size])  # dag-pb, as IPFS has files
+multihash = bytes(hashes.digest(block, "sha2-256"))
+print("b" + base64.b32encode(b"\x01\x70" + multihash).decode().lower().rstrip("="))
+END
+  ipfs_cid file | grep -F "\"$(cat cid)\""
+}
+
+# The sdist is all that is needed: what is in the folders above it is not used.
+sdist() {
+  mkdir "$work/sdist"
+  tar xf "$work"/dist/*.tar.gz -C "$work/sdist" --strip-components=1
+  mkdir -p "$work/above/folder"
+  cp -r "$work/sdist" "$work/above/folder"
+  touch "$work/above/LICENSE"
+  imports "$work/above/folder/sdist"
+  cmp "$here/../../LICENSE" "$work/sdist/LICENSE"
+  unit_tests "$work/sdist/tests" -u MULTIHASH_VERDICTS
+}
+
+# The module, built with sanitizers, which the interpreter loads first.
+sanitize="-g -O1 -fsanitize=address,undefined -fno-sanitize-recover=all"
+under_sanitizers() {
+  CFLAGS=$sanitize installs "$1"
+  unit_tests "$here/tests" LD_PRELOAD="$(cc -print-file-name=libasan.so) $(cc -print-file-name=libubsan.so)" \
+    ASAN_OPTIONS=detect_leaks=0:allocator_may_return_null=1 PYTHONMALLOC=malloc
+}
+
+# A folder that was installed before is installed as it is now, also if a file is older than its build.
+built_before() {
+  local module=$work/sdist/src/verified_multihash/__init__.py
+  installs "$work/sdist"
+  echo 'later = True' >> "$module"
+  touch -d @315532800 "$module"
+  imports "$work/sdist"
+  "$python" -c 'from verified_multihash import later'
+}
+
+# The package is typed, and the module has the names of its stub. mypy accepts typed.py and the examples of README.md,
+# and rejects an example that shows a TypeError.
+types() {
+  local strict=(mypy --strict --cache-dir "$work/mypy" --python-executable "$python")
+  cd "$work"
+  python3 - "$here/README.md" > page.py << 'END'
+import doctest, sys
+
+for example in doctest.DocTestParser().get_examples(open(sys.argv[1]).read()):
+    is_wrong = (example.exc_msg or "").startswith("TypeError")
+    print(example.source.rstrip() + "  # type: ignore" * is_wrong)
+END
+  "${strict[@]}" -p verified_multihash
+  PYTHONPATH=$("$python" -c 'import sysconfig; print(sysconfig.get_path("purelib"))') \
+    stubtest verified_multihash._core
+  "${strict[@]}" "$here/tests/typed.py"
+  "${strict[@]}" page.py
+}
+
+ONLY='' try "the sdist and the wheel" builds
+ONLY='' try "an environment" /usr/bin/python3 -m venv --clear --system-site-packages "$work/venv"
+ONLY='' try "the wheel, installed" imports "$work"/dist/*.whl
+try "its licence" has_licence "$work"/venv/lib/python3*/site-packages/verified_multihash-*.dist-info
+try "the tests" all_tests
+try "drawn inputs" drawn
+needs=ipfs_cid try "the CID of a file" same_cid
+needs="mypy stubtest" try "types" types
+ONLY='' try "the sdist, installed" sdist
+try "sanitizers" under_sanitizers "$work/sdist"
+try "a folder that was built before" built_before
+finish

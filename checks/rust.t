@@ -62,31 +62,6 @@ on_target() {
     cargo test --target "$1" --tests
 }
 
-# The list on a target without std: as a library for a host, which prints the number of lines.
-without_host() {
-  local target=$1 type=$2 linker=() to=$work/target/$1/release
-  [ "$type" != cdylib ] || linker=(-C linker=wasm-ld)
-  in_crate multihash cargo build --release --no-default-features --target "$target"
-  MULTIHASH_VERDICTS=$work/list rustc --edition 2021 -D warnings -O --target "$target" bindings/rust/tests/target.rs \
-    --crate-type "$type" --extern multihash="$to/libmultihash.rlib" \
-    --extern verified_multihash="$(echo "$to"/deps/libverified_multihash-*.rlib)" -L "$to/deps" -C panic=abort \
-    -o "$work/vectors" "${linker[@]}"
-  "${@:3}" | diff - <(sed 1d "$work/list" | wc -l)
-}
-
-in_emulator() {
-  printf '%s\n' '#include <stdio.h>' 'unsigned check_vectors(void);' \
-    'int main(void) { printf("%u\n", check_vectors()); }' > "$work/host.c"
-  arm-linux-gnueabihf-gcc -static -Wl,--no-warn-mismatch -x c "$work/host.c" -x none "$work/vectors" -o "$work/host"
-  qemu-arm "$work/host"
-}
-
-in_node() {
-  node -e 'WebAssembly.instantiate(require("fs").readFileSync(process.argv[1]), { env: { abort() {
-    throw new Error("abort") } } }).then(({ instance }) => console.log(instance.exports.check_vectors()))' \
-    "$work/vectors"
-}
-
 test_targets() {
   local target system emulator
   for target in armv7-unknown-linux-gnueabihf s390x-unknown-linux-gnu; do
@@ -94,12 +69,10 @@ test_targets() {
     needs="$cargo $targets/$target/lib/libstd-*.rlib $system-gcc $emulator" try "the tests on $target" \
       on_target $target "$system-gcc" "$emulator"
   done
-  target=thumbv6m-none-eabi
-  needs="$bare $targets/$target/lib/libcore-*.rlib arm-linux-gnueabihf-gcc qemu-arm" try "the list on $target" \
-    without_host $target staticlib in_emulator
-  target=wasm32-unknown-unknown
-  needs="$bare $targets/$target/lib/libcore-*.rlib wasm-ld node" try "the list on $target" \
-    without_host $target cdylib in_node
+  for target in thumbv6m-none-eabi wasm32-unknown-unknown; do
+    needs="$bare $targets/$target/lib/libcore-*.rlib" try "a build for $target" \
+      in_crate multihash cargo build --no-default-features --target $target
+  done
 }
 
 # Each file has the code of its source without the lines that begin so, up to where their brackets are closed, and
@@ -155,25 +128,16 @@ rust_packed() {
   rejects "cannot be published" in_crate multihash cargo publish --dry-run # under the name of upstream's
 }
 
-# The line of the page replaces upstream's package in a whole dependency graph. An absent feature is an error.
+# The line of the page replaces upstream's package in a program. An absent feature is an error. Without features the
+# packages depend on nothing else.
 rust_switch() {
   local feature
   block_of bindings/rust/multihash/README.md toml | sed 's,path/of/bindings/rust,../..,' \
     >> "$work/rust/tests/program/Cargo.toml"
   prints_all "input bytes exceed maximum" tests/program cargo run
-  in_crate tests/program/library cargo build --no-default-features
   for feature in scale-codec arb; do
     rejects "multihash has no feature $feature here" in_crate multihash cargo build --features "$feature"
   done
-}
-
-# Bytes are no sequence of numbers for a format that has both. Without features the packages depend on nothing else.
-rust_serde() {
-  local example=$work/rust/multihash/examples
-  mkdir "$example"
-  cp bindings/rust/tests/bytes.rs "$example"
-  prints "got a byte array" in_crate multihash cargo run --features serde-codec --example bytes
-  rm -r "$example"
   prints_all "multihash\n└── verified-multihash" multihash cargo tree -e no-dev
   in_crate multihash cargo build --no-default-features --features serde-codec
 }
@@ -196,7 +160,6 @@ needs="$cargo $registry/cid-0.5* $registry/multihash-0.11* $registry/unsigned-va
 try "the proved source" only_removed
 needs=$cargo try "the packed packages" rust_packed
 needs=$bare try "the switch from upstream's package" rust_switch
-needs=$bare try "serde" rust_serde
 needs="$bare cargo-clippy" try "lints" rust_lints
 test_targets
 finish

@@ -17,6 +17,7 @@ COPIES = {
     "multihash_c/multihash.h": "bindings/c/include/multihash.h",
     "multihash_c/multihash_message.h": "bindings/c/include/multihash_message.h",
     "tests/hashes.tsv": "crates/vectors/data/hashes.tsv",
+    "tests/messages.tsv": "crates/vectors/data/messages.tsv",
     "tests/rows.tsv": "crates/mh_show/rows.tsv",
     "tests/values.tsv": "crates/vectors/data/values.tsv",
     "tests/verdicts.tsv": "crates/vectors/data/verdicts.tsv",

@@ -9,9 +9,8 @@ ulimit -c 0
 top=$PWD
 c=$top/bindings/c
 source=$c/src/multihash.c
-tests=("$c"/tests/{test,verdicts,models,inputs,messages}.c)
-list=$top/crates/vectors/data/verdicts.tsv
-values=$top/crates/vectors/data/values.tsv
+tests=("$c"/tests/{test,verdicts,models,inputs}.c)
+data=$top/crates/vectors/data
 # what Clang needs for sanitizers and the fuzzer
 clang_runtime=$(clang --rtlib=compiler-rt -print-libgcc-file-name 2> /dev/null || true)
 
@@ -21,9 +20,12 @@ exported() { cc -E -P "$c/include/multihash.h" | tr -s '\n ' ' ' | grep -oP '\w+
 # The program `$1`, which the remaining words build, passes for each line of the test vectors and for drawn inputs; `$2`
 # is a command that runs it, or empty.
 build_and_run() {
+  local list
   "${@:3}" -I "$c/include" -o "$work/$1"
   # shellcheck disable=SC2086
-  prints "$(($(wc -l < "$list") - 1)) lines, drawn: 20000" $2 "$work/$1" "$list" 1 20000
-  # shellcheck disable=SC2086
-  prints "$(($(wc -l < "$values") - 1)) lines" $2 "$work/$1" "$values" 0 0 vectors
+  prints "$(($(wc -l < "$data/verdicts.tsv") - 1)) lines, drawn: 20000" $2 "$work/$1" "$data/verdicts.tsv" 1 20000
+  for list in "$data"/{values,messages}.tsv; do
+    # shellcheck disable=SC2086
+    prints "$(($(wc -l < "$list") - 1)) lines" $2 "$work/$1" "$list" 0 0 vectors
+  done
 }

@@ -22,7 +22,7 @@ PACKED = (C, "bindings/c/src/README.md", f"{JS}/README.md", f"{PYTHON}/README.md
 # a source, what it declares, and the page that names it
 DECLARED = (
     (HEADER, r"^(?:static inline )?(?:const char \*|\w+ )(multihash_\w+)\(", C),
-    ("CMakeLists.txt", r"^#   ([A-Z_]+) ", "bindings/c/PACKAGING.md"),
+    ("CMakeLists.txt", r"^ *(?:option\(|set\((?=\w+ OFF CACHE))(\w+)", "bindings/c/PACKAGING.md"),
     (f"{JS}/index.d.ts", r"^export (?:function|class) (\w+)", f"{JS}/README.md"),
     (f"{JS}/hashes.d.ts", r"^export (?:function|const) (\w+)", f"{JS}/README.md"),
     (f"{RUST}/verified-multihash/Cargo.toml", r"^(std|alloc) =", VERIFIED),

@@ -5,7 +5,7 @@
 #   try NAME COMMAND..             a check
 #   needs="TOOL.." try ..          is left out without one of these tools, in the forms of is_there.sh
 #   ONLY='' try ..                 is run whatever ONLY is, since other checks need it
-#   require TOOL..                 all checks are left out without one of these
+#   require TOOL..                 the next checks are left out without one of these
 #   prints TEXT COMMAND..          in a check: the command ends with status 0, and prints the text
 #   rejects TEXT COMMAND..         it ends with another status
 #   finish                         the last line of the script: prints the plan, without which prove fails

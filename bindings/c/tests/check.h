@@ -31,11 +31,9 @@ void check_decodings(const uint8_t *bytes, size_t length, size_t limit);
 void check_many(const uint8_t *bytes, size_t length, size_t room);
 void check_encodings(uint64_t code, const uint8_t *digest, size_t length, size_t room);
 void check_length(uint64_t code, size_t length);
-void check_text(multihash_status status, size_t room);
 void check_input(uint64_t code, const uint8_t *bytes, size_t length, size_t limit);
 
-/* messages.c and verdicts.c */
-void check_messages(void);
+/* verdicts.c */
 void replay(const char *name);
 
 #endif

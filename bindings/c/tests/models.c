@@ -224,7 +224,7 @@ static void check_order(uint64_t code, const uint8_t *left, size_t left_length, 
 }
 
 /* The library writes the text that the header has, if it fits. */
-void check_text(multihash_status status, size_t room)
+static void check_text(multihash_status status, size_t room)
 {
     const char *text = multihash_status_text(status);
     size_t need = strlen(text), written = room < need ? 0 : need;

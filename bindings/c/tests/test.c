@@ -1,46 +1,10 @@
-/* The tests of the library: each function is compared with the models, over prefixes of encodings, every capacity, null
- * with length 0, the test vectors and random inputs, and messages with a table. C11 and C++17. Exits with status 1 at
- * the first error.
+/* The tests of the library: each function is compared with the models, over the test vectors, random inputs, streams and
+ * large buffers; and messages. C11 and C++17. Exits with status 1 at the first error.
  *
  *   test VECTORS SEED COUNT          runs all cases
  *   test VECTORS SEED COUNT CASE     runs one of them */
 #include "check.h"
-
-/* Each prefix of the longest encoding whose code and digest's length have that many bytes. */
-static void check_cuts(void)
-{
-    static const uint8_t digest[MULTIHASH_DIGEST_MAX] = {0};
-    uint8_t bytes[MULTIHASH_LENGTH_MAX];
-    for (unsigned bits = 7; bits <= 63; bits += 7) {
-        for (size_t size = 127; size <= 255; size += 128) {
-            uint64_t code = ((uint64_t)1 << bits) - 1;
-            size_t whole = multihash_encode(code, digest, size, bytes, sizeof bytes).length;
-            CHECK(multihash_from_bytes(bytes, whole).digest_length == size);
-            for (size_t length = 0; length <= whole; length++) {
-                uint8_t *input = copy_of(bytes, length);
-                check_decodings(input, length, length % 2 == 0 ? SIZE_MAX / 2 + 1 : size);
-                release(input);
-            }
-        }
-    }
-}
-
-/* Each capacity from 0 to more than is needed, and each error of an encoding before those of capacities. */
-static void check_capacities(void)
-{
-    static const uint64_t codes[] = {0,       127,     128,       16383,                   16384,
-                                     2097151, 2097152, INT64_MAX, (uint64_t)INT64_MAX + 1, UINT64_MAX};
-    static const size_t lengths[] = {0, 1, 32, 127, 128, 255, 256, 300};
-    uint8_t digest[300];
-    for (size_t i = 0; i < sizeof digest; i++) digest[i] = (uint8_t)(7 * i + 3);
-    for (size_t i = 0; i < sizeof codes / sizeof codes[0]; i++) {
-        for (size_t k = 0; k < sizeof lengths / sizeof lengths[0]; k++) {
-            uint8_t *exact = copy_of(digest, lengths[k]);
-            for (size_t room = 0; room <= 320; room++) check_encodings(codes[i], exact, lengths[k], room);
-            release(exact);
-        }
-    }
-}
+#include "multihash_message.h"
 
 /* Encodings one after another, of codes and digests of several lengths: all prefixes, with room for each number. */
 static void check_streams(void)
@@ -72,22 +36,12 @@ static void check_orders(void)
     }
 }
 
-static void check_lengths(void)
-{
-    for (size_t length = 0; length <= 600; length++) {
-        for (unsigned bits = 0; bits < 64; bits++) {
-            check_length(((uint64_t)1 << bits) - 1, length);
-            check_length((uint64_t)1 << bits, length);
-        }
-    }
-    check_length(0, SIZE_MAX);
-    check_encodings(0, (const uint8_t *)"", SIZE_MAX, 9); /* rejected without an access */
-}
-
-/* Buffers of more than 2^32 bytes, of which few are accessed. */
+/* A length that no buffer has, which is rejected without an access, and buffers of more than 2^32 bytes. */
 static void check_large(void)
 {
     static const uint8_t digest[] = {7};
+    check_length(0, SIZE_MAX);
+    check_encodings(0, digest, SIZE_MAX, 9);
     uint64_t length = ((uint64_t)1 << 32) + 300;
     size_t room = (size_t)length;
     uint8_t *bytes = sparse(length);
@@ -102,15 +56,6 @@ static void check_large(void)
     CHECK(multihash_compare(18, bytes + 1, room - 1, 18, bytes, room - 1) == -1);
 }
 
-static void check_texts(void)
-{
-    for (size_t room = 0; room <= 60; room++) {
-        for (multihash_status i = 0; i < 300; i++) check_text(i, room);
-        for (unsigned bits = 9; bits < 32; bits++) check_text((multihash_status)1 << bits, room);
-        check_text(UINT32_MAX, room);
-    }
-}
-
 static void check_version(void)
 {
     char text[32];
@@ -118,6 +63,65 @@ static void check_version(void)
     snprintf(text, sizeof text, "%u.%u.%u", number / 10000, number / 100 % 100, number % 100);
     CHECK(number == MULTIHASH_VERSION_NUMBER);
     CHECK(strcmp(text, MULTIHASH_VERSION) == 0);
+}
+
+static char message[MULTIHASH_MESSAGE_SIZE];
+
+/* Compares the message that was written, whose length was returned. */
+static void check_message_is(int length, const char *wanted)
+{
+    if (strcmp(message, wanted) != 0) fprintf(stderr, "found: %s\n", message);
+    CHECK(strcmp(message, wanted) == 0 && length == (int)strlen(wanted));
+}
+
+/* An encoding of a code and a digest of that length fails where `out` has that many bytes. */
+static void check_encode(multihash_encoded made, uint64_t code, size_t out_length, const char *wanted)
+{
+    CHECK(made.status != MULTIHASH_OK);
+    check_message_is(multihash_encode_message(message, sizeof message, made, code, out_length), wanted);
+}
+
+/* Messages that messages.tsv of crates/vectors does not have: of encodings, of what follows other multihashes, of longer
+ * inputs, and truncated ones. */
+static void check_messages(void)
+{
+    static const uint8_t digest[300] = {0}, ok[] = {0, 1, 7}, scale_ok[9] = {0};
+    const uint64_t large = (uint64_t)INT64_MAX + 1;
+    const size_t any = MULTIHASH_DIGEST_MAX;
+    volatile size_t short_size = 4; /* GCC warns of a constant that truncates */
+    uint8_t out[10];
+    multihash_item item;
+    check_encode(multihash_encode(18, digest, 300, out, 10), 18, 10, "the digest has 300 bytes, and the limit is 255");
+    check_encode(multihash_encode(large, digest, 32, out, 10), large, 10, "the code 9223372036854775808 is 2^63 or more");
+    check_encode(multihash_encode(18, digest, 32, out, 10), 18, 10, "the buffer has 10 bytes, and 34 are needed");
+    check_encode(multihash_scale_encode(18, digest, 32, out, 1), 18, 1, "the buffer has 1 byte, and 41 are needed");
+    check_encode(multihash_encoded_len(18, 256), 18, 0, "the digest has 256 bytes, and the limit is 255");
+    check_encode(multihash_put_status_text(MULTIHASH_OK, NULL, 0), 0, 0, "the buffer has 0 bytes, and 2 are needed");
+
+    /* what follows the items; a prefix of a longer input, which has the first bytes alone */
+    multihash_batch batch = multihash_read_many((const uint8_t *)"\0\1\7\x12\x20\7", 6, &item, 2);
+    CHECK(batch.status == MULTIHASH_UNEXPECTED_EOF && batch.taken == 3);
+    check_message_is(multihash_message(message, sizeof message, (const uint8_t *)"\x12\x20\7", 6 - batch.taken, any),
+                     "the input ends inside the digest (1 of 32 bytes)");
+    uint8_t *front = buffer(MULTIHASH_HEAD_MAX);
+    memset(front, 0xff, MULTIHASH_HEAD_MAX);
+    front[8] = front[17] = 0x7f;
+    CHECK(multihash_from_prefix(front, MULTIHASH_HEAD_MAX, 1000).size == INT64_MAX);
+    check_message_is(multihash_message(message, sizeof message, front, 1000, any),
+                     "the digest has 9223372036854775807 bytes, and the limit is 255");
+    release(front);
+    check_message_is(multihash_message(message, sizeof message, digest, 1000, any), "998 bytes follow the multihash");
+
+    /* a truncated message, as of snprintf, and what is no error */
+    CHECK(multihash_message(message, short_size, ok, 0, any) == 18 && strcmp(message, "the") == 0);
+    CHECK(multihash_message(NULL, 0, ok, 0, any) == 18);
+    check_message_is(multihash_message(message, sizeof message, ok, sizeof ok, any), "ok");
+    FILE *file = tmpfile();
+    CHECK(file != NULL && multihash_print_message(file, ok, 0, any) == 19);
+    rewind(file);
+    CHECK(fgets(message, sizeof message, file) != NULL && strcmp(message, "the input is empty\n") == 0);
+    fclose(file);
+    check_message_is(multihash_scale_message(message, sizeof message, scale_ok, sizeof scale_ok), "ok");
 }
 
 static char **words;
@@ -138,13 +142,9 @@ static const struct {
     const char *name;
     void (*run)(void);
 } cases[] = {
-    {"cuts", check_cuts},
-    {"capacities", check_capacities},
     {"streams", check_streams},
     {"orders", check_orders},
-    {"lengths", check_lengths},
     {"large", check_large},
-    {"texts", check_texts},
     {"version", check_version},
     {"messages", check_messages},
     {"vectors", check_vectors},

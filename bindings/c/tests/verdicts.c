@@ -1,5 +1,7 @@
-/* The test vectors, verdicts.tsv and values.tsv of crates/vectors: the library has the results of each line. */
+/* The test vectors: the library has the results of each line of verdicts.tsv, values.tsv and messages.tsv of
+ * crates/vectors. */
 #include "check.h"
+#include "multihash_message.h"
 
 #include <inttypes.h>
 
@@ -81,6 +83,26 @@ static void check_value(const char *const *column)
     check_encoded(multihash_scale_encode, code, digest, length, column[4]);
 }
 
+/* The call, a limit, an input, the status of its error, and the message. */
+static void check_message(const char *const *column)
+{
+    char message[MULTIHASH_MESSAGE_SIZE];
+    uint8_t bytes[MULTIHASH_HEAD_MAX];
+    int is_scale = strcmp(column[0], "scale_decode") == 0, is_read = strcmp(column[0], "read") == 0, written;
+    size_t limit = (size_t)strtoull(column[1], NULL, 10), length = parse_hex(column[2], bytes, sizeof bytes);
+    uint8_t *input = copy_of(bytes, length);
+    if (is_scale) {
+        check_word(multihash_scale_decode(input, length).status, column[3]);
+        written = multihash_scale_message(message, sizeof message, input, length);
+    } else {
+        if (is_read) check_word(multihash_read_limit(input, length, limit).status, column[3]);
+        if (limit == MULTIHASH_DIGEST_MAX) check_word(multihash_from_bytes(input, length).status, column[3]);
+        written = multihash_message(message, sizeof message, input, length, limit);
+    }
+    CHECK(strcmp(message, column[4]) == 0 && written == (int)strlen(message));
+    release(input);
+}
+
 /* The other calls than multihash_read_limit have the results for the capacity 255. Columns of other encodings may
  * follow. */
 static void check_line(char *text)
@@ -88,11 +110,11 @@ static void check_line(char *text)
     static uint8_t bytes[LINE_MAX_BYTES / 2];
     const char *column[7];
     int is_order = strncmp(text, "order\t", 6) == 0, is_value = strncmp(text, "value\t", 6) == 0;
-    int count = is_order || is_value ? 6 : 7;
+    int count = is_order || is_value || strncmp(text, "message\t", 8) == 0 ? 6 : 7;
     for (int i = 0; i < count; i++) column[i] = strtok(i == 0 ? text : NULL, "\t\n");
     CHECK(column[count - 1] != NULL);
     if (count == 6) {
-        (is_order ? check_order : check_value)(column + 1);
+        (is_order ? check_order : is_value ? check_value : check_message)(column + 1);
         return;
     }
     size_t limit = strtoul(column[0], NULL, 10), length = parse_hex(column[1], bytes, sizeof bytes);
@@ -102,7 +124,7 @@ static void check_line(char *text)
         check_result(multihash_from_bytes(input, length), input, column[4], "-");
         check_result(multihash_scale_decode(input, length), input, column[5], column[6]);
     }
-    check_decodings(input, length, limit);
+    check_decodings(input, length, limit > MULTIHASH_DIGEST_MAX ? SIZE_MAX / 2 + 1 : limit);
     release(input);
 }
 

@@ -1,5 +1,5 @@
-// Tests in Node.js and in a page, by their names: each gets the functions of an entry, the test vectors, the list of hash
-// functions, and the list of values.
+// Tests in Node.js and in a page, by their names: each gets the functions of an entry, the test vectors, and the lists
+// of hash functions, values and messages.
 import * as ofArguments from './arguments.js';
 import * as ofHashes from './hashes.js';
 import { streams } from './stream.js';

@@ -128,6 +128,11 @@ function rowOf([columns], line) {
   return Object.fromEntries(line.split('\t').map((word, at) => [names[at], word]));
 }
 
+export function rowsOf(text) {
+  const lines = text.trim().split('\n');
+  return lines.slice(1).map((line) => rowOf(lines, line));
+}
+
 /** Compares the results for the input of a line with it. */
 function checkLine(module, line, row, kind) {
   const { S, read, read_taken: readTaken, from_bytes: whole, scale_decode: scale, scale_taken: scaleTaken } = row;
@@ -169,7 +174,7 @@ function encoded(module, call, code, digest) {
     return hex(call(code, digest));
   } catch (error) {
     if (!(error instanceof module.MultihashError)) throw error;
-    return `${error.status} ${error.size ?? error.code}`;
+    return [error.status, error.size ?? [], error.code ?? []].flat().join(' ');
   }
 }
 
@@ -184,7 +189,8 @@ export function values(module, verdicts, hashes, text) {
     const { limit, code, digest: digits, encoding, scale } = rowOf(lines, line);
     const digest = unhex(digits);
     if (digest.length > Number(limit) && digest.length <= 255) continue;
-    same(encoded(module, module.encode, BigInt(code), digest), encoding, line);
+    for (const call of [module.encode, (code, digest) => module.Multihash.of(code, digest).bytes])
+      same(encoded(module, call, BigInt(code), digest), encoding, line);
     same(encoded(module, module.scaleEncode, BigInt(code), digest), scale, line);
   }
 }

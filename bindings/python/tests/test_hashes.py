@@ -13,45 +13,34 @@ HERE = Path(__file__).resolve().parent
 DATA = next(path for path in (HERE / "../../../crates/vectors/data", HERE) if path.exists())
 # code, name and digest of abc
 ROWS = [line.split("\t") for line in (DATA / "hashes.tsv").read_text("ascii").splitlines()[1:]]
-# published digests of abc by functions that some builds of hashlib have
-MORE = {
-    "dbl-sha2-256": "4f8b42c22dd3729b519ba6f68d2da7cc5b2d606d05daed5ad5128cc03e6c6358",
-    "md4": "a448017aaf21d8525fc10ae87aa6729d",
-    "ripemd-160": "8eb208f7e05d987a9b044a8e98c6b087f15a0bfc",
-    "sm3-256": "66c7f0f462eeedd9d1f2d46bdc10e4e24167c4875cf2f7a2297da02b8f4ba8e0",
-}
-# of the tests of the Rust crate multihash 0.11.4, which hashed
-THEIRS = {
-    "11147c8357577f51d4f0a8d393aa1aaafb28863d9421": b"beep boop",
-    "1220936a185caaa266bb9cbe981e9e05cb78cd732b0b3280eb944412bb6f8f8f07af": b"helloworld",
-    "1620644bcc7e564373040999aac89e7622f3ca71fba1d972fd94a31c3bfbf24e3938": b"hello world",
-}
+# functions that some builds of hashlib lack, by the names that they have there
+OPTIONAL = {
+    "keccak-256": "keccak_256", "md4": "md4", "md5": "md5", "ripemd-160": "ripemd160", "sm3-256": "sm3",
+    "sha2-512-224": "sha512_224", "sha2-512-256": "sha512_256",
+}  # fmt: skip
 
 
 class Hashes(unittest.TestCase):
     def test_list(self):
-        """Some builds of hashlib lack what it does not guarantee."""
-        theirs = {"sha2-512-224": "sha512_224", "sha2-512-256": "sha512_256", "md5": "md5"}
-        lacks = {name for name, their in theirs.items() if their not in hashlib.algorithms_available}
+        """A function is that of its row, or hashlib lacks it."""
         self.assertEqual(hashes.NAMES, {code: name for name, code in hashes.CODES.items()})
         for code, name, text in ROWS:
-            for data in (b"abc", bytearray(b"abc"), memoryview(b"abc")) if name not in lacks else ():
-                found = hashes.digest(data, name)
-                self.assertEqual((found.code, found.hexdigest()), (int(code, 16), text))
+            try:
+                found = hashes.digest(b"abc", name)
+            except ValueError:
+                self.assertRaises(ValueError, hashlib.new, OPTIONAL[name])
+                continue
+            self.assertEqual((found.code, found.hexdigest()), (int(code, 16), text))
+            for data in (b"abc", bytearray(b"abc"), memoryview(b"abc")):
+                self.assertEqual(hashes.digest(data, name), found)
                 self.assertIs(hashes.verify(found, data), True)
+                self.assertIs(hashes.verify(bytes(found), data), True)
                 self.assertIs(hashes.verify(bytes(found), bytes(data) + b"d"), False)
 
     def test_other_names(self):
-        """A function is that of the name, or is lacking."""
-        known = {**MORE, **{name: text for _, name, text in ROWS}}
-        for name in (name for name in hashes.CODES if name in known or not name.startswith("blake2")):
-            try:
-                self.assertEqual(hashes.digest(b"abc", name).hexdigest(), known.get(name))
-            except ValueError as error:
-                self.assertIn(name, str(error))
-                self.assertRaises(
-                    ValueError, hashlib.new, {"ripemd-160": "ripemd160", "sm3-256": "sm3"}.get(name, name)
-                )
+        for name in {*hashes.CODES} - {name for _, name, _ in ROWS}:
+            if not name.startswith("blake2"):
+                self.assertRaisesRegex(ValueError, name, hashes.digest, b"abc", name)
 
     def test_parts(self):
         """Data in parts, or read from a file in parts, have the multihash of the whole."""
@@ -85,7 +74,6 @@ class Hashes(unittest.TestCase):
         wrong = (right[:-1], right[:20], b"", right + b"\0", right[:-1] + bytes([right[-1] ^ 1]))
         self.assertFalse(any(hashes.verify(Multihash(0x12, other), b"abc") for other in wrong))
         self.assertFalse(hashes.verify(Multihash(0x11, right), b"abc"))
-        self.assertTrue(all(hashes.verify(bytes.fromhex(text), data) for text, data in THEIRS.items()))
         self.assertFalse(hashes.verify(Multihash(0, b"abc"), bytes(300)))
 
     def test_time(self):

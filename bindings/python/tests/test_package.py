@@ -53,20 +53,13 @@ def front_of(number):
 
 LONGEST = b"\xff" * 8 + b"\x7f"  # varint
 COROUTINES = Mock(**{"read.return_value": type("coroutine", (), {"__await__": None})()})
-# Words of what each wrong call says: its text alone has to be enough. The tests of the library for C have more inputs.
+# Words of what each wrong call says: its text alone has to be enough. messages.tsv has more inputs.
 TEXTS = [
-    (vm.decode, [b""], "input empty"),
     (vm.head, [b"\x12" + b"\xff" * 9], "digest's length nine"),
     (vm.head, [b"\x92\0\1"], "code minimal"),
-    (vm.decode, [LONGEST * 2], "digest 9223372036854775807 255"),
-    (vm.decode, [b"\x12\3ab"], "digest 2 3"),
     (vm.decode, [bytearray(1002)], "1000 bytes follow"),
-    (vm.read, [b"\x12\3abc", 2], "digest 3 2"),
-    (vm.read, [b"\x12\x80\2", 999], "digest 256 255"),
     (vm.read_from, [io.BytesIO(b"\x12\3abc"), 2], "digest 3 2"),
     (vm.read_from, [io.BytesIO(b"\x12\3ab")], "digest 2 3"),
-    (vm.scale_decode, [bytes(8) + b"\3ab"], "digest 2 3"),
-    (vm.scale_decode, [bytes(7) + b"\x80"], "code 9223372036854775808 2^63"),
     (vm.encoded_len, [18, 1 << 64], "digest 18446744073709551616 255"),
     (vm.encoded_len, [18, 10**5000], "digest %s 255" % front_of(10**5000)),
     (vm.encode, [10**4400, b""], "code %s 2^63" % front_of(10**4400)),

@@ -1,4 +1,4 @@
-"""The test vectors: decoded, read from files, encoded. MULTIHASH_VERDICTS is the path of the list."""
+"""The test vectors: decoded, read from files, encoded; messages. MULTIHASH_VERDICTS is the path of the list."""
 
 import io
 import itertools
@@ -50,6 +50,12 @@ def is_for_all(result, size):
     """Whether the result for that capacity is the result for 255 too."""
     word, _, rejected = result.partition(" ")
     return size >= 255 or word != "invalid_size" or int(rejected) > 255
+
+
+def rows_of(path):
+    """The words of each line by the names of their columns, which the first line has."""
+    columns, *lines = (line.split("\t") for line in path.read_text("ascii").splitlines())
+    return [dict(zip(columns, line)) for line in lines]
 
 
 class Vectors(unittest.TestCase):
@@ -111,10 +117,9 @@ class Vectors(unittest.TestCase):
 
     def test_list(self):
         """Each input is in one kind of buffer."""
-        columns, *lines = (line.split("\t") for line in LIST.read_text("ascii").splitlines())
-        for line, kind in zip(lines, itertools.cycle(KINDS)):
-            with self.subTest(line=line):
-                self.check_line(dict(zip(columns, line)), kind)
+        for row, kind in zip(rows_of(LIST), itertools.cycle(KINDS)):
+            with self.subTest(row=row):
+                self.check_line(row, kind)
 
 
 class Values(unittest.TestCase):
@@ -125,13 +130,12 @@ class Values(unittest.TestCase):
             found = "%s %d" % (error.status.name.lower(), error.size or error.code)
         self.assertEqual(found, wanted)
 
-    def check_line(self, columns, words):
-        if words[0] == "order":
-            code, digest, other_code, other, order = words[1:]
+    def check_line(self, row):
+        if row["kind"] == "order":
+            code, digest, other_code, other, order = list(row.values())[1:]
             left, right = vm.Multihash(int(code), bytes_of(digest)), vm.Multihash(int(other_code), bytes_of(other))
             self.assertEqual((vm.compare(left, right), left == right), (int(order), order == "0"))
             return
-        row = dict(zip(columns, words))
         code, digest = int(row["code"]), bytes_of(row["digest"])
         if len(digest) <= int(row["limit"]) or len(digest) > 255:  # the limit here is 255
             self.check_encoding(vm.encode, code, digest, row["encoding"])
@@ -139,7 +143,16 @@ class Values(unittest.TestCase):
 
     def test_list(self):
         """Encodings, errors of values, and how values compare."""
-        columns, *lines = (line.split("\t") for line in LIST.with_name("values.tsv").read_text("ascii").splitlines())
-        for line in lines:
-            with self.subTest(line=line):
-                self.check_line(columns, line)
+        for row in rows_of(LIST.with_name("values.tsv")):
+            with self.subTest(row=row):
+                self.check_line(row)
+
+
+class Messages(unittest.TestCase):
+    def test_list(self):
+        calls = {"from_bytes": lambda data, _: vm.decode(data), "scale_decode": lambda data, _: vm.scale_decode(data)}
+        for row in rows_of(LIST.with_name("messages.tsv")):
+            with self.assertRaises(MultihashError) as raised:
+                calls.get(row["call"], vm.read)(bytes_of(row["input"]), int(row["limit"]))
+            error = raised.exception
+            self.assertEqual((error.status.name.lower(), str(error)), (row["status"], row["message"]))

@@ -1,5 +1,9 @@
 //! Readers and writers, of `std` or `no_std_io`: short, interrupted, failing, panicking, and wrong ones.
+#[path = "../../verified-multihash/tests/support/slow.rs"]
+mod slow;
+
 use multihash::{Error, Multihash};
+use slow::{Event, Slow};
 use std::error::Error as _;
 use std::panic::{catch_unwind, AssertUnwindSafe};
 
@@ -14,44 +18,6 @@ const HAS_STD: bool = cfg!(feature = "std");
 const INSUFFICIENT: &str = if HAS_STD { "unexpected end of file" } else { "not enough input bytes" };
 const UNEXPECTED_EOF: &str = "failed to fill whole buffer";
 const NO_ROOM: &str = "failed to write whole buffer";
-
-type Event = fn() -> Result<usize, io::Error>;
-
-/// Reads or writes one byte per call, and once does something else, before the byte at `at`.
-struct Slow<T> {
-    bytes: T,
-    at: usize,
-    event: Event,
-}
-
-impl<T> Slow<T> {
-    fn next(&mut self) -> Option<Event> {
-        let is_event = self.at == 0;
-        self.at = self.at.wrapping_sub(1);
-        is_event.then_some(self.event)
-    }
-}
-
-impl Read for Slow<&[u8]> {
-    fn read(&mut self, out: &mut [u8]) -> Result<usize, io::Error> {
-        self.next().map_or_else(|| self.bytes.read(&mut out[..1]), |event| event())
-    }
-}
-
-impl Write for Slow<Vec<u8>> {
-    fn write(&mut self, bytes: &[u8]) -> Result<usize, io::Error> {
-        if let Some(event) = self.next() {
-            return event();
-        }
-        self.bytes.push(bytes[0]);
-        Ok(1)
-    }
-
-    #[cfg(feature = "std")]
-    fn flush(&mut self) -> io::Result<()> {
-        unreachable!("nothing flushes")
-    }
-}
 
 type Value = Multihash<200>;
 

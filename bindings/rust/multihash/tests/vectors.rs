@@ -9,7 +9,6 @@ use std::io;
 
 use io::{Error, Read};
 use multihash::Multihash;
-pub use support::check_line;
 use support::{check, check_value};
 
 fn same<const A: usize, const B: usize>(a: &Multihash<A>, b: &Multihash<B>) -> bool {

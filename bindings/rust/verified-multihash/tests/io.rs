@@ -1,41 +1,13 @@
 //! Readers and writers of `std::io` that are short, interrupted, end or fail, and the kinds of errors.
 #![cfg(feature = "std")]
-use std::io::{self, ErrorKind, Read, Write};
+#[path = "support/slow.rs"]
+mod slow;
+
+use slow::{Event, Slow};
+use std::io::{self, ErrorKind};
 use verified_multihash::{list, no_std_io, with_io, Error, Multihash};
 
 type Value = Multihash<200>;
-type Event = fn() -> io::Result<usize>;
-
-/// Reads or writes one byte per call, and before the byte at `at` it once does something else.
-struct Slow<T> {
-    bytes: T,
-    at: usize,
-    event: Event,
-}
-
-impl<T> Slow<T> {
-    fn next(&mut self) -> Option<io::Result<usize>> {
-        let is_event = self.at == 0;
-        self.at = self.at.wrapping_sub(1);
-        is_event.then(self.event)
-    }
-}
-
-impl Read for Slow<&[u8]> {
-    fn read(&mut self, out: &mut [u8]) -> io::Result<usize> {
-        self.next().unwrap_or_else(|| self.bytes.read(&mut out[..1]))
-    }
-}
-
-impl Write for Slow<Vec<u8>> {
-    fn write(&mut self, bytes: &[u8]) -> io::Result<usize> {
-        self.next().unwrap_or_else(|| self.bytes.write(&bytes[..1]))
-    }
-
-    fn flush(&mut self) -> io::Result<()> {
-        unreachable!("nothing flushes")
-    }
-}
 
 /// Reads and writes two encodings, with an event before each byte of the second, and calls `check` with the result.
 fn each_byte(event: Event, is_failure: bool, check: impl Fn(io::Result<()>, usize, bool)) {

@@ -1,5 +1,14 @@
+use multihash::Multihash;
+use serde::{Serialize, Serializer};
+
 fn main() {
-    assert_eq!(library::read(b"\x12\x03abc").unwrap(), multihash::Multihash::<64>::wrap(0x12, b"abc").unwrap());
     // upstream's package accepts a code of ten bytes
-    println!("{}", library::read(b"\xff\xff\xff\xff\xff\xff\xff\xff\xff\x01\x00").unwrap_err());
+    let code = b"\xff\xff\xff\xff\xff\xff\xff\xff\xff\x01\x00";
+    println!("{}", Multihash::<64>::read(&code[..]).unwrap_err());
+    // for a format that has sequences of numbers and no bytes
+    let mut json = serde_json::Serializer::new(Vec::new());
+    let mut map = json.serialize_map(None).unwrap();
+    let flat = serde::__private::ser::FlatMapSerializer(&mut map);
+    let error = Multihash::<4>::wrap(18, b"ab").unwrap().serialize(flat).unwrap_err();
+    assert!(error.to_string().contains("got a byte array"));
 }

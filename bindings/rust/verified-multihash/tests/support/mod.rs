@@ -1,19 +1,9 @@
-//! What the tests of both packages compare with the test vectors, without `std` but in tests. The module that includes this file has the
-//! package's types, and functions for what differs.
+//! What the tests of both packages compare with the test vectors. The module that includes this file has the package's
+//! types, and functions for what differs.
 use super::{Error, Multihash, Read};
-use core::fmt::{self, Display, Write as _};
-use core::hash::{Hash, Hasher};
-
-/// The text of a value.
-struct Text([u8; 64], usize);
-
-impl fmt::Write for Text {
-    fn write_str(&mut self, text: &str) -> fmt::Result {
-        self.0[self.1..][..text.len()].copy_from_slice(text.as_bytes());
-        self.1 += text.len();
-        Ok(())
-    }
-}
+use std::collections::hash_map::DefaultHasher;
+use std::fmt::Display;
+use std::hash::{Hash, Hasher};
 
 /// The texts of errors without a number.
 const ERRORS: [(&str, &str); 5] = [
@@ -26,9 +16,7 @@ const ERRORS: [(&str, &str); 5] = [
 
 /// Panics if an error is not that of a column.
 pub fn check_error(error: &impl Display, column: &str) {
-    let mut text = Text([0; 64], 0);
-    write!(text, "{error}").expect("a text");
-    let text = core::str::from_utf8(&text.0[..text.1]).expect("a text");
+    let text = &*error.to_string();
     let with_number = text.strip_prefix("Invalid multihash ").and_then(|text| text.strip_suffix('.'));
     let of_column = column.strip_prefix("invalid_");
     assert!(of_column.map_or(ERRORS.contains(&(column, text)), |number| with_number == Some(number)), "{text}");
@@ -40,24 +28,20 @@ pub fn check_result<const S: usize, E: Display>(result: &Result<Multihash<S>, E>
         Ok(found) => {
             let pair = column.strip_prefix("pair ").and_then(|pair| pair.split_once(' '));
             let (code, digits) = pair.expect("an error");
-            assert_eq!((code.parse(), bytes_of(digits, &mut [0; 1024])), (Ok(found.code()), found.digest()));
+            assert_eq!((code.parse(), &bytes_of(digits)[..]), (Ok(found.code()), found.digest()));
         }
         Err(error) => check_error(error, column),
     }
 }
 
 /// Reads hexadecimal digits, `-` if there are no bytes.
-pub fn bytes_of<'a>(digits: &str, buffer: &'a mut [u8; 1024]) -> &'a [u8] {
-    let digits = if digits == "-" { "" } else { digits };
-    for (at, byte) in buffer[..digits.len() / 2].iter_mut().enumerate() {
-        *byte = u8::from_str_radix(&digits[2 * at..2 * at + 2], 16).expect("hexadecimal");
-    }
-    &buffer[..digits.len() / 2]
+pub fn bytes_of(digits: &str) -> Vec<u8> {
+    let places = (0..digits.len() / 2).map(|at| 2 * at..2 * at + 2);
+    places.map(|at| u8::from_str_radix(&digits[at], 16).expect("hexadecimal")).collect()
 }
 
 fn hash_of(value: impl Hash) -> u64 {
-    #[allow(deprecated)] // no other hasher is in `core`
-    let mut hasher = core::hash::SipHasher::new();
+    let mut hasher = DefaultHasher::new();
     value.hash(&mut hasher);
     hasher.finish()
 }
@@ -118,7 +102,7 @@ fn check_found<const S: usize>(multihash: &Multihash<S>, encoding: &[u8]) {
 pub fn check_value<const S: usize>(code: u64, digest: &[u8], [encoding, _]: [&str; 2]) -> Option<Multihash<S>> {
     match Multihash::<S>::wrap(code, digest) {
         Ok(multihash) => {
-            check_found(&multihash, bytes_of(encoding, &mut [0; 1024]));
+            check_found(&multihash, &bytes_of(encoding));
             Some(multihash)
         }
         Err(error) => {
@@ -133,11 +117,11 @@ pub fn check_value<const S: usize>(code: u64, digest: &[u8], [encoding, _]: [&st
 fn check_order([code, digest, other_code, other, order]: [&str; 5]) {
     let order = order.parse::<i32>().expect("a number").cmp(&0);
     let [(a, longer), (b, other_longer)] = [(code, digest), (other_code, other)].map(|(code, digits)| {
-        let (code, mut buffer) = (code.parse().expect("a code"), [0xa5; 1024]);
-        let length = bytes_of(digits, &mut buffer).len();
-        let multihash = Multihash::<255>::wrap(code, &buffer[..length]).expect("it fits");
-        assert_eq!(hash_of(multihash), hash_of((code, &buffer[..length])));
-        (multihash, Multihash::<300>::wrap(code, &buffer[..255]).expect("it fits").truncate(length as u8))
+        let (code, digest) = (code.parse().expect("a code"), bytes_of(digits));
+        let multihash = Multihash::<255>::wrap(code, &digest).expect("it fits");
+        assert_eq!(hash_of(multihash), hash_of((code, &digest[..])));
+        let longer = [&digest[..], &[0xa5; 255]].concat();
+        (multihash, Multihash::<300>::wrap(code, &longer[..255]).expect("it fits").truncate(digest.len() as u8))
     });
     assert_eq!([a.cmp(&b), longer.cmp(&other_longer)], [order; 2]);
     assert_eq!(a.partial_cmp(&b), Some(order));
@@ -159,26 +143,24 @@ macro_rules! with_capacity {
 }
 
 /// Panics if a line of a list is not what the package finds.
-pub fn check_line(line: &str) {
+fn check_line(line: &str) {
     let mut columns = line.split('\t');
     let mut next = || columns.next().expect("a column");
-    let mut buffer = [0; 1024];
     match next() {
         "order" => check_order([(); 5].map(|()| next())),
         "value" => {
             let (capacity, code) = (next(), next().parse().expect("a code"));
-            let digest = bytes_of(next(), &mut buffer);
-            with_capacity!(capacity, check_value(code, digest, [next(), next()]))
+            let digest = bytes_of(next());
+            with_capacity!(capacity, check_value(code, &digest, [next(), next()]))
         }
         capacity => {
-            let input = bytes_of(next(), &mut buffer);
-            with_capacity!(capacity, check(input, [(); 5].map(|()| next())))
+            let input = bytes_of(next());
+            with_capacity!(capacity, check(&input, [(); 5].map(|()| next())))
         }
     }
 }
 
 /// Checks each line of the list that MULTIHASH_VERDICTS names, or of the list with this name beside it.
-#[cfg(test)]
 fn check_list(beside: Option<&str>, columns: &str) {
     let stored = concat!(env!("CARGO_MANIFEST_DIR"), "/../../../crates/vectors/data/verdicts.tsv");
     let path = std::path::PathBuf::from(std::env::var("MULTIHASH_VERDICTS").unwrap_or_else(|_| stored.into()));

@@ -1,5 +1,5 @@
-// The tests of an entry in Node.js: index.test.js, inline.test.js and module.test.js run them, each in a process of its
-// own. MULTIHASH_VERDICTS names the test vectors, if not those of the repository.
+// The tests in Node.js: all of index.js, and of the other entries how they load. MULTIHASH_VERDICTS names the test
+// vectors, if not those of the repository.
 import { createReadStream, readFileSync } from 'node:fs';
 import { dirname, join } from 'node:path';
 import { Readable } from 'node:stream';
@@ -18,12 +18,11 @@ const vectors = process.env.MULTIHASH_VERDICTS ??
   fileURLToPath(new URL('../../../crates/vectors/data/verdicts.tsv', import.meta.url));
 
 /**
- * Evaluates a program and then an entry in a context that compiles no WebAssembly, like hosts at the edge.
- * Returns the entry's exports. A request has that response.
+ * Evaluates a program and then an entry in a context of its own, which compiles no WebAssembly, like hosts at the edge,
+ * unless that is wanted. Returns the entry's exports.
  */
-async function inContext(name, program = '', response = undefined, globals = {}) {
-  const context = createContext({ atob, TextDecoder, URL, fetch: async () => response, ...globals },
-    { codeGeneration: { strings: false, wasm: false } });
+async function inContext(name, program = '', globals = {}, wasm = false) {
+  const context = createContext({ atob, TextDecoder, URL, ...globals }, { codeGeneration: { strings: false, wasm } });
   runInContext(program, context);
   const initializeImportMeta = (meta) => (meta.url = `https://localhost/${name}`);
   const files = {};
@@ -37,7 +36,8 @@ async function inContext(name, program = '', response = undefined, globals = {})
 
 /** Where an engine lacks something, or forbids to compile, the error lists engines. */
 async function unfit() {
-  const response = { ok: true, arrayBuffer: async () => bytesOf('multihash.wasm') };
+  const responding = (response) => ({ fetch: async () => response });
+  const found = responding({ ok: true, arrayBuffer: async () => bytesOf('multihash.wasm') });
   const programs = [
     ['', 'CompileError'],
     ['delete globalThis.WebAssembly'],
@@ -46,12 +46,12 @@ async function unfit() {
   ];
   for (const [program, cause] of programs) {
     for (const name of ['inline.js', 'index.js']) {
-      const error = await inContext(name, program, response).catch((error) => error);
+      const error = await inContext(name, program, found).catch((error) => error);
       same(error.cause?.name, cause, `${name} ${program}`);
       says(error.message, 'WebAssembly BigInt Node.js Chrome Edge Firefox Safari', `${name} ${program}`);
     }
   }
-  const error = await inContext('index.js', '', { ok: false, status: 500 }).catch((error) => error);
+  const error = await inContext('index.js', '', responding({ ok: false, status: 500 })).catch((error) => error);
   same(error.message, 'https://localhost/multihash.wasm: status 500', 'a module that is missing');
 }
 
@@ -74,9 +74,7 @@ async function compiledBefore() {
 
 /** Without node:crypto content is hashed by WebCrypto, which pages lack without HTTPS. */
 async function webCrypto(text) {
-  const entries = [{}, { crypto, ArrayBuffer, Blob }].map((globals) => inContext('module.js', '', undefined, globals));
-  const [without, entry] = await Promise.all(entries);
-  for (const each of [without, entry]) each.connect(new Module(bytesOf('multihash.wasm')));
+  const [without, entry] = [await connected(), await connected({ crypto, ArrayBuffer, Blob })];
   says(await told(without.sha256.digest(new Uint8Array())), 'TypeError WebCrypto HTTPS', 'without HTTPS');
   same(`${Object.keys(entry.hashers)}`, 'identity,sha1,sha2-256,sha2-512,sha2-384,dbl-sha2-256', 'of WebCrypto');
   for (const check of [hashes, hashStreams]) await check(entry, '', text);
@@ -169,27 +167,32 @@ function declared(module, which) {
   same(sideEffects.includes(`./${which}.js`), which !== 'module', `sideEffects: ${which}.js`);
 }
 
-/** Each entry compiles in its own way, if it does: index.js also in pages of Chrome before 115, with this error. */
-async function load(which, compiled) {
-  const other = which === 'inline' ? 'instantiate' : 'Module';
-  const before = WebAssembly[other];
-  WebAssembly[other] = function TooLarge() {
+/** index.js, in an engine that compiles nothing at once, as pages of Chrome before 115. */
+async function index() {
+  WebAssembly.Module = function TooLarge() {
     throw new RangeError('the module is too large to be compiled at once');
   };
-  const module = await import(`../${which}.js`);
-  if (compiled) module.connect(compiled);
-  WebAssembly[other] = before;
-  return module;
+  const entry = await import('../index.js');
+  WebAssembly.Module = Module;
+  return entry;
 }
 
-export async function run(which) {
-  const compiled = which === 'module' && new Module(bytesOf('multihash.wasm'));
-  const module = await load(which, compiled);
-  const beside = ['hashes.tsv', 'values.tsv'].map((name) => join(dirname(vectors), name));
-  const texts = [vectors, ...beside].map((path) => readFileSync(path, 'utf8'));
-  test('declared', () => declared(module, which));
-  if (compiled) for (const check of [compiledBefore, unfit, webCrypto]) test(check.name, () => check(texts[1]));
-  const ofIndex = which === 'index' ? [largeContent, nodeStreams, unreadStreams] : [];
-  for (const check of ofIndex) test(check.name, () => check(module));
-  for (const [name, check] of testsOf(which)) test(name, () => check(module, ...texts));
+/** inline.js, which awaits nothing. */
+const inline = () => inContext('inline.js', 'delete WebAssembly.instantiate', {}, true);
+
+/** module.js, where nothing is compiled. */
+async function connected(globals) {
+  const entry = await inContext('module.js', '', globals);
+  entry.connect(new Module(bytesOf('multihash.wasm')));
+  return entry;
+}
+
+const beside = ['hashes.tsv', 'values.tsv', 'messages.tsv'].map((name) => join(dirname(vectors), name));
+const texts = [vectors, ...beside].map((path) => readFileSync(path, 'utf8'));
+const entries = { index: await index(), inline: await inline(), module: await connected() };
+for (const check of [compiledBefore, unfit, webCrypto]) test(check.name, () => check(texts[1]));
+for (const check of [largeContent, nodeStreams, unreadStreams]) test(check.name, () => check(entries.index));
+for (const [which, module] of Object.entries(entries)) {
+  test(`declared, ${which}`, () => declared(module, which));
+  for (const [name, check] of testsOf(which)) test(`${name}, ${which}`, () => check(module, ...texts));
 }

@@ -1,3 +1,0 @@
-import { run } from './node.js';
-
-await run('inline');
