@@ -40,6 +40,21 @@ verify_example() {
   rejects "the content cannot be hashed" "$work/verify" 1201ba < "$work"
 }
 
+# The first programs of the page. The one that reads a file prints each multihash, also one that is cut where a part of
+# the file ends, and why the last is incomplete.
+page_programs() {
+  local name
+  block_of bindings/c/README.md c > "$work/hello.c"
+  sed -n '/^\/\/ lengths\.c/,/^```/{/^```/!p}' bindings/c/README.md > "$work/lengths.c"
+  for name in hello lengths; do
+    cc "${c_flags[@]}" "${sanitize[@]}" -I "$c/include" "$work/$name.c" "$source" -o "$work/$name"
+  done
+  prints "code 0, digest hello" "$work/hello"
+  { printf '\0\5hello%.0s' {1..1001}; printf '\22\1a%.0s' {1..40000}; } | "$work/lengths" | uniq -c |
+    diff <(printf '%7d %s\n' 1001 'identity 5' 40000 'sha2-256 1') -
+  rejects "the input ends inside the digest (2 of 3 bytes)" "$work/lengths" < <(printf '\0\5hello\22\3ab')
+}
+
 # In another folder than CMake was told.
 installs() {
   cmake -S . -B "$work/built" -DBUILD_TESTING=OFF
@@ -97,6 +112,7 @@ in_go() {
 needs=/usr/include/openssl/evp.h try "the examples" compile_examples
 try "the reader of a stream" stream_example
 needs=/usr/include/openssl/evp.h try "the example that hashes" verify_example
+try "the first programs of the page" page_programs
 ONLY='' try "a prefix" installs
 try "a project of CMake" by_find_package
 try "a folder of a project of CMake" by_subdirectory
