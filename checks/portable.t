@@ -26,6 +26,12 @@ has_no_extensions() {
     { grep -w '__[[:alnum:]_]*' || true; } | diff /dev/null -
 }
 
+# What such a compiler makes of it passes the tests.
+passes_without_extensions() {
+  cc "${c_flags[@]}" -O2 -U__GNUC__ -I "$c/include" -c "$source" -o "$work/other.o"
+  build_and_run other "" cc "${c_flags[@]}" -O2 "${tests[@]}" "$work/other.o"
+}
+
 # The tests on a machine, by a compiler and a command that runs its programs.
 on_machine() {
   needs="$needs $2-gcc $3" try "$1" \
@@ -34,6 +40,7 @@ on_machine() {
 
 needs="clang llvm-nm" try "objects without a C library" freestanding
 needs=clang try "other compilers" has_no_extensions
+try "other compilers, tests" passes_without_extensions
 needs="clang $clang_runtime" try "fuzzing" bindings/c/fuzz.sh
 on_machine "x86, 32 bits" i686-linux-gnu qemu-i386
 needs=--all on_machine riscv64 riscv64-linux-gnu qemu-riscv64
