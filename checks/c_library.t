@@ -73,6 +73,12 @@ has_no_extensions() {
     { grep -w '__[[:alnum:]_]*' || true; } | diff /dev/null -
 }
 
+# What such a compiler makes of it passes the tests.
+passes_without_extensions() {
+  cc "${c_flags[@]}" -O2 -U__GNUC__ -I "$c/include" -c "$source" -o "$work/other.o"
+  build_and_run other "" cc "${c_flags[@]}" -O2 "${tests[@]}" "$work/other.o"
+}
+
 # The tests on a machine, by a compiler and a command that runs its programs.
 on_machine() {
   needs="$needs $2-gcc $3" try "$1" \
@@ -83,6 +89,21 @@ on_machine() {
 compile_examples() {
   local each
   for each in "$c"/examples/*.c; do cc "${c_flags[@]}" -I "$c/include" -fsyntax-only "$each"; done
+}
+
+# The first programs of the page. The one that reads a file prints each multihash, also one that is cut where a part of
+# the file ends, and why the last is incomplete.
+page_programs() {
+  local name
+  block_of bindings/c/README.md c > "$work/hello.c"
+  sed -n '/^\/\/ lengths\.c/,/^```/{/^```/!p}' bindings/c/README.md > "$work/lengths.c"
+  for name in hello lengths; do
+    cc "${c_flags[@]}" "${sanitize[@]}" -I "$c/include" "$work/$name.c" "$source" -o "$work/$name"
+  done
+  prints "code 0, digest hello" "$work/hello"
+  { printf '\0\5hello%.0s' {1..1001}; printf '\22\1a%.0s' {1..40000}; } | "$work/lengths" | uniq -c |
+    diff <(printf '%7d %s\n' 1001 'identity 5' 40000 'sha2-256 1') -
+  rejects "the input ends inside the digest (2 of 3 bytes)" "$work/lengths" < <(printf '\0\5hello\22\3ab')
 }
 
 # The reader of a stream, over pipes that are cut at each byte.
@@ -115,12 +136,14 @@ test_compilers
 needs=objdump try "no state" keeps_no_state "$work/cc-2.o"
 needs="clang llvm-nm" try "objects without a C library" freestanding
 needs=clang try "other compilers" has_no_extensions
+try "other compilers, tests" passes_without_extensions
 needs="clang $clang_runtime" try "fuzzing" bindings/c/fuzz.sh
 on_machine "x86, 32 bits" i686-linux-gnu qemu-i386
 needs=--all on_machine riscv64 riscv64-linux-gnu qemu-riscv64
 on_machine "armhf, 32 bits" arm-linux-gnueabihf qemu-arm
 on_machine "s390x, big-endian" s390x-linux-gnu qemu-s390x
 needs=/usr/include/openssl/evp.h try "the examples" compile_examples
+try "the first programs of the page" page_programs
 try "the reader of a stream" stream_example
 needs=/usr/include/openssl/evp.h try "the example that hashes" verify_example
 try "the version that files state" tools/version.py --check
