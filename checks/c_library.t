@@ -96,7 +96,7 @@ compile_examples() {
 page_programs() {
   local name
   block_of bindings/c/README.md c > "$work/hello.c"
-  sed -n '/^\/\/ lengths\.c/,/^```/{/^```/!p}' bindings/c/README.md > "$work/lengths.c"
+  sed -n '/^\/\/ lengths\.c/,/^}$/p' bindings/c/README.md > "$work/lengths.c"
   for name in hello lengths; do
     cc "${c_flags[@]}" "${sanitize[@]}" -I "$c/include" "$work/$name.c" "$source" -o "$work/$name"
   done
