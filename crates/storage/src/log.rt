@@ -134,7 +134,7 @@ fn after_entry(bytes: &[u8]) -> Option<&[u8]>
 
 /// Returns the longest prefix of a log that is whole entries, each with the SHA2-256 multihash of its block:
 /// an entry with another hash function ends it. A log that was truncated or corrupted can be continued after
-/// that prefix. Each block is hashed once.
+/// that prefix.
 pub fn valid_prefix(bytes: &[u8]) -> &[u8]
     ensures { IsValidPrefix result.now bytes.now }
 {
