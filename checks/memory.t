@@ -23,7 +23,7 @@ FAILED = 'error: "an allocation failed"'
 FORMS = (rf"(.*\n)?{re.escape(FAILED)}\n(.*\n)?101", r"(.*\n)?test result: ok\n(.*\n)?0")
 # how many allocations each test makes
 TESTS = {
-    "allocating_forms_at_each_size": 26,
+    "allocating_forms_at_each_size": 48,
     "allocating_read_of_lists": 16,
     # 2 for the binary form, 2 for SCALE, 3 for a list
     "allocating_writes": 7,

@@ -27,7 +27,6 @@ DEFINITIONS = (TOP / "crates/multihash/specs/Varint.antt").read_text("utf-8")
 STORED = TOP / "crates/vectors/data/verdicts.tsv"
 COLUMNS = ("S", "input", "read", "read_taken", "from_bytes", "scale_decode", "scale_taken")
 VALUES, PAGE = STORED.with_name("values.tsv"), STORED.with_name("README.md")
-SHOWN = TOP / "crates/vectors/stdout"
 
 # The number of the first inputs, and the SHA-256 of these with their capacities, which no bound changes.
 FIRST, SHA256 = 6000, "fe8ecaa6eb54534e0a29677cf6481a9664bb035168e2ac3fde86d63c6488109c"
@@ -226,11 +225,6 @@ def page_of(stored: str) -> str:
     return re.sub(r"(?m)^(\d+)\t([0-9a-f]+)\t.*", lambda line: RULES.line(int(line[1]), bytes_of(line[2])), page)
 
 
-def shown_of(_: str) -> str:
-    """Makes what the program that replays the list prints."""
-    return f"{len(inputs_of(STORED.read_text('utf-8')))} lines\n"
-
-
 def error_of(path: Path, make: Callable[[str], str]) -> str:
     """Returns how the stored lines differ from those that are made."""
     stored = path.read_text("utf-8")
@@ -245,7 +239,7 @@ def error_of(path: Path, make: Callable[[str], str]) -> str:
 
 
 def main() -> int:
-    lists = {STORED: made_of, VALUES: values_of, PAGE: page_of, SHOWN: shown_of}
+    lists = {STORED: made_of, VALUES: values_of, PAGE: page_of}
     stored = STORED.read_text("utf-8")
     match sys.argv[1:]:
         case ["--write"]:

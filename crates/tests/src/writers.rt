@@ -38,25 +38,6 @@ fn expect_in_slices<const S: usize>(rt: &impl Abort, sample: &Sample<S>) {
     }
 }
 
-fn expect_each_in_slices<const S: usize>(rt: &impl Abort, alloc: Global)
-    requires { S < 2 ^ 16 }
-{
-    for sample in &expect_ok!(rt; samples::<S>(alloc, &Form::ALL, 0)) {
-        expect_in_slices(rt, sample);
-    }
-}
-
-#[test]
-fn each_length_is_written(rt: HostRuntime) {
-    expect_each_in_slices::<0>(&rt, rt.alloc());
-    expect_each_in_slices::<32>(&rt, rt.alloc());
-    expect_each_in_slices::<64>(&rt, rt.alloc());
-    expect_each_in_slices::<127>(&rt, rt.alloc());
-    expect_each_in_slices::<128>(&rt, rt.alloc());
-    expect_each_in_slices::<255>(&rt, rt.alloc());
-    expect_each_in_slices::<300>(&rt, rt.alloc());
-}
-
 // A borrowed writer has the trait's own `write_all`, which makes no call for no bytes.
 fn expect_calls<const S: usize>(rt: &impl Abort, alloc: Global, sample: &Sample<S>) {
     let whole = sample.items.len().saturating_mul(sample.form.writes());
@@ -72,22 +53,6 @@ fn expect_calls<const S: usize>(rt: &impl Abort, alloc: Global, sample: &Sample<
         check_eq!(rt; sample.writes(&mut drip, false).ok(), Some(sample.bytes.len()), most);
         check_eq!(rt; drip.held.as_slice(), sample.bytes.as_slice());
     }
-}
-
-fn expect_each_call<const S: usize>(rt: &impl Abort, alloc: Global, from: usize)
-    requires { S < 2 ^ 16 }
-{
-    for sample in &expect_ok!(rt; samples::<S>(alloc, &Form::ALL, from)) {
-        expect_calls(rt, alloc, sample);
-    }
-}
-
-#[test]
-fn each_length_makes_as_many_calls(rt: HostRuntime) {
-    expect_each_call::<32>(&rt, rt.alloc(), 20);
-    expect_each_call::<64>(&rt, rt.alloc(), 64);
-    expect_each_call::<255>(&rt, rt.alloc(), 0);
-    expect_each_call::<300>(&rt, rt.alloc(), 255);
 }
 
 fn borrowed_write<W: Write>(w: &mut W, buf: &[u8]) -> Result<usize, no_std_io::Error> {
@@ -150,19 +115,27 @@ fn expect_errors<const S: usize>(rt: &impl Abort, alloc: Global, sample: &Sample
     check_eq!(rt; sample.writes(&mut writer, false).ok(), Some(len), sample.form);
 }
 
-fn expect_each_error<const S: usize>(rt: &impl Abort, alloc: Global, from: usize)
+// In slices at each length, and the others from that length on.
+fn expect_each<const S: usize>(rt: &impl Abort, alloc: Global, from: usize)
     requires { S < 2 ^ 16 }
 {
-    for sample in &expect_ok!(rt; samples::<S>(alloc, &Form::ALL, from)) {
-        expect_errors(rt, alloc, sample);
+    for sample in &expect_ok!(rt; samples::<S>(alloc, &Form::ALL, 0)) {
+        expect_in_slices(rt, sample);
+        if sample.size >= from {
+            expect_calls(rt, alloc, sample);
+            expect_errors(rt, alloc, sample);
+        }
     }
 }
 
 #[test]
-fn each_length_fails_or_is_full(rt: HostRuntime) {
-    expect_each_error::<32>(&rt, rt.alloc(), 20);
-    expect_each_error::<64>(&rt, rt.alloc(), 64);
-    expect_each_error::<255>(&rt, rt.alloc(), 0);
-    expect_each_error::<300>(&rt, rt.alloc(), 255);
+fn each_length_is_written_or_fails(rt: HostRuntime) {
+    expect_each::<0>(&rt, rt.alloc(), 1);
+    expect_each::<32>(&rt, rt.alloc(), 20);
+    expect_each::<64>(&rt, rt.alloc(), 64);
+    expect_each::<127>(&rt, rt.alloc(), 128);
+    expect_each::<128>(&rt, rt.alloc(), 129);
+    expect_each::<255>(&rt, rt.alloc(), 0);
+    expect_each::<300>(&rt, rt.alloc(), 255);
     expect_errors(&rt, rt.alloc(), &expect_ok!(&rt; long_list(rt.alloc())));
 }

@@ -50,9 +50,6 @@ pub enum Form {
 impl Form {
     pub const ALL: [Form; 3] = [Form::Binary, Form::Scale, Form::List(2)];
 
-    /// Those of one pair.
-    pub const SINGLE: [Form; 2] = [Form::Binary, Form::Scale];
-
     /// The number of writes for a pair: the code and the size of a SCALE form are one.
     pub fn writes(self) -> usize {
         if matches!(self, Form::Scale) { 2 } else { 3 }

@@ -19,6 +19,20 @@ const KINDS: &str =
     "null true false 0 7 255 256 18446744073709551615 -1 -9223372036854775808 -0 0.5 1.0 1e300 \
     \"\" \"0\" [] [0] [[]] {} {\"0\":0}";
 
+const SHA256: &[u8] = &[
+    159, 228, 204, 198, 222, 22, 114, 79, 58, 48, 199, 232, 242, 84, 243, 198, 71, 25, 134, 172,
+    177, 248, 216, 207, 142, 150, 206, 42, 215, 219, 231, 251,
+];
+
+/// The text of what is made.
+pub fn print_json<const S: usize>(page: &mut Page, call: &str, m: &Multihash<S>) {
+    page.call(call);
+    if let Ok(value) = m.to_value(page.alloc) {
+        page.put(value);
+    }
+    page.end();
+}
+
 fn print_text<const S: usize>(page: &mut Page, text: &str)
     requires { S < 2 ^ 16 }
 {
@@ -47,8 +61,11 @@ fn long_array(alloc: Global) -> Result<Value, AllocError> {
     Ok(Value::Array(long))
 }
 
-pub fn print_json(page: &mut Page) {
+pub fn print_values(page: &mut Page) {
     page.heading("JSON values");
+    if let Ok(m) = Multihash::<32>::wrap(18, SHA256) {
+        print_json(page, "wrap::<32>(18, ..).to_value()", &m);
+    }
     for text in TEXTS.split(' ') {
         print_text::<32>(page, text);
     }

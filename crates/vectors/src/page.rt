@@ -1,8 +1,8 @@
 //! The page that is printed, and its notation.
 use multihash::{Error, Multihash};
 use std::alloc::Global;
-use std::fmt;
 use std::fmt::{Debug, Display, Write};
+use std::{fmt, io};
 
 /// Rows, each by this method of a page, with its arguments.
 macro_rules! rows {
@@ -55,6 +55,8 @@ fn count_equal(byte: u8, bytes: &[u8]) -> usize {
 pub struct Page {
     pub alloc: Global,
     text: String,
+    // The row at hand.
+    line: String,
     // The parts of the heading, the call or the answer at hand.
     parts: String,
     // The last answer of the row.
@@ -67,6 +69,7 @@ impl Page {
         Page {
             alloc,
             text: String::new(alloc),
+            line: String::new(alloc),
             parts: String::new(alloc),
             last: String::new(alloc),
             failed: false,
@@ -74,17 +77,11 @@ impl Page {
     }
 
     /// The text of the page.
-    pub fn finish(self) -> anyhow::Result<String> {
-        anyhow::ensure!(!self.failed, "out of memory");
+    pub fn finish(self) -> io::Result<String> {
+        if self.failed {
+            return Err(io::ErrorKind::OutOfMemory.into());
+        }
         Ok(self.text)
-    }
-
-    fn print(&mut self, text: &str) {
-        self.failed |= self.text.push_str(text).is_err();
-    }
-
-    fn print_parts(&mut self) {
-        self.failed |= self.text.push_str(&self.parts).is_err();
     }
 
     pub fn put(&mut self, part: impl Display + Drop) {
@@ -150,19 +147,16 @@ impl Page {
     /// The parts, and this last one, are a heading.
     pub fn heading(&mut self, part: &str) {
         self.put(part);
-        let start = if self.text.is_empty() { "# " } else { "\n# " };
-        self.print(start);
-        self.print_parts();
-        self.print("\n\n");
+        let start = if self.text.is_empty() { "" } else { "\n" };
+        self.failed |= write!(self.text, "{start}# {}\n\n", self.parts).is_err();
         self.parts.clear();
     }
 
     /// The parts, and this last one, are the call of a row.
     pub fn call(&mut self, part: &str) {
         self.put(part);
-        self.failed |= write!(self.text, "{:56}  ", self.parts).is_err();
+        self.failed |= write!(self.line, "{:56}  ", self.parts).is_err();
         self.parts.clear();
-        self.last.clear();
     }
 
     /// The parts are an answer. If it differs from the one before, it is printed after the way in which that call
@@ -170,23 +164,40 @@ impl Page {
     pub fn answer(&mut self, way: impl Display + Drop) {
         if self.parts != self.last {
             if !self.last.is_empty() {
-                self.failed |= write!(self.text, "{way}").is_err();
+                self.failed |= write!(self.line, "{way}").is_err();
             }
-            self.print_parts();
-            std::mem::swap(&mut self.parts, &mut self.last);
+            self.failed |= self.line.push_str(&self.parts).is_err();
+            self.expect();
         }
         self.parts.clear();
     }
 
-    /// The parts are no answer.
-    pub fn forget(&mut self) {
+    /// The parts are the answer that is expected next.
+    pub fn expect(&mut self) {
+        std::mem::swap(&mut self.parts, &mut self.last);
         self.parts.clear();
+    }
+
+    /// The parts are the last answer of a column.
+    pub fn column(&mut self) {
+        self.answer("");
+        self.failed |= self.line.push_str("\t").is_err();
+        self.last.clear();
     }
 
     /// The parts are the last answer of a row.
     pub fn end(&mut self) {
+        self.end_if_other("");
+    }
+
+    /// The same; the row is printed only if it differs from this one.
+    pub fn end_if_other(&mut self, row: &str) {
         self.answer("");
-        self.print("\n");
+        if self.line.as_str() != row {
+            self.failed |= write!(self.text, "{}\n", self.line).is_err();
+        }
+        self.line.clear();
+        self.last.clear();
     }
 
     pub fn row(&mut self, call: &str, answer: impl Display + Drop) {

@@ -8,8 +8,8 @@ use serde_json::Value;
 // A macro, since a test is no value.
 macro_rules! put_tests {
     ($page:expr, $e:expr; $($test:ident)+) => {
-        for (name, applies) in [$((concat!(" ", stringify!($test)), $e.$test())),+] {
-            $page.put(if applies { name } else { "" });
+        for (name, applies) in &[$((concat!(" ", stringify!($test)), $e.$test())),+] {
+            $page.put(if *applies { *name } else { "" });
         }
     };
 }

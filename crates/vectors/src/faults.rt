@@ -1,9 +1,8 @@
 //! Readers and writers that fail, are short or fill up, at each call.
 ghost use Rattle.std.specs.Prelude.{◌<◌};
 
-use crate::inputs::{Call, print_input};
 use crate::page::{Outcome, Page};
-use crate::streams::STREAM;
+use crate::streams::{Call, STREAM, print_input};
 use crate::values::value;
 use fakes::{Cuts, Drip, FailAt, FailWrite, OUT_OF_MEMORY, Silent};
 use multihash::list::write_list;
@@ -25,7 +24,7 @@ fn put_write<W: Write>(page: &mut Page, call: Call, w: &mut W) {
 
 fn put_failed_read(page: &mut Page, call: Call, input: &[u8], calls: usize, why: &'static str) {
     let mut reader = FailAt::new(Cuts::new(input, 1), calls, why);
-    call.put::<4, _>(page, &mut reader);
+    call.put(page, &mut reader);
     page.put_left(reader.cuts.left);
     page.answer("; ");
 }
@@ -40,18 +39,20 @@ fn print_reads(page: &mut Page, call: Call, input: &[u8]) {
         page.end();
     }
     let mut reader = FailAt::new(Cuts::new(input, 1), 0, "link down");
-    call.put::<4, _>(page, &mut reader);
-    page.forget();
-    page.call("at call 1, read again");
-    call.put::<4, _>(page, &mut reader);
+    page.call("at call 1, then again");
+    call.put(page, &mut reader);
+    page.answer("");
+    call.put(page, &mut reader);
     page.put_left(reader.cuts.left);
+    page.answer("; ");
     page.end();
     let mut silent = Silent(input);
     page.call("a reader of unknown input");
-    call.put::<4, _>(page, &mut silent);
+    call.put(page, &mut silent);
     page.put_left(silent.0);
     page.end();
-    print_input::<4>(page, call, input);
+    page.call("1 to 7 bytes a call");
+    print_input(page, call, input);
 }
 
 fn put_failed_write(page: &mut Page, call: Call, len: usize, calls: usize) {
@@ -111,7 +112,7 @@ fn print_faults_of(page: &mut Page, call: Call, (reads, writes): (&str, &str), i
     print_reads(page, call, input);
     page.put(writes);
     page.put(" of ");
-    call.put::<4, _>(page, &mut { input });
+    call.put(page, &mut { input });
     page.heading(", to writers that fail once, or have room for so many bytes");
     print_writes(page, call, input.len().saturating_sub(1));
 }

@@ -1,25 +1,90 @@
 //! Lists, readers and writers.
 ghost use Rattle.std.specs.Prelude.{◌<◌, ◌^◌};
 
-use crate::inputs::{Call, print_input};
 use crate::page::{Outcome, Page, rows};
 use crate::values::value;
 use fakes::{Cuts, Drip, FailAt};
-use multihash::Multihash;
-use multihash::list::write_list;
+use multihash::list::{read_list, write_list};
 use multihash::no_std_io::{Read, Write};
+use multihash::{Error, Multihash};
 
 /// The encodings of (0, "A") and (18, "B"), and a byte.
 pub const STREAM: [u8; 7] = [0, 1, 65, 18, 1, 66, 7];
 
+/// A call that reads, of capacity 4.
+#[derive(Clone, Copy)]
+pub enum Call {
+    Read,
+    ScaleDecode,
+    ReadList(usize),
+}
+
+impl Call {
+    /// Makes the call; its answer is the next part.
+    pub fn put<R: Read>(self, page: &mut Page, r: &mut R) {
+        match self {
+            Call::Read => page.put_found(Multihash::<4>::read(r)),
+            Call::ScaleDecode => page.put_found(Multihash::<4>::scale_decode(r)),
+            Call::ReadList(count) => {
+                let outcome = read_list::<4, _>(page.alloc, r, count);
+                put_list(page, outcome);
+            }
+        }
+    }
+}
+
+fn put_list<const S: usize>(page: &mut Page, outcome: Result<Vec<Multihash<S>>, Error>) {
+    match outcome {
+        Ok(list) => {
+            page.put(if list.is_empty() { "none" } else { "" });
+            let mut comma = "";
+            for m in &list {
+                page.put(comma);
+                page.put_pair(*m);
+                comma = ", ";
+            }
+        }
+        Err(e) => page.put(e),
+    }
+}
+
+/// From a slice, and by few bytes a call.
+pub fn print_input(page: &mut Page, call: Call, input: &[u8]) {
+    let mut left = input;
+    call.put(page, &mut left);
+    page.put_left(left);
+    page.answer("");
+    for most in 1..8 {
+        let mut cuts = Cuts::new(input, most);
+        call.put(page, &mut cuts);
+        page.put_left(cuts.left);
+        page.answer(format_args!("; from {most} byte a call: "));
+    }
+    page.end();
+}
+
+fn print_list(page: &mut Page, input: &[u8], count: usize) {
+    page.put("read_list::<4>(");
+    page.put_bytes(input);
+    page.put(", ");
+    page.put(count);
+    page.call(")");
+    print_input(page, Call::ReadList(count), input);
+}
+
 pub fn print_lists(page: &mut Page) {
     page.heading("Lists");
-    print_input::<4>(page, Call::ReadList(2), &STREAM);
-    print_input::<4>(page, Call::ReadList(3), &STREAM);
-    print_input::<4>(page, Call::ReadList(0), &[5]);
-    print_input::<1>(page, Call::ReadList(2), &[0, 1, 65, 0, 2, 66, 67]);
-    print_input::<4>(page, Call::ReadList(usize::MAX / 2), &STREAM);
-    print_input::<4>(page, Call::ReadList(usize::MAX), &STREAM);
+    print_list(page, &STREAM, 2);
+    print_list(page, &STREAM, 3);
+    print_list(page, &[5], 0);
+    print_list(page, &STREAM, usize::MAX / 2);
+    print_list(page, &STREAM, usize::MAX);
+    page.call("read_list::<1>([00 01 41 00 02 42 43], 2)");
+    let mut left = [0, 1, 65, 0, 2, 66, 67].as_slice();
+    let outcome = read_list::<1, _>(page.alloc, &mut left, 2);
+    put_list(page, outcome);
+    page.put_left(left);
+    page.end();
     let mut held = Vec::new(page.alloc);
     let outcome = Outcome(write_list(&[value::<4>(0, "A"), value(18, "B")], &mut held));
     let none = Outcome(write_list::<4, _>(&[], &mut [].as_mut_slice()));
@@ -59,6 +124,12 @@ pub fn print_readers(page: &mut Page) {
         "[].read_exact([])",
         Outcome([].as_slice().read_exact(&mut [])),
     );
+    let mut left = [0, 2, 9].as_slice();
+    let outcome = Multihash::<2>::read(&mut left);
+    page.found("read::<2>([00 02 09])", outcome, left);
+    let mut cuts = Cuts::new(&[0, 2, 9], 1);
+    let outcome = Multihash::<2>::read(&mut cuts);
+    page.found("  by one byte a call", outcome, cuts.left);
     let mut reader = FailAt::new(Cuts::new(&[0, 1, 65], 1), 1, "link down");
     let outcome = Multihash::<4>::read(&mut reader);
     page.found(

@@ -1,0 +1,322 @@
+//! The lists of test vectors: each line is made anew from its first columns. Input in parts, and as JSON, has to give
+//! the same result, and so has what a multihash is made to; a result that differs is printed after the others.
+ghost use Rattle.std.specs.Prelude.{◌<◌, ◌^◌};
+
+use crate::page::Page;
+use crate::values::compared;
+use fakes::Cuts;
+use multihash::no_std_io::Read;
+use multihash::{Error, Multihash};
+use serde_json::Value;
+use std::alloc::{AllocError, Global};
+
+#[derive(Clone, Copy)]
+enum Form {
+    Binary,
+    Scale,
+    Json,
+}
+
+const FORMS: [Form; 3] = [Form::Binary, Form::Scale, Form::Json];
+
+impl Form {
+    // A reader has no JSON.
+    fn read<const S: usize, R: Read>(self, r: &mut R) -> Result<Multihash<S>, Error>
+        requires { S < 2 ^ 16 }
+    {
+        match self {
+            Form::Scale => Multihash::scale_decode(r),
+            _ => Multihash::read(r),
+        }
+    }
+
+    // Made in this form, and read by another capacity.
+    fn through<const S: usize, const T: usize>(
+        self,
+        alloc: Global,
+        m: &Multihash<S>,
+    ) -> Result<Multihash<T>, Error>
+        requires { T < 2 ^ 16 }
+    {
+        match self {
+            Form::Binary => Multihash::from_bytes(&m.to_bytes(alloc)?),
+            Form::Scale => {
+                let mut bytes = Vec::new(alloc);
+                m.scale_encode(&mut bytes)?;
+                Multihash::scale_decode(&mut bytes.as_slice())
+            }
+            Form::Json => Multihash::from_value(&m.to_value(alloc)?),
+        }
+    }
+}
+
+fn put_hex(page: &mut Page, bytes: &[u8]) {
+    page.put(if bytes.is_empty() { "-" } else { "" });
+    for byte in bytes {
+        page.put(format_args!("{byte:02x}"));
+    }
+}
+
+fn kind_of(e: &Error) -> &'static str {
+    if e.is_insufficient() {
+        "insufficient"
+    } else if e.is_overflow() {
+        "overflow"
+    } else if e.is_not_minimal() {
+        "not_minimal"
+    } else if e.invalid_code().is_some() {
+        "invalid_code"
+    } else if e.invalid_size().is_some() {
+        "invalid_size"
+    } else {
+        "unexpected_eof"
+    }
+}
+
+fn put_error(page: &mut Page, e: &Error) {
+    page.put(kind_of(e));
+    if let Some(number) = e.invalid_size().or(e.invalid_code()) {
+        page.put(format_args!(" {number}"));
+    }
+}
+
+fn put_verdict<const S: usize>(page: &mut Page, found: &Result<Multihash<S>, Error>) {
+    match found {
+        Ok(m) => put_pair(page, m.code(), m.digest()),
+        Err(e) => put_error(page, e),
+    }
+}
+
+fn put_pair(page: &mut Page, code: u64, digest: &[u8]) {
+    page.put(format_args!("pair {code} "));
+    put_hex(page, digest);
+}
+
+fn is_incomplete<const S: usize>(found: &Result<Multihash<S>, Error>) -> bool {
+    matches!(found, Err(e) if e.is_incomplete())
+}
+
+// With the number of bytes that were consumed, unless more input can change the result.
+fn put_reading<const S: usize>(page: &mut Page, found: &Result<Multihash<S>, Error>, taken: usize) {
+    put_verdict(page, found);
+    if is_incomplete(found) {
+        page.put("\t-");
+    } else {
+        page.put(format_args!("\t{taken}"));
+    }
+}
+
+// Of a slice and of few bytes per call.
+fn put_readings<const S: usize>(page: &mut Page, form: Form, input: &[u8])
+    requires { S < 2 ^ 16 }
+{
+    let mut left = input;
+    let found = form.read::<S, _>(&mut left);
+    let taken = input.len().saturating_sub(left.len());
+    put_reading(page, &found, taken);
+    page.answer("");
+    for most in 1..8 {
+        let mut cuts = Cuts::new(input, most);
+        let found = form.read::<S, _>(&mut cuts);
+        put_reading(page, &found, input.len().saturating_sub(cuts.left.len()));
+        page.answer(format_args!(" or by {most} bytes "));
+    }
+    if !is_incomplete(&found) {
+        put_determined::<S>(page, form, input.get(..taken).unwrap_or(&[]));
+    }
+}
+
+fn joined(alloc: Global, front: &[u8], more: &[u8]) -> Result<Vec<u8>, AllocError> {
+    let mut bytes = front.to_vec(alloc)?;
+    bytes.extend_from_slice(more)?;
+    Ok(bytes)
+}
+
+const MORE: [&[u8]; 3] = [&[0], &[255], &[128, 128]];
+
+// These bytes determine the result, and fewer do not.
+fn put_determined<const S: usize>(page: &mut Page, form: Form, front: &[u8])
+    requires { S < 2 ^ 16 }
+{
+    for more in &MORE {
+        if let Ok(bytes) = joined(page.alloc, front, more) {
+            let mut left = bytes.as_slice();
+            let found = form.read::<S, _>(&mut left);
+            put_reading(page, &found, bytes.len().saturating_sub(left.len()));
+        }
+        page.answer(" or with more ");
+    }
+    if let Some((_, fewer)) = front.split_last() {
+        if !is_incomplete(&form.read::<S, _>(&mut { fewer })) {
+            page.put("the same");
+            page.answer(" or with fewer ");
+        }
+    }
+}
+
+fn json_of(alloc: Global, bytes: &[u8]) -> Result<Value, AllocError> {
+    let mut members = Vec::with_capacity(alloc, bytes.len())?;
+    for byte in bytes {
+        members.push(Value::from(*byte))?;
+    }
+    Ok(Value::Array(members))
+}
+
+fn put_results<const S: usize>(page: &mut Page, input: &[u8])
+    requires { S < 2 ^ 16 }
+{
+    put_readings::<S>(page, Form::Binary, input);
+    page.column();
+    put_verdict(page, &Multihash::<S>::from_bytes(input));
+    page.answer("");
+    if let Ok(value) = json_of(page.alloc, input) {
+        put_verdict(page, &Multihash::<S>::from_value(&value));
+    }
+    page.answer(" or from JSON ");
+    page.column();
+    put_readings::<S>(page, Form::Scale, input);
+}
+
+fn bytes_of(alloc: Global, digits: &str) -> Vec<u8> {
+    hex::decode(alloc, if digits == "-" { "" } else { digits }).unwrap_or(Vec::new(alloc))
+}
+
+fn print_verdict(page: &mut Page, line: &str) {
+    let mut columns = line.split('\t');
+    let size = columns.next().unwrap_or("");
+    let input = columns.next().unwrap_or("");
+    let bytes = bytes_of(page.alloc, input);
+    page.put(format_args!("{size}\t{input}"));
+    page.column();
+    match size {
+        "0" => put_results::<0>(page, &bytes),
+        "1" => put_results::<1>(page, &bytes),
+        "2" => put_results::<2>(page, &bytes),
+        "4" => put_results::<4>(page, &bytes),
+        "16" => put_results::<16>(page, &bytes),
+        "32" => put_results::<32>(page, &bytes),
+        "64" => put_results::<64>(page, &bytes),
+        "128" => put_results::<128>(page, &bytes),
+        "200" => put_results::<200>(page, &bytes),
+        "255" => put_results::<255>(page, &bytes),
+        "256" => put_results::<256>(page, &bytes),
+        "300" => put_results::<300>(page, &bytes),
+        _ => page.put("no such capacity"),
+    }
+    page.end_if_other(line);
+}
+
+// Through each two forms, read last by capacity 128.
+fn put_through<const S: usize>(page: &mut Page, m: &Multihash<S>)
+    requires { S < 2 ^ 16 }
+{
+    for form in &FORMS {
+        for last in &FORMS {
+            match form.through::<S, S>(page.alloc, m) {
+                Ok(again) => put_verdict(page, &last.through::<S, 128>(page.alloc, &again)),
+                Err(e) => page.put(e),
+            }
+            page.answer(" or by two forms ");
+        }
+    }
+}
+
+fn put_sized(page: &mut Page, bytes: &[u8], len: usize) {
+    put_hex(page, bytes);
+    page.put(if bytes.len() == len {
+        ""
+    } else {
+        " of another length"
+    });
+}
+
+fn put_forms<const S: usize>(page: &mut Page, m: &Multihash<S>) {
+    if let Ok(bytes) = m.to_bytes(page.alloc) {
+        put_sized(page, &bytes, m.encoded_len());
+    }
+    page.column();
+    let mut bytes = Vec::new(page.alloc);
+    let len = m.scale_encode(&mut bytes).unwrap_or(0);
+    put_sized(page, &bytes, len);
+}
+
+fn put_value<const S: usize>(page: &mut Page, code: u64, digest: &[u8])
+    requires { S < 2 ^ 16 }
+{
+    match Multihash::<S>::wrap(code, digest) {
+        Ok(m) => {
+            put_forms(page, &m);
+            page.answer("");
+            if digest.len() > 128 {
+                page.put(format_args!("invalid_size {}", digest.len()));
+            } else {
+                put_pair(page, code, digest);
+            }
+            page.expect();
+            put_through(page, &m);
+        }
+        Err(e) => {
+            put_error(page, &e);
+            page.column();
+            put_error(page, &e);
+        }
+    }
+}
+
+fn put_value_of(page: &mut Page, limit: &str, code: &str, digest: &str) {
+    page.put(format_args!("value\t{limit}\t{code}\t{digest}"));
+    page.column();
+    let bytes = bytes_of(page.alloc, digest);
+    let code = code.parse().unwrap_or(0);
+    match limit {
+        "2" => put_value::<2>(page, code, &bytes),
+        "4" => put_value::<4>(page, code, &bytes),
+        "32" => put_value::<32>(page, code, &bytes),
+        "64" => put_value::<64>(page, code, &bytes),
+        "128" => put_value::<128>(page, code, &bytes),
+        "255" => put_value::<255>(page, code, &bytes),
+        "300" => put_value::<300>(page, code, &bytes),
+        _ => page.put("no such capacity"),
+    }
+}
+
+fn value_of(alloc: Global, code: &str, digest: &str) -> Multihash<4> {
+    Multihash::wrap(code.parse().unwrap_or(0), &bytes_of(alloc, digest)).unwrap_or_default()
+}
+
+fn put_order(page: &mut Page, left: (&str, &str), right: (&str, &str)) {
+    page.put(format_args!("order\t{}\t{}\t{}\t{}", left.0, left.1, right.0, right.1));
+    page.column();
+    let left = value_of(page.alloc, left.0, left.1);
+    let right = value_of(page.alloc, right.0, right.1);
+    page.put(match compared(left, right) {
+        "Less" => "-1",
+        "Greater" => "1",
+        "Equal, ==, same hash" => "0",
+        other => other,
+    });
+}
+
+fn print_line(page: &mut Page, line: &str) {
+    let mut columns = line.split('\t');
+    let kind = columns.next().unwrap_or("");
+    let first = columns.next().unwrap_or("");
+    let second = columns.next().unwrap_or("");
+    let third = columns.next().unwrap_or("");
+    if kind == "order" {
+        put_order(page, (first, second), (third, columns.next().unwrap_or("")));
+    } else {
+        put_value_of(page, first, second, third);
+    }
+    page.end_if_other(line);
+}
+
+pub fn print_lines(page: &mut Page, verdicts: &str, values: &str) {
+    page.heading("Lines of test vectors with other results");
+    for line in verdicts.lines().skip(1) {
+        print_verdict(page, line);
+    }
+    for line in values.lines().skip(1) {
+        print_line(page, line);
+    }
+}
