@@ -1,11 +1,8 @@
 #!/usr/bin/env python3
 """Runs mh_show, in Rattle and in C, on each line of crates/mh_show/rows.tsv, and over streams that fail.
 
-The Rattle program is that which 'rt ci' built in the same run of .ci/run; otherwise it is built here. streams.c limits
-its calls, and makes one fail.
+The Rattle program is that which 'rt ci' built in the same run of .ci/run; otherwise it is built here.
 """
-import errno
-import itertools
 import re
 import subprocess
 import sys
@@ -13,8 +10,7 @@ import tempfile
 from collections.abc import Iterator
 from pathlib import Path
 
-LIB = Path(__file__).with_name("lib")
-sys.path.append(str(LIB))
+sys.path.append(str(Path(__file__).with_name("lib")))
 import tap
 
 TOP = tap.CRATES.parent
@@ -40,20 +36,6 @@ STREAMS = (
     ("mh_show <<< zz 2>&-", "1\n"),
     ("mh_show <<< zz > /dev/full", NOT_HEX),
 )
-TEN, LONG = "printf 1603aabbcc | mh_show", f"code 0\nsize 64\ndigest {128 * 'a'}\n0\n"
-SHOWN_TEN = "code 22\nsize 3\ndigest aabbcc\n0\n"
-# the same, with the variable of streams.c: the calls are as many as are needed, and one that fails is the last
-LIMITED = [
-    ("0 1 11 -1", TEN, SHOWN_TEN),
-    ("0 1 65537 -1", "mh_show < /dev/zero", NOT_READ),
-    ("1 1 29 -1", TEN, SHOWN_TEN),
-    ("1 999 1 -1", f"mh_show <<< 0040{128 * 'a'}", LONG),
-    ("2 1 25 -1", "mh_show <<< zz", NOT_HEX),
-    *((f"0 5 {calls} {error}", TEN, NOT_READ) for error in (errno.ENOTCONN, errno.EINTR) for calls in range(3)),
-]
-for failure in (0, errno.EINTR, errno.EIO):
-    LIMITED += [(f"1 10 0 {failure}", TEN, NOT_WRITTEN), (f"1 10 1 {failure}", TEN, "code 22\nsi" + NOT_WRITTEN)]
-    LIMITED += [(f"2 4 1 {failure}", "mh_show <<< zz", "mh_s1\n")]
 
 
 def rows() -> Iterator[list[str]]:
@@ -64,13 +46,6 @@ def rows() -> Iterator[list[str]]:
             yield text.replace(r"\n", "\n").replace(r"\r", "\r").split("\t")
 
 
-def shown(what: str, program: list[str], command: str, wanted: str) -> tap.Result:
-    """Returns what is wrong with a command of Bash, in which mh_show is that program."""
-    script = 'run=("$@"); mh_show() { "${run[@]}" "$@"; }; ulimit -t 120; { %s; } 2>&1; echo $?' % command
-    found = subprocess.check_output(["bash", "-c", script, "bash", *program]).decode()
-    return f"{what}, {command}", "" if found == wanted else f"{found!r}, and not {wanted!r}"
-
-
 def results(name: str, program: str) -> Iterator[tap.Result]:
     """Returns what is wrong with each run: what was found, and what is wanted."""
     for text, output, reason, status in rows():
@@ -79,20 +54,13 @@ def results(name: str, program: str) -> Iterator[tap.Result]:
         found = (ran.stdout.decode(), ran.stderr.decode(), str(ran.returncode))
         yield f"{name}, {len(text)} bytes {text[:40]!r}", "" if found == wanted else f"{found}, and not {wanted}"
     for command, written in STREAMS:
-        yield shown(name, [program], command, written)
-
-
-def limited(program: str, work: str) -> Iterator[tap.Result]:
-    """Returns what is wrong with each run whose calls are limited."""
-    library = f"{work}/streams.so"
-    subprocess.run(["cc", "-shared", "-fPIC", LIB / "streams.c", "-o", library], check=True)
-    for stream, command, written in LIMITED:
-        yield shown(stream, ["env", f"STREAM={stream}", f"LD_PRELOAD={library}", program], command, written)
+        words = ["bash", "-c", 'mh_show() { "$0" "$@"; }; ulimit -t 120; { %s; } 2>&1; echo $?' % command, program]
+        shown = subprocess.check_output(words).decode()
+        yield f"{name}, {command}", "" if shown == written else f"{shown!r}, and not {written!r}"
 
 
 if __name__ == "__main__":
     with tempfile.TemporaryDirectory() as work:
         subprocess.run([*CC.split(), "-o", f"{work}/mh_show"], cwd=TOP, check=True)
-        rattle = tap.program("mh_show")
-        found = results("C", f"{work}/mh_show"), results("Rattle", rattle), limited(rattle, work)
-        sys.exit(tap.report(itertools.chain(*found)))
+        programs = {"C": f"{work}/mh_show", "Rattle": tap.program("mh_show")}
+        sys.exit(tap.report(result for name, path in programs.items() for result in results(name, path)))

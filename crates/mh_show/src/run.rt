@@ -1,7 +1,10 @@
-//! What `main` does, over any input and outputs, so that it can be proved.
+//! What `main` does, over any input and outputs, so that it can be proved, and tested in memory.
 ghost use Rattle.std.specs.Prelude.{◌≡◌, ◌≤◌, ◌<◌, ◌⊎◌, length, take, IfOk, IfErr, OnOk, OnErr};
 ghost use Rattle.std.specs.Io.KnownBytes.{Appends, Consumes as ReadsKnown, IsAtEnd};
 ghost use Rattle.mh_show.specs.Run.{ReadsWhole, AppendsPrefixOf, ShowsInput, EndsRun, ReportsError};
+
+#[cfg(test)]
+mod tests;
 
 use crate::show::{ShowError, show};
 use std::alloc::{AllocError, Global};
