@@ -6,7 +6,6 @@ use Rattle.std.specs.Cmp.Rules.{comparing}
 use Rattle.std.specs.Cmp.Lexicographic.{slice_cmp, pointwise}
 use Rattle.std.specs.Ordering.{is_eq, nat_cmp, ordering_then}
 use Rattle.std.specs.declared.cmp.Ordering.TheVariants.{Less, Equal, Greater}
-use Rattle.std.proofs.lemmas.Cmp.{tied_itself}
 use Rattle.multihash.specs.Encoding.{IsEncoding}
 use Rattle.multihash.proofs.VarintLemmas.{varint_same}
 use Rattle.multihash.proofs.VarintWriteLemmas.{one_byte}
@@ -38,23 +37,9 @@ tie_exactly p q =
     let ties : equal_pairs p q ≡ is_eq (compare_pairs p q) = search (comparing, rules) depth 9 in
     subst (λ (b : Bool). IsTrue b ↔ (p ≡ q)) ties (equal_exactly p q)
 
--- the same, as a search states it
-pub tie_same : (p q : Pair) → (compare_pairs p q ≡ Equal) ↔ (p ≡ q)
-tie_same p q = ((λ tie. (tie_exactly p q).0 (ap is_eq tie)), λ same. rw same (tied_itself pairs_total q))
-
 -- so do digests
 pub tie_pointwise : (a b : List ℕ) → is_eq (slice_cmp nat_cmp a b) ≡ pointwise ◌==◌ a b
 tie_pointwise a b = search (comparing, rules) depth 9
-
--- no pair is less than itself
-pub pairs_irreflexive : (p : Pair) → ¬ (compare_pairs p p ≡ Less)
-pairs_irreflexive p less = let both : Equal ≡ Less = sym (tied_itself pairs_total p) ∙ less in cc
-
--- so keys of an ordered map that tie are one pair: by the parts, as tactics see a key
-pub same_key : (c d : ℕ) (x y : List ℕ) → is_eq (compare_pairs (record { code = c; digest = x }) (record { code = d; digest = y })) ≡ true → (c ≡ d) × (x ≡ y)
-same_key c d x y tie =
-    let same = (tie_exactly (record { code = c; digest = x }) (record { code = d; digest = y })).0 tie in
-    (ap (λ (p : Pair). p.code) same, ap (λ (p : Pair). p.digest) same)
 
 -- ---- the order of the encodings
 

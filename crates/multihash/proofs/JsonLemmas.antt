@@ -1,13 +1,12 @@
--- The JSON form: a list has one pair; its text; the bytes that an array's members are.
-use Rattle.std.proofs.Common.{◌≡◌, ℕ, ◌<◌, List, [], ◌∷◌, ◌++◌, map, refl, sym, ap, ◌∙◌, subst, ◌≤◌, Some, arith, zero, suc, true, false, length, take, drop, set, slice_index_or, is_some, Option, None, inl, inr}
-use Rattle.serde_json.specs.Data.{Data, number, unsigned, Items, items_depth, depth, negative, float, null, boolean, string, array, object}
+-- The JSON form: a list has one pair; the bytes that an array's members are.
+use Rattle.std.proofs.Common.{◌≡◌, ℕ, ◌<◌, List, [], ◌∷◌, ◌++◌, map, refl, sym, ap, ◌∙◌, subst, Some, arith, zero, suc, true, false, length, take, drop, set, slice_index_or, is_some, Option, None, inl, inr}
+use Rattle.serde_json.specs.Data.{Data, number, unsigned, Items, negative, float, null, boolean, string, array, object}
 use Rattle.serde_json.specs.View.{items_of, view, items_view}
 use Rattle.multihash.specs.Bytes.{IsBytes}
 use Rattle.multihash.specs.Pair.{Pair}
 use Rattle.multihash.specs.Encoding.{IsEncoding}
 use Rattle.multihash.specs.Json.{number_array, IsByteArray, IsJsonList}
 use Rattle.multihash.proofs.EncodingLemmas.{encoding_unique, encoding_bytes}
-use Rattle.serde_json.specs.Read.{max_depth, read}
 use Rattle.std.specs.List.{list_all}
 use Rattle.std.proofs.lemmas.Bool.{false≢true, and_parts, cases_lt, lt-ltb, le-ltb}
 use Rattle.std.proofs.lemmas.List.Sums.{AllPass-from_list_all}
@@ -41,18 +40,6 @@ json_bytes p d bytes h k =
 pub json_is_array : (p : Pair) (d : Data) → IsBytes p.digest → IsJsonList p d → (bytes : List ℕ) × IsByteArray d bytes
 json_is_array p d digest h =
     (h.encoding, record { array = h.lists; are_bytes = encoding_bytes p h.encoding digest h.encodes })
-
-flat : (ns : List ℕ) → items_depth (numbers ns) ≡ 0
-flat [] = refl
-flat (n ∷ ns) = rw (flat ns) refl
-
--- the printed text of a pair's list reads back as a list of the pair: the second fact is the contract of
--- `serde_json`
-pub list_reads_back : {p : Pair} {d : Data} (text : List ℕ) → IsJsonList p d → (depth d ≤ max_depth → read text ≡ Some d)
-    → (e : Data) × (read text ≡ Some e) × IsJsonList p e
-list_reads_back {d = d} text listed back =
-    let within : depth d ≤ max_depth = rw listed.lists (rw (flat listed.encoding) (omega arith)) in
-    (d, back within, listed)
 
 -- what is there, is a value
 pub some_value : (o : Option ℕ) → is_some o ≡ true → (b : ℕ) × (o ≡ Some b)

@@ -290,6 +290,3 @@ pub one_shortest : (S : ℕ) (x : List ℕ) (v : Verdict) → HasVerdict S x v �
 one_shortest S x v h late =
     let t = shortest_exists S x v h late in
     record { value = t.0; holds = t.1; only = λ other s. shortest_unique S x other t.0 s t.1 }
-
--- the laws of settling, for the tactics
-pub ruleset settling = (settles_exactly, one_shortest, none_settles)

@@ -69,15 +69,6 @@ none_settles S before after old new unsettled = IfSome_then old unsettled
       early rest (inr (inl short)) = inr (malformed insufficient, short, tt)
       early rest (inr (inr eof)) = inr (unexpected_eof, eof, tt)
 
-pub returns-clause-one : goal.returns-clause-one
-returns-clause-one g c = one_returned g.row.S _ _ _ c.read.result c.one_verdict.ensures.read_unique c.read.ensures.faults c.read.ensures.verdict
-
-pub returns-clause-unsettled : goal.returns-clause-unsettled
-returns-clause-unsettled g c = none_settles g.row.S _ _ _ _ c.read.ensures.unsettled
-
-pub returns-clause-settled : goal.returns-clause-settled
-returns-clause-settled g c = one_taken g.row.S _ _ _ _ c.settles.ensures.one_shortest c.read.ensures.settled
-
 -- a pair is the result exactly if its encoding is at the front and it fits
 returns_pair : (S : ℕ) (input : List ℕ) (r : Result (Fields S) Refusal) (v : Verdict) → HasVerdict S input v → IsResultOf r v
     → ((w : Verdict) → HasVerdict S input w → w ≡ v) → (p : Pair)
@@ -98,5 +89,10 @@ pair_returned : (S before after : ℕ) (old : Option (List ℕ)) (r : Result (Fi
 pair_returned S before after old r unique verdict = IfSome_then old verdict
     (λ rest found same p. let v = found same in returns_pair S rest r v.0 v.1 v.2 (λ w has. unique S rest w v.0 has v.1) p)
 
-pub returns-clause-canonical : goal.returns-clause-canonical
-returns-clause-canonical g c = pair_returned g.row.S _ _ _ c.read.result c.one_verdict.ensures.read_unique c.read.ensures.verdict
+pub returns : goal.returns
+returns g c = let read = c.read.ensures in record {
+  one = one_returned g.row.S _ _ _ c.read.result c.one_verdict.ensures.read_unique read.faults read.verdict;
+  canonical = pair_returned g.row.S _ _ _ c.read.result c.one_verdict.ensures.read_unique read.verdict;
+  settled = one_taken g.row.S _ _ _ _ c.settles.ensures.one_shortest read.settled;
+  unsettled = none_settles g.row.S _ _ _ _ read.unsettled;
+}

@@ -21,15 +21,10 @@ returns_pair S bytes (Err e) v has is_result only p = (
   λ is_ok. absurd is_ok,
 )
 
-pub returns-clause-one : goal.returns-clause-one
-returns-clause-one g c =
-    let v = c.from_bytes.ensures in (
-      record { value = v.0; holds = v.1; only = λ w has. c.one_verdict.ensures.whole_unique g.row.S c.args.bytes.now w v.0 has v.1 },
-      verdict_stated c.from_bytes.result v.0 v.2,
-    )
-
-pub returns-clause-canonical : goal.returns-clause-canonical
-returns-clause-canonical g c =
+pub returns : goal.returns
+returns g c =
     let v = c.from_bytes.ensures in
-    returns_pair g.row.S c.args.bytes.now c.from_bytes.result v.0 v.1 v.2
-    (λ w has. c.one_verdict.ensures.whole_unique g.row.S c.args.bytes.now w v.0 has v.1)
+    let only : (w : Verdict) → HasWholeVerdict g.row.S c.args.bytes.now w → w ≡ v.0 = λ w has. c.one_verdict.ensures.whole_unique g.row.S c.args.bytes.now w v.0 has v.1 in record {
+      one = (record { value = v.0; holds = v.1; only = only }, verdict_stated c.from_bytes.result v.0 v.2);
+      canonical = returns_pair g.row.S c.args.bytes.now c.from_bytes.result v.0 v.1 v.2 only;
+    }

@@ -1,24 +1,26 @@
-use Rattle.std.proofs.Common.{◌≡◌, ◌<◌, [], ◌∷◌, ◌++◌, length, map, inl, inr, arith, rules}
-use Rattle.std.proofs.lemmas.List.{length-map}
-use Rattle.multihash.specs.Multihash.{pair_of}
+use Rattle.std.proofs.Common.{◌≡◌, ◌<◌, ℕ, List, Option, ◌⊎◌, Result, IfErr, length, map, inl, inr, arith, ◌∙◌}
+use Rattle.std.specs.Result.{IsErrAnd}
+use Rattle.std.proofs.lemmas.List.{length-map, length_push}
+use Rattle.multihash.specs.Refusal.{Refusal, IsOutOfMemory}
+use Rattle.multihash.specs.Consuming.{ReadFails}
+use Rattle.multihash.specs.Streams.{ConsumesPairs, StopsAfterPairs}
+use Rattle.multihash.specs.Multihash.{Fields, pair_of}
 use Rattle.multihash.proofs.OutcomeLemmas.{passed_on}
 use Rattle.multihash.proofs.StreamLemmas.{ConsumesPairs-more}
 use Rattle.multihash.proofs.list.read_list.Goals as goal
 
+-- `read` failed after some pairs
+stopped : {A : Type 0} (S count : ℕ) (items : List (Fields S)) (r : Result A Refusal) (e : Refusal) (before between after : ℕ) (old mid new : Option (List ℕ))
+    → IsErrAnd r (λ x. x ≡ e) → length items < count → ConsumesPairs S (map pair_of items) old mid → between ≡ before → ReadFails S between after e mid new
+    → IfErr r (λ e. (IsOutOfMemory e × (after ≡ before) × (new ≡ old)) ⊎ StopsAfterPairs S count e before after old new)
+stopped S count items r e before between after old mid new passed few pairs unrisen failed =
+    passed_on r e _ _ passed
+    (inr (record { pairs = map pair_of items; following = mid; fewer = omega (arith, length-map items pair_of, few); consumed = pairs; failed = rw unrisen at failed }))
+
 pub returns-in_err-read-clause-err : goal.returns-in_err-read-clause-err
 returns-in_err-read-clause-err g c =
-    let before = c.loop.invariant in
-    let met = c.in_err-read.ensures in
-    let same = before.unfailed in
-    let fewer : length (map pair_of c.loop.list.items) < c.args.count = omega (arith, length-map c.loop.list.items pair_of, before.count, c.loop-test.true) in
-    passed_on c.from_residual-in_err-read.result _ _ _ c.from_residual-in_err-read.ensures.1
-    (inr (record {
-      pairs = map pair_of c.loop.list.items;
-      following = _;
-      fewer = fewer;
-      consumed = before.pairs;
-      failed = rw same at met;
-    }))
+    stopped g.row.S c.args.count c.loop.list.items _ _ _ _ _ _ _ _ c.from_residual-in_err-read.ensures.1
+    (omega (arith, c.loop.invariant.count, c.loop-test.true)) c.loop.invariant.pairs c.loop.invariant.unfailed c.in_err-read.ensures
 
 pub returns-in_err-read-clause-faults : goal.returns-in_err-read-clause-faults
 returns-in_err-read-clause-faults g c =
@@ -28,11 +30,21 @@ returns-in_err-read-clause-faults g c =
       | inr listed ↦ inr (listed.0, inl listed.1)
     ])
 
+pub returns-in_err-read-clause-capacity : goal.returns-in_err-read-clause-capacity
+returns-in_err-read-clause-capacity g c = passed_on _ _ _ _ c.from_residual-in_err-read.ensures.1 tt
+
+pub returns-in_err-read-clause-ok : goal.returns-in_err-read-clause-ok
+returns-in_err-read-clause-ok g c = passed_on _ _ _ _ c.from_residual-in_err-read.ensures.1 tt
+
 pub loop-preserved : goal.loop-preserved
 loop-preserved g c =
     let before = c.loop.invariant in
     let met = c.in_ok-read.ensures in
     let m = c.in_ok-read.field-0 in
-    let items : c.push_reserved.new.self.items ≡ c.loop.list.items ++ m ∷ [] = search rules in
-    let pairs = ConsumesPairs-more g.row.S c.loop.list.items m met.ok.0 _ _ _ before.pairs met.ok.1 met.fits met.ok.2 in
-    search rules
+    let pushed = c.push_reserved.ensures in record {
+      pairs = rw pushed.items (ConsumesPairs-more g.row.S c.loop.list.items m met.ok.0 _ _ _ before.pairs met.ok.1 met.fits met.ok.2);
+      count = rw pushed.items (omega (arith, length_push c.loop.list.items m, before.count));
+      room = omega (arith, pushed.capacity, before.room);
+      buffer = pushed.capacity ∙ before.buffer;
+      unfailed = met.faults ∙ before.unfailed;
+    }

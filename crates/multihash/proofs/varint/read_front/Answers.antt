@@ -1,14 +1,24 @@
-use Rattle.std.proofs.Common.{◌∙◌}
+use Rattle.std.proofs.Common.{◌∙◌, ◌++◌, ap, sym}
 use Rattle.std.proofs.lemmas.List.{take_rest}
 use Rattle.multihash.proofs.ReadingLemmas.{Consumes-cut}
 use Rattle.multihash.proofs.VarintLemmas.{number_unique, number_no_error}
 use Rattle.multihash.proofs.varint.read_front.Goals as goal
+
+pub returns-in-Some-clause-ok : goal.returns-in-Some-clause-ok
+returns-in-Some-clause-ok c =
+    let (bytes, is_found, consumes) = c.in-Some.ensures.some in
+    (bytes, is_found, Consumes-cut _ bytes _ consumes ∙ ap (λ l. bytes ++ l) (sym (take_rest c.args.bytes.now c.in-Some.len)))
 
 pub returns-in-Some-clause-found : goal.returns-in-Some-clause-found
 returns-in-Some-clause-found c n varint rest is cut =
     let (bytes, is_found, consumes) = c.in-Some.ensures.some in
     let same = number_unique c.args.bytes.now c.in-Some.n n _ rest (bytes, is_found, Consumes-cut _ bytes _ consumes) (varint, is, cut) in
     (same.0, take_rest c.args.bytes.now c.in-Some.len ∙ same.1)
+
+pub returns-in-Ok-clause-ok : goal.returns-in-Ok-clause-ok
+returns-in-Ok-clause-ok c =
+    let (bytes, is_found, consumes) = c.in-Ok.ensures.ok in
+    (bytes, is_found, Consumes-cut _ bytes _ consumes ∙ ap (λ l. bytes ++ l) (sym (take_rest c.args.bytes.now c.in-Ok.len)))
 
 pub returns-in-Ok-clause-found : goal.returns-in-Ok-clause-found
 returns-in-Ok-clause-found c n varint rest is cut =

@@ -1,4 +1,5 @@
-use Rattle.std.proofs.Common.{[], ◌∷◌, IfErr, refl}
+use Rattle.std.proofs.Common.{◌≡◌, [], ◌∷◌, IfErr, IfSome, refl}
+use Rattle.multihash.specs.Refusal.{IsFrontError}
 use Rattle.multihash.specs.Consuming.{ConsumesAtVarintError, none_is_insufficient}
 use Rattle.multihash.proofs.VarintReadLemmas.{none_read, reader_failed, input_ended}
 use Rattle.multihash.proofs.VarintWriteLemmas.{one_byte}
@@ -23,3 +24,10 @@ returns-then-first-lt128-clause-ok g c =
 
 pub returns-clause-ok : goal.returns-clause-ok
 returns-clause-ok g c = rw (rw c.in-Some.is at c.in_ok-first.ensures.byte) c.in_ok-read_after.ensures.ok
+
+pub returns-in_err-read_after-clause-front : goal.returns-in_err-read_after-clause-front
+returns-in_err-read_after-clause-front g c =
+    passed_err (λ r. IfSome (g.R.Read.rest c.args.r.now)
+    (λ input. g.R.Read.failures c.read_after.new.r ≡ g.R.Read.failures c.args.r.now → IfErr (none_is_insufficient r) (IsFrontError input)))
+    c.from_residual-in_err-read_after.result _ c.from_residual-in_err-read_after.ensures.1
+    (rw (rw c.in-Some.is at c.in_ok-first.ensures.byte, ← c.in_ok-first.ensures.faults) c.in_err-read_after.ensures.front)

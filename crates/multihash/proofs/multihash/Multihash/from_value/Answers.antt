@@ -5,7 +5,7 @@ use Rattle.multihash.specs.Verdict.{Verdict, accepted, invalid_size, HasWholeVer
 use Rattle.multihash.specs.Encoding.{IsEncoding}
 use Rattle.multihash.specs.Outcome.{IsResultOf}
 use Rattle.multihash.specs.Multihash.{pair_of}
-use Rattle.multihash.proofs.OutcomeLemmas.{passed_err}
+use Rattle.multihash.proofs.OutcomeLemmas.{passed_err, passed_on}
 use Rattle.multihash.proofs.JsonLemmas.{array_unique, length-member_bytes}
 use Rattle.multihash.proofs.VerdictLemmas.{whole_pair, whole_rejected}
 use Rattle.multihash.proofs.EncodingLemmas.{digest_fits}
@@ -19,6 +19,9 @@ returns-in_err-multihash-clause-verdict g c bytes h =
     rw (array_unique bytes listed (sym h.array ∙ c.in-Some.ensures.1.array))
     (passed_err (λ r. (w : Verdict) × HasWholeVerdict g.row.S listed w × IsResultOf r w) c.from_residual.result _ c.from_residual.ensures.1
     (whole_rejected g.row.S _ _ found.0 found.1 found.2))
+
+pub returns-in_err-multihash-clause-ok : goal.returns-in_err-multihash-clause-ok
+returns-in_err-multihash-clause-ok g c = passed_on _ _ _ _ c.from_residual.ensures.1 tt
 
 pub returns-then-not-is_empty-clause-verdict : goal.returns-then-not-is_empty-clause-verdict
 returns-then-not-is_empty-clause-verdict g c bytes h =
