@@ -1,1 +1,1 @@
-pub mod IdentifierLemmas
+pub mod PeerLemmas

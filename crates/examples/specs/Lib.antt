@@ -1,3 +1,2 @@
-pub mod ContentId
 pub mod Formats
 pub mod PeerId

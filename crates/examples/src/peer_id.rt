@@ -70,7 +70,7 @@ pub fn read_peer(bytes: &[u8]) -> Result<Multihash<42>, PeerError>
 }
 
 /// Bytes that are no identifier have one error.
-#[tactic(auto, using(crate::proofs::IdentifierLemmas::fails_once))]
+#[tactic(auto, using(crate::proofs::PeerLemmas::fails_once))]
 pub fn one_error()
     ensures { (bytes : List ℕ) (e f : PeerError) → PeerFails bytes e → PeerFails bytes f → e ≡ f }
 {}
