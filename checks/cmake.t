@@ -49,11 +49,15 @@ packs() {
   mv "$work/moved" "$prefix"
 }
 
-# They are well formed, and the first, which has the names of all functions, is linked from each.
+# They are well formed, and the first, which has the names of all functions and what the comments of the headers say, is
+# linked from each. Of the comments the words with capitals are compared: the first of each sentence, and constants.
 man_pages() {
   mandoc -T lint "$prefix"/share/man/{man3/multihash.3,man1/mh_show.1}
   diff <(sed -n 's/^\.Nm \(\w*\).*/\1/p' "$prefix/share/man/man3/multihash.3" | sort) \
     <(basename -s .3 -a "$prefix"/share/man/man3/* | sort)
+  cat "$c"/include/*.h | perl -0777 -ne 's{/\* SPDX.*?\*/}{}sg; print "$&\n" while m{/\*.*?\*/}sg' |
+    grep -oP '\w*[A-Z]\w*' | sort > "$work/words"
+  grep -oP '\w*[A-Z]\w*' "$prefix/share/man/man3/multihash.3" | sort | comm -23 "$work/words" - | diff /dev/null -
 }
 
 # A system has a shared library or not.
