@@ -142,12 +142,14 @@ by_subdirectory() {
     diff <(files_in lib | sed -E '/\/(bin|share)\/|\.so/d; s/-release/-noconfig/' | sort) -
 }
 
-# As the page says, over what find_package finds. It rejects another major version.
+# As the page says, over what find_package finds. It accepts a later minor version, and rejects another major one.
 by_find_package() {
   local to=$work/project
   block_of bindings/c/README.md cmake | sed -E 's/(.*::)shared(.*::)static$/\1${kind}\2/' |
     in_project "$to" -DCMAKE_PREFIX_PATH="$work/un packed built"
   grep -F 'multihash_c::${kind})' "$to/CMakeLists.txt"
+  sed -i "s/\"$version\"/\"$major.9.9\"/" "$work/un packed built/lib/cmake/multihash_c/multihash_c-config-version.cmake"
+  cmake -S "$to" -B "$to/shared"
   sed -i "s/(multihash_c [0-9.]*/(multihash_c $((major - 1)).9/" "$to/CMakeLists.txt"
   rejects "compatible with requested version" cmake -S "$to" -B "$to/shared"
 }
