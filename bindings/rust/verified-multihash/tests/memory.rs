@@ -2,7 +2,7 @@
 #![cfg(feature = "alloc")]
 use std::alloc::{GlobalAlloc, Layout, System};
 use std::cell::Cell;
-use verified_multihash::no_std_io::SliceWriter;
+use verified_multihash::no_std_io::{SliceWriter, Write};
 use verified_multihash::{list, Error, Multihash};
 
 thread_local! {
@@ -88,6 +88,8 @@ fn write() {
     assert_eq!(full, ENCODING[..2]);
     assert!(is_out_of_memory(with(0, || value().scale_encode(&mut full))));
     assert_eq!(full, ENCODING[..2]);
+    assert!(with(0, || full.write(b"abc")).is_err());
+    assert_eq!((full.write(b"abc").ok(), &full[2..]), (Some(3), &b"abc"[..]));
 }
 
 #[test]
