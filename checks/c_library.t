@@ -19,6 +19,11 @@ headers() {
   done
 }
 
+# The functions of a file, before a text, with the names of their parameters.
+named() {
+  tr -s '\n ' ' ' < "$1" | sed 's/multihash_status /uint32_t /g' | grep -oP "\w+ multihash_\w+\([^()]*\)(?=$2)" | sort
+}
+
 # The source, at each level of optimization.
 compiles() {
   local level
@@ -136,6 +141,7 @@ verify_example() {
 }
 
 test_compilers
+try "the header's names" diff <(named "$c/include/multihash.h" ';') <(named "$source" ' \{')
 needs=objdump try "no state" keeps_no_state "$work/cc-2.o"
 needs="clang llvm-nm" try "objects without a C library" freestanding
 needs=clang try "other compilers" has_no_extensions
