@@ -86,16 +86,18 @@ builds_for_windows() {
 }
 
 # Flags of a distribution reach the compiler, before those of the build type, and the linker, and hide no function of
-# the shared library. Without tests none are built, and without Python no man pages.
+# the shared library. Without tests none are built, and without Python no man pages. A folder may be outside the prefix.
 with_flags() {
   CFLAGS="-fvisibility=hidden -fno-pie -g3" LDFLAGS=-Wl,--build-id=0x01234567 cmake -S "$top" -B "$work/flags" \
-    -DCMAKE_EXE_LINKER_FLAGS=-no-pie -DBUILD_TESTING=OFF -DCMAKE_DISABLE_FIND_PACKAGE_Python3=ON
+    -DCMAKE_EXE_LINKER_FLAGS=-no-pie -DBUILD_TESTING=OFF -DCMAKE_DISABLE_FIND_PACKAGE_Python3=ON \
+    -DCMAKE_INSTALL_INCLUDEDIR="$work/headers"
   prints '-fvisibility=hidden -fno-pie -g3 -O3 -DNDEBUG ' cmake --build "$work/flags" --verbose
   exports_exactly "$work/flags/libmultihash_c.so" bindings/c/src/multihash_c.map
   prints 'Build ID: 01234567' readelf -n "$work/flags/libmultihash_c.so"
   rejects 'No tests were found' build flags
   cmake --install "$work/flags" --prefix "$work/no pages"
   [ ! -e "$work/no pages/$man/man3" ]
+  grep -x "includedir=$work/headers" "$work/no pages/lib/pkgconfig/multihash_c.pc"
 }
 
 # The variables that a project sets before it adds the repository count each time that it is configured.
