@@ -60,13 +60,15 @@ man_pages() {
   grep -oP '\w*[A-Z]\w*' "$prefix/share/man/man3/multihash.3" | sort | comm -23 "$work/words" - | diff /dev/null -
 }
 
-# A system has a shared library or not.
+# A system has a shared library or not. Without an operating system the library alone is built.
 systems() {
   local system shares target
   while read -r system shares target; do
     CC=clang cmake -S . -B "$work/$system" -DCMAKE_SYSTEM_NAME="$system" -DCMAKE_SYSTEM_PROCESSOR=any \
-      -DCMAKE_C_FLAGS="--target=$target" -DCMAKE_TRY_COMPILE_TARGET_TYPE=STATIC_LIBRARY
+      -DCMAKE_C_FLAGS="--target=$target -ffreestanding" -DCMAKE_TRY_COMPILE_TARGET_TYPE=STATIC_LIBRARY \
+      -DBUILD_TESTING=OFF
     grep -x "MULTIHASH_C_SHARED:BOOL=$shares" "$work/$system/CMakeCache.txt"
+    [ "$shares" = ON ] || cmake --build "$work/$system"
   done <<< $'Generic OFF x86_64-elf\nWindows ON x86_64-pc-windows-msvc\nDarwin ON arm64-apple-macos11'
 }
 
