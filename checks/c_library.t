@@ -134,6 +134,8 @@ verify_example() {
   done < <(sed 1d "$top/crates/vectors/data/hashes.tsv")
   hex=1220$(head -c 4097 "$source" | sha256sum | cut -c -64)
   prints "the same" "$work/verify" "$hex" < <(head -c 4097 "$source")
+  hex=${hex%?}$(printf %x $((0x${hex: -1} ^ 1))) # the last bit differs
+  rejects "another content" "$work/verify" "$hex" < <(head -c 4097 "$source")
   rejects "another content" "$work/verify" 1201ba < <(printf abc)
   rejects "the input ends inside the digest (1 of 32 bytes)" "$work/verify" 1220ba
   rejects "the content cannot be hashed" "$work/verify" 1201ba < "$work"
