@@ -12,11 +12,16 @@ require cc python3
 headers() {
   local header standard
   for header in "$c"/include/*.h; do
-    "$1" -std=c99 "${warnings[@]}" -x c -fsyntax-only -include "$header" /dev/null
+    "$1" -std=c99 "${warnings[@]}" -x c -fsyntax-only -include "$header" -include "$header" /dev/null
     for standard in c++11 c++20; do
       "$2" -std=$standard "${warnings[@]}" -x c++ -fsyntax-only -include "$header" /dev/null
     done
   done
+}
+
+# The functions of a file, before a text, with the names of their parameters.
+named() {
+  tr -s '\n ' ' ' < "$1" | sed 's/multihash_status /uint32_t /g' | grep -oP "\w+ multihash_\w+\([^()]*\)(?=$2)" | sort
 }
 
 # The source, at each level of optimization.
@@ -127,12 +132,18 @@ verify_example() {
       rejects "another content" "$work/verify" "$hex" <<< abc
     fi
   done < <(sed 1d "$top/crates/vectors/data/hashes.tsv")
+  hex=1220$(head -c 4097 "$source" | sha256sum | cut -c -64)
+  prints "the same" "$work/verify" "$hex" < <(head -c 4097 "$source")
+  hex=${hex%?}$(printf %x $((0x${hex: -1} ^ 1))) # the last bit differs
+  rejects "another content" "$work/verify" "$hex" < <(head -c 4097 "$source")
   rejects "another content" "$work/verify" 1201ba < <(printf abc)
   rejects "the input ends inside the digest (1 of 32 bytes)" "$work/verify" 1220ba
   rejects "the content cannot be hashed" "$work/verify" 1201ba < "$work"
+  rejects "usage: verify" "$work/verify" no
 }
 
 test_compilers
+try "the header's names" diff <(named "$c/include/multihash.h" ';') <(named "$source" ' \{')
 needs=objdump try "no state" keeps_no_state "$work/cc-2.o"
 needs="clang llvm-nm" try "objects without a C library" freestanding
 needs=clang try "other compilers" has_no_extensions

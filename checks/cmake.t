@@ -49,20 +49,26 @@ packs() {
   mv "$work/moved" "$prefix"
 }
 
-# They are well formed, and the first, which has the names of all functions, is linked from each.
+# They are well formed, and the first, which has the names of all functions and what the comments of the headers say, is
+# linked from each. Of the comments the words with capitals are compared: the first of each sentence, and constants.
 man_pages() {
   mandoc -T lint "$prefix"/share/man/{man3/multihash.3,man1/mh_show.1}
   diff <(sed -n 's/^\.Nm \(\w*\).*/\1/p' "$prefix/share/man/man3/multihash.3" | sort) \
     <(basename -s .3 -a "$prefix"/share/man/man3/* | sort)
+  cat "$c"/include/*.h | perl -0777 -ne 's{/\* SPDX.*?\*/}{}sg; print "$&\n" while m{/\*.*?\*/}sg' |
+    grep -oP '\w*[A-Z]\w*' | sort > "$work/words"
+  grep -oP '\w*[A-Z]\w*' "$prefix/share/man/man3/multihash.3" | sort | comm -23 "$work/words" - | diff /dev/null -
 }
 
-# A system has a shared library or not.
+# A system has a shared library or not. Without an operating system the library alone is built.
 systems() {
   local system shares target
   while read -r system shares target; do
     CC=clang cmake -S . -B "$work/$system" -DCMAKE_SYSTEM_NAME="$system" -DCMAKE_SYSTEM_PROCESSOR=any \
-      -DCMAKE_C_FLAGS="--target=$target" -DCMAKE_TRY_COMPILE_TARGET_TYPE=STATIC_LIBRARY
+      -DCMAKE_C_FLAGS="--target=$target -ffreestanding" -DCMAKE_TRY_COMPILE_TARGET_TYPE=STATIC_LIBRARY \
+      -DBUILD_TESTING=OFF
     grep -x "MULTIHASH_C_SHARED:BOOL=$shares" "$work/$system/CMakeCache.txt"
+    [ "$shares" = ON ] || cmake --build "$work/$system"
   done <<< $'Generic OFF x86_64-elf\nWindows ON x86_64-pc-windows-msvc\nDarwin ON arm64-apple-macos11'
 }
 
@@ -82,16 +88,18 @@ builds_for_windows() {
 }
 
 # Flags of a distribution reach the compiler, before those of the build type, and the linker, and hide no function of
-# the shared library. Without tests none are built, and without Python no man pages.
+# the shared library. Without tests none are built, and without Python no man pages. A folder may be outside the prefix.
 with_flags() {
   CFLAGS="-fvisibility=hidden -fno-pie -g3" LDFLAGS=-Wl,--build-id=0x01234567 cmake -S "$top" -B "$work/flags" \
-    -DCMAKE_EXE_LINKER_FLAGS=-no-pie -DBUILD_TESTING=OFF -DCMAKE_DISABLE_FIND_PACKAGE_Python3=ON
+    -DCMAKE_EXE_LINKER_FLAGS=-no-pie -DBUILD_TESTING=OFF -DCMAKE_DISABLE_FIND_PACKAGE_Python3=ON \
+    -DCMAKE_INSTALL_INCLUDEDIR="$work/headers"
   prints '-fvisibility=hidden -fno-pie -g3 -O3 -DNDEBUG ' cmake --build "$work/flags" --verbose
   exports_exactly "$work/flags/libmultihash_c.so" bindings/c/src/multihash_c.map
   prints 'Build ID: 01234567' readelf -n "$work/flags/libmultihash_c.so"
   rejects 'No tests were found' build flags
   cmake --install "$work/flags" --prefix "$work/no pages"
   [ ! -e "$work/no pages/$man/man3" ]
+  grep -x "includedir=$work/headers" "$work/no pages/lib/pkgconfig/multihash_c.pc"
 }
 
 # The variables that a project sets before it adds the repository count each time that it is configured.
@@ -138,12 +146,14 @@ by_subdirectory() {
     diff <(files_in lib | sed -E '/\/(bin|share)\/|\.so/d; s/-release/-noconfig/' | sort) -
 }
 
-# As the page says, over what find_package finds. It rejects another major version.
+# As the page says, over what find_package finds. It accepts a later minor version, and rejects another major one.
 by_find_package() {
   local to=$work/project
   block_of bindings/c/README.md cmake | sed -E 's/(.*::)shared(.*::)static$/\1${kind}\2/' |
     in_project "$to" -DCMAKE_PREFIX_PATH="$work/un packed built"
   grep -F 'multihash_c::${kind})' "$to/CMakeLists.txt"
+  sed -i "s/\"$version\"/\"$major.9.9\"/" "$work/un packed built/lib/cmake/multihash_c/multihash_c-config-version.cmake"
+  cmake -S "$to" -B "$to/shared"
   sed -i "s/(multihash_c [0-9.]*/(multihash_c $((major - 1)).9/" "$to/CMakeLists.txt"
   rejects "compatible with requested version" cmake -S "$to" -B "$to/shared"
 }

@@ -129,7 +129,7 @@ rust_packed() {
 }
 
 # The line of the page replaces upstream's package in a program. An absent feature is an error. Without features the
-# packages depend on nothing else.
+# packages depend on nothing else, and without std, with serde too, they lack what only std or a program brings.
 rust_switch() {
   local feature
   block_of bindings/rust/multihash/README.md toml | sed 's,path/of/bindings/rust,../..,' \
@@ -140,6 +140,8 @@ rust_switch() {
   done
   prints_all "multihash\n└── verified-multihash" multihash cargo tree -e no-dev
   in_crate multihash cargo build --no-default-features --features serde-codec
+  rejects "\`#[panic_handler]\` function required" \
+    in_crate multihash cargo rustc --no-default-features --features serde-codec --crate-type staticlib
 }
 
 rust_lints() {

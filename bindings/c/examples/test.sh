@@ -64,12 +64,15 @@ printf 'code 22\nsize 32\ndigest %s\n' $digest > "$work/parts"
   printf '\312\161\373\241\331\162\375\224\243\034\073\373\362\116\071\070'
 } > "$work/bytes"
 printf '\022\101a' > "$work/long"
+printf '\022\100a' > "$work/cut"
 for option in -O2 -static; do
   build mh_show "$option"
   echo 1620$digest | run mh_show | diff "$work/parts" -
   build stream "$option"
-  run stream < "$work/bytes" | diff "$work/parts" -
+  run stream < "$work/bytes" > "$work/shown"
+  diff "$work/parts" "$work/shown"
   rejects "$work/long" ' 65 .* 64$' # a digest that is too long
+  rejects "$work/cut" '1 of 64'
   rejects "$work" '^read: '         # a folder
 done
 echo passed

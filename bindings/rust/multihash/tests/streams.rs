@@ -117,6 +117,8 @@ fn ends() {
             assert_eq!(written, &case.encoding[..case.at]);
         }
     });
+    let mut rest = &b"\x12\x03ab"[..];
+    assert!(Value::read(&mut rest).is_err() && (HAS_STD || rest == b"ab")); // a digest that is cut is not consumed
 }
 
 /// `Debug` and `source`. `Display` has no width and no precision, but that of `no_std_io` does, as upstream.

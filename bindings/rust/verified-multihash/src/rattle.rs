@@ -1,6 +1,5 @@
 //! What the sources use of Rattle's `std` and is not in Rust's `core`, written by hand: errors of vectors whose
 //! allocations may fail, vectors of bytes, the digits of a number, and what newer Rust has.
-#[cfg(feature = "alloc")]
 use crate::no_std_io::{Error, Write};
 #[cfg(feature = "alloc")]
 pub use alloc::vec::Vec;

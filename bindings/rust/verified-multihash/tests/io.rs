@@ -5,7 +5,7 @@ mod slow;
 
 use slow::{Event, Slow};
 use std::io::{self, ErrorKind};
-use verified_multihash::{list, no_std_io, with_io, Error, Multihash};
+use verified_multihash::{list, no_std_io, with_io, Error, Io, Multihash};
 
 type Value = Multihash<200>;
 
@@ -19,7 +19,7 @@ fn each_byte(event: Event, is_failure: bool, check: impl Fn(io::Result<()>, usiz
         assert_eq!(with_io(&mut reader, Value::read_next).expect("it is whole"), Some(value));
         let read = with_io(&mut reader, Value::read).map(|read| assert_eq!(read, value));
         let mut writer = Slow { bytes: Vec::new(), at: encoding.len() + at, event };
-        assert_eq!(with_io(&mut writer, |writer| value.write(writer)).expect("it is whole"), encoding.len());
+        assert_eq!(with_io(&mut writer, |to: &mut Io<_>| value.write(to)).expect("it is whole"), encoding.len());
         let written = with_io(&mut writer, |writer| list::write_list(&[value], writer));
         let length = encoding.len() + if is_failure { at } else { encoding.len() };
         assert_eq!((reader.bytes, &writer.bytes[..]), (&both[length..], &both[..length]));

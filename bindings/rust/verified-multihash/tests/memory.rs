@@ -2,7 +2,7 @@
 #![cfg(feature = "alloc")]
 use std::alloc::{GlobalAlloc, Layout, System};
 use std::cell::Cell;
-use verified_multihash::no_std_io::SliceWriter;
+use verified_multihash::no_std_io::{SliceWriter, Write};
 use verified_multihash::{list, Error, Multihash};
 
 thread_local! {
@@ -66,7 +66,7 @@ fn to_bytes() {
 fn read_list() {
     let all: Vec<Multihash<64>> = (0..1001).map(|code| Multihash::wrap(code, b"abc").expect("it fits")).collect();
     let mut bytes = Vec::new();
-    list::write_list(&all, &mut bytes).expect("memory");
+    with(16, || list::write_list(&all, &mut bytes)).expect("memory"); // its capacity doubles
     for count in [1, 3, 1001] {
         let mut rest = &bytes[..];
         assert!(is_out_of_memory(with(0, || list::read_list::<64, _>(&mut rest, count))));
@@ -88,6 +88,8 @@ fn write() {
     assert_eq!(full, ENCODING[..2]);
     assert!(is_out_of_memory(with(0, || value().scale_encode(&mut full))));
     assert_eq!(full, ENCODING[..2]);
+    assert!(with(0, || full.write(b"abc")).is_err());
+    assert_eq!((full.write(b"abc").ok(), &full[2..]), (Some(3), &b"abc"[..]));
 }
 
 #[test]

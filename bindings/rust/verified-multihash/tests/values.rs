@@ -51,7 +51,7 @@ fn names() {
     ] {
         assert_eq!((constant, codes::name(code), codes::code(name)), (code, Some(name), Some(code)));
     }
-    assert_eq!([1, 0xb200, 0xb261, u64::MAX].map(codes::name), [None; 4]);
+    assert_eq!([1, 0xb200, 0xb261, 1 << 32 | 0x12, u64::MAX].map(codes::name), [None; 5]);
     assert_eq!(["", "sha256", "SHA2-256", "blake2b-520", "blake2b-"].map(codes::code), [None; 5]);
     for code in (0..0x100).chain(0xb200..0xb400) {
         assert!(codes::name(code).map_or(true, |name| codes::code(name) == Some(code)));
