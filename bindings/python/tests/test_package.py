@@ -97,9 +97,8 @@ TEXTS = [
 
 
 def says(text, words):
-    """Whether a text has these words in this order, in any sentence."""
-    rest = iter(re.findall(r"[^\s:,()]+", text))
-    return all(word in rest for word in words.split())
+    """Whether a text has these words, in any sentence."""
+    return {*words.split()} <= {*re.findall(r"[^\s:,()]+", text)}
 
 
 def attributes_of(error):
