@@ -141,7 +141,7 @@ by_subdirectory() {
 # As the page says, over what find_package finds. It rejects another major version.
 by_find_package() {
   local to=$work/project
-  block_of bindings/c/README.md cmake | sed -E 's/(.*::)shared(.*::)static$/\1${kind}\2/' |
+  block_of bindings/c/README.md cmake | sed 's/::shared/::${kind}/' |
     in_project "$to" -DCMAKE_PREFIX_PATH="$work/un packed built"
   grep -F 'multihash_c::${kind})' "$to/CMakeLists.txt"
   sed -i "s/(multihash_c [0-9.]*/(multihash_c $((major - 1)).9/" "$to/CMakeLists.txt"
