@@ -149,7 +149,7 @@ by_subdirectory() {
 # As the page says, over what find_package finds. It accepts a later minor version, and rejects another major one.
 by_find_package() {
   local to=$work/project
-  block_of bindings/c/README.md cmake | sed -E 's/(.*::)shared(.*::)static$/\1${kind}\2/' |
+  block_of bindings/c/README.md cmake | sed 's/::shared/::${kind}/' |
     in_project "$to" -DCMAKE_PREFIX_PATH="$work/un packed built"
   grep -F 'multihash_c::${kind})' "$to/CMakeLists.txt"
   sed -i "s/\"$version\"/\"$major.9.9\"/" "$work/un packed built/lib/cmake/multihash_c/multihash_c-config-version.cmake"

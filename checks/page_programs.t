@@ -21,7 +21,7 @@ from pages import FENCE, JS, README, RUST, TOP, read
 
 ROW = re.compile(r"^\| \[(\w+)[^\]]*\]\(([^)]*)\) \| `([^`]+)` \|", re.M)
 HEAD = re.compile(r"(?://|#) (\S+): (.*)\n")
-SHOWN = re.findall(r"program here prints `(.*)`", read(README))[0] + "\n"
+SHOWN = re.findall(r"`(code \d+, digest \w+)`", read(README))[0] + "\n"
 OLDEST = re.findall(r'rust-version = "(.*)"', read(f"{RUST}/verified-multihash/Cargo.toml"))[0]
 NODE = re.findall(r'"node": ">=(.*)"', read(f"{JS}/package.json"))[0]
 REGISTRY = "/usr/share/cargo/registry"  # of Debian, for crates that the program of Rust's page needs

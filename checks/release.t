@@ -24,7 +24,7 @@ build_packages() {
 # Unpacks the packages of a folder for an architecture together. They have the shared library.
 has_packages() {
   local root=$work/root-$2 package needed=()
-  for package in mh-show libmultihash-c1 libmultihash-c-dev; do
+  for package in mh-show "libmultihash-c$major" libmultihash-c-dev; do
     dpkg -x "$1/${package}_$version-1_$2.deb" "$root"
   done
   # the stack protector of aarch64 is in the dynamic linker

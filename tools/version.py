@@ -17,6 +17,12 @@ HEADER, CHANGES, DEBIAN = "bindings/c/include/multihash.h", "CHANGES", "bindings
 LINES = (
     (HEADER, '#define MULTIHASH_VERSION "{version}"'),
     (HEADER, "#define MULTIHASH_VERSION_NUMBER {number}\n"),
+    ("bindings/c/README.md", "find_package(multihash_c {major}.{minor} "),
+    ("bindings/c/README.md", "`libmultihash_c.so.{major}`"),
+    ("bindings/c/PACKAGING.md", "`libmultihash-c{major}`"),
+    ("bindings/c/debian/control", "\nPackage: libmultihash-c{major}\n"),
+    ("bindings/c/debian/control", "\nDepends: libmultihash-c{major} (="),
+    ("bindings/c/debian/rules", "libmultihash_c.so.{major} libmultihash-c{major} "),
     ("bindings/js/core.js", "export const version = '{version}';"),
     ("bindings/js/package.json", '"version": "{version}",'),
     ("bindings/python/src/verified_multihash/__init__.py", '__version__ = "{version}"'),

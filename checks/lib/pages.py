@@ -5,6 +5,7 @@ import re
 import subprocess
 import sys
 from collections.abc import Iterator
+from contextlib import suppress
 from functools import cache
 from pathlib import Path
 
@@ -122,10 +123,8 @@ def stated_errors() -> Iterator[str]:
     """Compares versions and limits of pages with where they are from."""
     for form, source, origin in STATED:
         wanted = "".join(re.findall(origin, read(source)))
-        found = {path: [*re.finditer(form, read(path))] for path in (*pages(), f"{JS}/core.js", MAN)}
-        if not any(found.values()):
-            yield f"{source}: no page has what it states: {form}"
-        for path, parts in found.items():
+        for path in (*pages(), f"{JS}/core.js", MAN) if wanted else ():
+            parts = [*re.finditer(form, read(path))]
             if wanted not in [part[1].replace(",", "") for part in parts]:
                 yield from (f"{placed(path, part[0])}: {part[0]}, {source} has {wanted}" for part in parts)
 
@@ -141,7 +140,7 @@ def shown_errors() -> Iterator[str]:
     blocks = [body for language, body in FENCE.findall(read(CALLING)) if language in ("rust", "text")]
     for part in "\n\n".join(blocks).split("\n\n"):
         if flat(part) not in known:
-            yield f"{CALLING}: no source has {part}"
+            yield f"{placed(CALLING, part.strip())}: no source has {part}"
 
 
 def byte_errors() -> Iterator[str]:
@@ -152,9 +151,10 @@ def byte_errors() -> Iterator[str]:
             yield f"{FORMAT}: {data} is not {number}"
     for part in prose.split("\n\n"):
         for data in [] if part.startswith("|") else re.findall(r"`([0-9a-f]{2}(?: [0-9a-f]{2})+)`", part):
-            number, end = RULES.varint(bytes.fromhex(data), 0)
-            if data[3 * end :] == "" and str(number) not in part:
-                yield f"{FORMAT}: {data} is the varint of no number that is there"
+            with suppress(verdicts.Rejected):
+                number, end = RULES.varint(bytes.fromhex(data), 0)
+                if data[3 * end :] == "" and str(number) not in part:
+                    yield f"{placed(FORMAT, data)}: {data} is the varint of no number that is there"
     for data in re.findall(r"python -m verified_multihash (\w+)", read(python)):
         if verdicts.result(RULES.read, 64, bytes.fromhex(data))[1] != len(data) // 2:
             yield f"{python}: no multihash: {data}"

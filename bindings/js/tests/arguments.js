@@ -142,7 +142,7 @@ export function multihashes(module) {
 const keepsCause = () => structuredClone(new Error('text', { cause: 3 })).cause === 3;
 
 /** The names and numbers of a message, in order. */
-const gist = (text) => `${text.match(/\d+|code|digest|length|empty|inside|before|minimal|nine|follow/g)}`;
+const gist = (text) => `${text.match(/\d+|code|digest|length|inside|before/g)}`;
 
 /** The calls that reject the input of a row of messages.tsv. */
 function callsOf({ decode, head, read, scaleDecode }, { call, limit, input, status }) {

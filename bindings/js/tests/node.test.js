@@ -52,7 +52,7 @@ async function unfit() {
     }
   }
   const error = await inContext('index.js', '', responding({ ok: false, status: 500 })).catch((error) => error);
-  same(error.message, 'https://localhost/multihash.wasm: status 500', 'a module that is missing');
+  says(error.message, 'https://localhost/multihash.wasm 500', 'a module that is missing');
 }
 
 /** There module.js works with what was compiled elsewhere. */

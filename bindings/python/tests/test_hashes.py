@@ -84,7 +84,7 @@ class Hashes(unittest.TestCase):
 
     def test_errors(self):
         for code in (1, 0xB200, 0xB241 + 32):
-            self.assertRaisesRegex(ValueError, "code %#x$" % code, hashes.verify, Multihash(code, b""), b"")
+            self.assertRaisesRegex(ValueError, "code %#x" % code, hashes.verify, Multihash(code, b""), b"")
         for name in ("sha256", "sha2_256", "", "blake2b-512 "):
             self.assertRaises(ValueError, hashes.digest, b"abc", name)
         for wrong in (None, 0x12, ("sha1", "md5"), bytearray()):

@@ -77,7 +77,7 @@ class Readers(unittest.TestCase):
                     waits += 1
                 self.assertEqual(reader.taken, sum(len(bytes(each)) for each in found))
             self.assertEqual((b"".join(map(bytes, found)), waits), (DATA, len(DATA)))
-            with self.assertRaisesRegex(io.UnsupportedOperation, "MultihashReader$"):
+            with self.assertRaisesRegex(io.UnsupportedOperation, "MultihashReader"):
                 vm.read_from(turns(*late))
 
     def test_growing_files(self):
@@ -153,7 +153,7 @@ class Readers(unittest.TestCase):
                 await vm.AsyncMultihashReader(io.BytesIO(b"\0\0")).read()
             reader = vm.AsyncMultihashReader(Mock(read=AsyncMock(side_effect=[b"\0\0", b"\1"])))
             found = []
-            with self.assertRaisesRegex(RuntimeError, "StopAsyncIteration$"):
+            with self.assertRaisesRegex(RuntimeError, "StopAsyncIteration"):
                 async for each in reader:
                     found.append(each)
             self.assertEqual((found, reader.rest), ([Multihash(0, b"")], b"\1"))
