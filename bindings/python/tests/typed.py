@@ -20,22 +20,28 @@ assert_type((vm.scale_encode(18, ARRAY), Multihash(18, ARRAY)), Tuple[bytes, Mul
 assert_type((vm.encoded_len(18, 32), vm.compare(multihash, multihash)), Tuple[int, int])
 assert_type((vm.head(DATA).code, vm.head(DATA).digest_length, vm.head(DATA).length), Tuple[int, int, int])
 vm.decode("1200")  # type: ignore[arg-type]
-vm.read(DATA, "64")  # type: ignore[arg-type]
+vm.read(DATA, None)  # type: ignore[arg-type]
+vm.head("1200")  # type: ignore[arg-type]
+vm.scale_decode("1200")  # type: ignore[arg-type]
 vm.encode("sha2-256", DATA)  # type: ignore[arg-type]
 vm.encode(18, 32)  # type: ignore[arg-type]
+vm.scale_encode(18, 32)  # type: ignore[arg-type]
+vm.encoded_len(18, 32.0)  # type: ignore[arg-type]
 vm.compare(DATA, multihash)  # type: ignore[arg-type]
+vm.compare(multihash, DATA)  # type: ignore[arg-type]
 
 
 class Sha256(Multihash):
     pass
 
 
-assert_type((Sha256(18, digest=DATA), Sha256.fromhex("1200")), Tuple[Sha256, Sha256])
+assert_type((Sha256(18, digest=DATA).__replace__(code=1), Sha256.fromhex("1200")), Tuple[Sha256, Sha256])
 assert_type((multihash.code, multihash.digest, multihash.hex(), hash(multihash)), Tuple[int, bytes, str, int])
 assert_type(multihash.hexdigest(), str)
 assert_type((multihash.__replace__(digest=DATA), bytes(multihash)), Tuple[Multihash, bytes])
 assert_type((multihash < multihash, multihash >= multihash), Tuple[bool, bool])
 Multihash("sha2-256", DATA)  # type: ignore[arg-type]
+Multihash(18, "abc")  # type: ignore[arg-type]
 Multihash.fromhex(DATA)  # type: ignore[arg-type]
 multihash.digest = DATA  # type: ignore[misc]
 multihash.__replace__(size=2)  # type: ignore[call-arg]
