@@ -29,7 +29,7 @@ def parameters_of(call):
 
 class Module(unittest.TestCase):
     def test_interpreters(self):
-        """Two at once, from CPython 3.12 on with locks of their own."""
+        """Two at once, from CPython 3.12 on with locks of their own; each loads the package again, then drops it."""
         interpreters = importlib.import_module("_interpreters" if sys.version_info > (3, 13) else "_xxsubinterpreters")
         program = "import sys; sys.path[:] = %r\nimport verified_multihash as vm\n" % (sys.path,)
         program += "for n in range(20000): assert vm.decode(vm.encode(n, b'abc')) == vm.Multihash(n, b'abc')\n"

@@ -152,7 +152,9 @@ class Arguments(unittest.TestCase):
             digest = Multihash(2, buffer).digest
             self.assertEqual((digest, type(digest)), (data, bytes))
         self.assertEqual(vm.decode(array.array("H", [0x0201, 0x4241])).digest, b"AB")
-        for long, size in ((matrix, 400), (array.array("Q", bytes(800)), 800), ((ctypes.c_ubyte * 999)(), 999)):
+        block = type("Block", (ctypes.Structure,), {"_fields_": [("all", ctypes.c_ubyte * 999)]})()  # has no dimension
+        for long, size in ((matrix, 400), (array.array("Q", bytes(800)), 800), (block, 999)):
+            self.assertEqual(vm.read(long), (Multihash(0, b""), 2))
             self.assertEqual(self.error_of(vm.decode, long)[:2], (Status.INVALID_SIZE, size - 2))
         self.assertEqual([vm.encode(0, empty) for empty in (b"", bytearray(), array.array("I"))], [b"\0\0"] * 3)
         for kind in (ctypes.c_uint8, ctypes.c_uint16, ctypes.c_uint64):  # buffers of no dimension
@@ -312,7 +314,8 @@ class Values(unittest.TestCase):
             self.assertRaises(TypeError, value.__replace__, 2)
             self.assertRaises(TypeError, value.__replace__, size=2)
             self.assertRaises(MultihashError, value.__replace__, digest=bytes(256))
-        own = type("Own", (Named,), {"__new__": lambda own, code, digest, more: Named.__new__(own, code + more, digest)})
+        call = lambda own, code, digest, more: Multihash.__new__(own, code + more, digest)
+        own = type("Own", (Multihash,), {"__new__": call})
         self.assertEqual(own(1, b"abc", 0).__replace__(more=2), Multihash(3, b"abc"))
 
     @unittest.skipIf(sys.version_info < (3, 9), "the stable ABI has no weak references")
