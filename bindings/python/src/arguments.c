@@ -155,7 +155,7 @@ int get_pair(PyObject *arguments, PyObject *named, const char *format, PyObject 
     PyObject *argument;
     if (!get_arguments(arguments, named, format, names, code, &argument)) return -1;
     if (get_number(code, "code", number) < 0) return -1;
-    if (get_input(argument, "digest", MULTIHASH_DIGEST_MAX + 1, digest) == 0) return 0;
+    if (get_input(argument, "digest", MULTIHASH_DIGEST_MAX, digest) == 0) return 0;
     Py_DECREF(*code);
     return -1;
 }

@@ -44,8 +44,8 @@ int get_number(PyObject **argument, const char *name, uint64_t *number);
 /* The same of a limit or a digest's length: what is larger is rejected as the largest is. */
 int get_size(PyObject **argument, const char *name, size_t *size);
 
-/* The arguments of a function: a code, as `get_number` has it, and a digest, of which at most one byte more than the
- * longest has is copied. */
+/* The arguments of a function: a code, as `get_number` has it, and a digest, of which no more than the longest has is
+ * copied. */
 int get_pair(PyObject *arguments, PyObject *named, const char *format, PyObject **code, uint64_t *number,
              input *digest);
 

@@ -38,11 +38,11 @@ static int reader_init(PyObject *self, PyObject *arguments, PyObject *named)
 {
     static char *names[] = {"file", "limit", NULL};
     reader_object *reader = (reader_object *)self;
-    PyObject *file, *most = NULL, *module, *read;
-    size_t limit = MULTIHASH_DIGEST_MAX;
-    if (!get_arguments(arguments, named, "O|O:MultihashReader", names, &file, &most)) return -1;
-    if (most != NULL && get_size(&most, "limit", &limit) < 0) return -1;
-    Py_XDECREF(most);
+    PyObject *file, *most, *module, *read;
+    size_t limit;
+    if (!get_arguments(arguments, named, "OO:MultihashReader", names, &file, &most)) return -1;
+    if (get_size(&most, "limit", &limit) < 0) return -1;
+    Py_DECREF(most);
     if ((module = module_of_type(Py_TYPE(self))) == NULL) return -1;
     if ((read = read_of(self, file)) == NULL) return -1;
     if (check_idle(reader) < 0) {
@@ -231,7 +231,7 @@ static PyGetSetDef reader_attributes[] = {
 };
 
 static PyType_Slot reader_slots[] = {
-    {Py_tp_doc, "Reader(file, limit=255)\n--\n\nThe base of both readers."},
+    {Py_tp_doc, "Reader(file, limit)\n--\n\nThe base of both readers."},
     {Py_tp_init, reader_init},
     {Py_tp_traverse, reader_traverse},
     {Py_tp_clear, reader_clear},

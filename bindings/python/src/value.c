@@ -86,9 +86,7 @@ static PyObject *multihash_compared(PyObject *left, PyObject *right, int operati
 static Py_hash_t multihash_hash(PyObject *self)
 {
     const multihash_object *multihash = (const multihash_object *)self;
-    Py_hash_t of_digest = PyObject_Hash(multihash->digest);
-    if (of_digest == -1) return -1;
-    uint64_t mixed = (uint64_t)of_digest ^ multihash->number;
+    uint64_t mixed = (uint64_t)PyObject_Hash(multihash->digest) ^ multihash->number; /* that of bytes cannot fail */
     mixed = (mixed ^ mixed >> 33) * 0xff51afd7ed558ccdu;
     mixed = (mixed ^ mixed >> 33) * 0xc4ceb9fe1a85ec53u;
     Py_hash_t hash = (Py_hash_t)(mixed ^ mixed >> 33);

@@ -31,7 +31,7 @@ class Hashes(unittest.TestCase):
                 self.assertRaises(ValueError, hashlib.new, OPTIONAL[name])
                 continue
             self.assertEqual((found.code, found.hexdigest()), (int(code, 16), text))
-            for data in (b"abc", bytearray(b"abc"), memoryview(b"abc")):
+            for data in (b"abc", bytearray(b"abc"), memoryview(b"abc"), memoryview(b"cba")[::-1]):
                 self.assertEqual(hashes.digest(data, name), found)
                 self.assertIs(hashes.verify(found, data), True)
                 self.assertIs(hashes.verify(bytes(found), data), True)
@@ -49,12 +49,15 @@ class Hashes(unittest.TestCase):
             whole = data[:255] if name == "identity" else data
             hasher, right = hashes.Hasher(name), hashes.digest(whole, name)
             for at in range(0, len(whole), 1000):
-                hasher.update(memoryview(whole)[at : at + 1000])
+                part = bytearray(whole[at : at + 1000])
+                hasher.update(part)
+                part[:] = bytes(len(part))  # was copied
+                hasher.multihash()  # of what is there, and more follows
             self.assertEqual([hasher.multihash(), hasher.multihash()], [right] * 2)
             file = Mock(read=Mock(side_effect=io.BytesIO(whole).read))
             self.assertEqual(hashes.digest_file(file, name), right)
             self.assertLessEqual(max(call[0][0] for call in file.read.call_args_list), 1 << 20)
-            for claimed in (right, bytes(right)):
+            for claimed in (right, bytes(right), type("Own", (Multihash,), {})(right.code, right.digest)):
                 self.assertIs(hashes.verify_file(claimed, io.BytesIO(whole)), True)
                 self.assertIs(hashes.verify_file(claimed, io.BytesIO(whole[:-1])), False)
         self.assertIs(hashes.verify_file(Multihash(0, b"abc"), io.BytesIO(data)), False)

@@ -45,7 +45,12 @@ CALLS["order"] = lambda: (VALUE == OTHER, VALUE < OTHER, VALUE == 1, VALUE == Na
 CALLS["a text"] = vm._core.status_text, [1 << 62]
 CALLS["pickle"] = VALUE.__getnewargs__, ()
 CALLS["reader"] = lambda data, limit: vm.read_from(io.BytesIO(data), limit), [bytes(OTHER), 1 << 62]
+CALLS["a code"] = vm.scale_decode, [bytes(7) + b"\x80\0"]
+STEPS = vm._core.Reader(io.BytesIO(), 1)
+CALLS["steps"] = lambda: (STEPS._fail(None), STEPS._begin(), STEPS._end(b""), STEPS._take()), ()
 LASTING = [vm._core, vm.MultihashReader, MultihashError, Multihash, Named, VALUE, OTHER, *vm.Status]
+if sys.version_info < (3, 12):  # which made these immortal
+    LASTING += [None, False, True, NotImplemented, *range(2, 257)]
 
 
 def prepared(call, arguments):
@@ -91,7 +96,7 @@ def held():
 
 
 def keeps(call, number=None):
-    """Whether each run of a call, with that allocation failing, keeps a block or a reference; its result."""
+    """Whether each run of a call, with that allocation failing, keeps or loses a block or a reference; its result."""
     for _ in range(5):  # CPython keeps some for itself
         forget()
         before = held()
@@ -99,7 +104,7 @@ def keeps(call, number=None):
             again = prepared(*call)
             found = result_of(again if number is None else functools.partial(failing, again, number))
         del again
-        if held() - before < RUNS // 2:
+        if abs(held() - before) < RUNS // 2:
             return False, found
     return True, found
 

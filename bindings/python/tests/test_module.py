@@ -29,11 +29,15 @@ def parameters_of(call):
 
 class Module(unittest.TestCase):
     def test_interpreters(self):
-        """Two at once, from CPython 3.12 on with locks of their own."""
+        """Two at once, from CPython 3.12 on with locks of their own; each loads the package again, then drops it."""
         interpreters = importlib.import_module("_interpreters" if sys.version_info > (3, 13) else "_xxsubinterpreters")
         program = "import sys; sys.path[:] = %r\nimport verified_multihash as vm\n" % (sys.path,)
         program += "for n in range(20000): assert vm.decode(vm.encode(n, b'abc')) == vm.Multihash(n, b'abc')\n"
+        program += "import importlib\nimportlib.reload(vm)\n"
         program += "try: vm.decode(b'')\nexcept vm.MultihashError as error: assert error.is_incomplete\n"
+        program += "import gc, weakref\nkept = weakref.ref(vm.Multihash)\ndel vm\n"
+        program += "for name in [*sys.modules]: name.startswith('verified') and sys.modules.pop(name)\n"
+        program += "gc.collect()\nassert kept() is None, 'a module that is not used is kept'\n"
 
         def run(_):
             number = interpreters.create()
@@ -94,6 +98,8 @@ class Module(unittest.TestCase):
         public = {name for name in own if not name.startswith("_")}
         constants = {name for name in vars(vm) if name.endswith("_MAX")} | {"__version__"}
         self.assertEqual(sorted(vm.__all__), sorted(public | constants))
+        own = {name for name, it in vars(hashes).items() if getattr(it, "__module__", "") == hashes.__name__}
+        self.assertEqual({*hashes.__all__}, {"CODES", "NAMES", *(name for name in own if name[0] != "_")})
         classes = [each for each in map(vars(vm).get, public) if isinstance(each, type)]
         self.assertEqual({each.__module__ for each in classes}, {vm.__name__})  # that pickled values name
         self.assertEqual(Multihash.__match_args__, tuple(parameters_of(Multihash)))
@@ -101,10 +107,12 @@ class Module(unittest.TestCase):
             names = list(parameters_of(call))
             by_name, by_position = call(**dict(zip(names, arguments))), call(*arguments)
             self.assertEqual((str(by_name), len(names)), (str(by_position), len(arguments)))
+            self.assertEqual(getattr(parameters_of(call).get("limit"), "default", vm.DIGEST_MAX), vm.DIGEST_MAX)
             required = [name for name, it in parameters_of(call).items() if not it or it.default is it.empty]
-            for wrong in ([*arguments, 1], arguments[: len(required) - 1]):
+            few = arguments[: len(required) - 1]
+            for wrong, more in (([*arguments, 1], {}), (few, {}), (arguments, {"more": 1})):
                 with self.assertRaises(TypeError):  # by itself, as assertRaises would pass keywords on
-                    call(*wrong)
+                    call(*wrong, **more)
 
     def test_examples(self):
         text = "\n".join("" if line.startswith("```") else line for line in README.read_text("utf-8").splitlines())

@@ -144,14 +144,16 @@ class Arguments(unittest.TestCase):
     def test_all_buffers(self):
         data = b"\x01\x03abc"
         spread = memoryview(bytes(byte for pair in zip(data, data) for byte in pair))[::2]
-        matrix = memoryview(bytes(400)).cast("B", [20, 20])
+        matrix = memoryview(bytes(800)).cast("B", [40, 20])[::2]
         same = type("Text", (bytes,), {})(data), bytearray(data), array.array("B", data), (ctypes.c_ubyte * 5)(*data)
         for buffer in (spread, *same):
             self.assertEqual(vm.decode(buffer), Multihash(1, b"abc"))
             digest = Multihash(2, buffer).digest
             self.assertEqual((digest, type(digest)), (data, bytes))
         self.assertEqual(vm.decode(array.array("H", [0x0201, 0x4241])).digest, b"AB")
-        for long, size in ((matrix, 400), (array.array("Q", bytes(800)), 800), ((ctypes.c_ubyte * 999)(), 999)):
+        block = type("Block", (ctypes.Structure,), {"_fields_": [("all", ctypes.c_ubyte * 999)]})()  # has no dimension
+        for long, size in ((matrix, 400), (array.array("Q", bytes(800)), 800), (block, 999)):
+            self.assertEqual(vm.read(long), (Multihash(0, b""), 2))
             self.assertEqual(self.error_of(vm.decode, long)[:2], (Status.INVALID_SIZE, size - 2))
         self.assertEqual([vm.encode(0, empty) for empty in (b"", bytearray(), array.array("I"))], [b"\0\0"] * 3)
         for kind in (ctypes.c_uint8, ctypes.c_uint16, ctypes.c_uint64):  # buffers of no dimension
@@ -173,6 +175,8 @@ class Arguments(unittest.TestCase):
                 self.assertEqual((status, size, found, front_of(code) in text), (Status.INVALID_CODE, 0, code, True))
                 self.assertEqual(self.error_of(call, code, bytes(256))[:3], (Status.INVALID_SIZE, 256, 0))
         self.assertEqual(self.error_of(vm.scale_decode, bytes(7) + b"\x80\0")[2], 1 << 63)
+        whole = type("Whole", (), {"__index__": lambda _: 3})()  # numbers of other packages have it
+        self.assertEqual((vm.encode(whole, b"abc"), vm.read(b"\3\3abc", whole)[1]), (b"\3\3abc", 5))
         for length in (256, 1 << 63, 1 << 64, (1 << 64) + 5, 1 << 700):
             self.assertEqual(self.error_of(vm.encoded_len, 18, length)[:3], (Status.INVALID_SIZE, length, 0))
         for length in NEGATIVE:
@@ -184,7 +188,7 @@ class Arguments(unittest.TestCase):
         self.assertEqual((vm.DIGEST_MAX, vm.HEAD_MAX, vm.LENGTH_MAX, vm.SCALE_LENGTH_MAX), (255, 18, 266, 264))
         data = {size: bytes(Multihash(1, bytes(size))) for size in (3, 255)}
         for call in (
-            lambda data, *limit: vm.read(data, *limit)[0],
+            lambda data, *limit: vm.read(data, **dict(zip(["limit"], limit)))[0],
             lambda data, *limit: vm.read_from(io.BytesIO(data), *limit),
             lambda data, *limit: vm.MultihashReader(io.BytesIO(data), *limit).read(),
             lambda data, *limit: Awaited(io.BytesIO(data), *limit).read(),
@@ -215,6 +219,8 @@ class Arguments(unittest.TestCase):
                     self.assertEqual(self.error_of(call, data)[:2], (Status.INVALID_SIZE, size))
                 self.assertIs(hashes.verify(Multihash(0, b""), data), False)
                 self.assertEqual(self.error_of(hashes.digest, data, "identity")[1], length)
+                self.assertIs(hashes.verify_file(Multihash(0, b""), file), False)
+                self.error_of(hashes.digest_file, file, "identity")
 
     def test_errors(self):
         self.assertIs(MultihashError(Status.NO_ROOM).is_incomplete, False)
@@ -307,6 +313,9 @@ class Values(unittest.TestCase):
             self.assertRaises(TypeError, value.__replace__, 2)
             self.assertRaises(TypeError, value.__replace__, size=2)
             self.assertRaises(MultihashError, value.__replace__, digest=bytes(256))
+        call = lambda own, code, digest, more: Multihash.__new__(own, code + more, digest)
+        own = type("Own", (Multihash,), {"__new__": call})
+        self.assertEqual(own(1, b"abc", 0).__replace__(more=2), Multihash(3, b"abc"))
 
     @unittest.skipIf(sys.version_info < (3, 9), "the stable ABI has no weak references")
     def test_weak_references(self):
@@ -318,6 +327,6 @@ class Values(unittest.TestCase):
 
     def test_hashes(self):
         """Codes and digests that differ in one bit have different hashes, but for a few."""
-        values = [Multihash(1 << bit, b"") for bit in range(63)]
+        values = [Multihash(1 << bit, b"abc") for bit in range(63)]
         values += [Multihash(1, (1 << bit).to_bytes(32, "big")) for bit in range(256)]
         self.assertGreater(len({hash(value) & 0xFFFFFF for value in values}), len(values) - 5)

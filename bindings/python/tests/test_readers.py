@@ -68,7 +68,7 @@ class Readers(unittest.TestCase):
     def test_waiting_files(self):
         """A reader keeps what it has read when a file has no bytes."""
         for kind, fails in itertools.product(self.readers, (None, BlockingIOError)):
-            late = [turn for byte in DATA for turn in (fails, bytes([byte]))]
+            late = [turn for byte in DATA for turn in (fails, bytearray([byte]))]
             reader, found, waits = kind(turns(*late)), [], 0
             while len(found) < 4:
                 try:
@@ -106,13 +106,15 @@ class Readers(unittest.TestCase):
         """After an error of a file, which loses bytes if it is buffered, nothing more is read from it."""
         self.assertRaises(TimeoutError, vm.read_from, turns(b"\1\3", TimeoutError))
         for kind in self.readers:
-            for last, error in ((TimeoutError, TimeoutError), (b"ab", ValueError), ("a", TypeError)):
-                reader = kind(turns(b"\1\3", b"ab", last))
+            ends = [(TimeoutError, TimeoutError), (b"ab", ValueError), ("a", TypeError)]
+            ends += [(KeyboardInterrupt, KeyboardInterrupt)] * (kind is vm.MultihashReader)
+            for last, error in ends:
+                reader = kind(turns(b"\1\3", b"ab", last), 3)
                 self.assertRaises(error, reader.read)
                 for _ in range(2):
                     self.assertRaisesRegex(ValueError, "failed before", reader.read)
-                reader.__init__(turns(b"\0\0"))  # it reads another file
-                self.assertEqual(reader.read(), Multihash(0, b""))
+                reader.__init__(turns(b"\1\4", b"abcd"))  # it reads another file
+                self.assertEqual(reader.read(), Multihash(1, b"abcd"))
 
     def test_calls_at_once(self):
         """A call while another one waits is an error, and the other one goes on."""
@@ -173,6 +175,8 @@ class Readers(unittest.TestCase):
 
     def test_collected(self):
         references = self.own_reader()
+        # the file is deleted with its reader
+        vm.MultihashReader(type("File", (), {"read": lambda *_: b"", "__del__": lambda _: gc.collect()})())
         gc.collect()
         self.assertEqual([each() for each in references], [None] * 3)
 

@@ -13,29 +13,35 @@ ARRAY = array("B", DATA)  # a buffer that mypy does not take for bytes
 multihash = vm.decode(DATA)
 assert_type(multihash, Multihash)
 assert_type(
-    (vm.decode(ARRAY), vm.read(ARRAY, limit=64), vm.head(ARRAY)), Tuple[Multihash, Tuple[Multihash, int], vm.Head]
+    (vm.decode(ARRAY), vm.read(ARRAY, limit=64), vm.head(data=ARRAY)), Tuple[Multihash, Tuple[Multihash, int], vm.Head]
 )
 assert_type((vm.scale_decode(ARRAY), vm.encode(18, ARRAY)), Tuple[Tuple[Multihash, int], bytes])
 assert_type((vm.scale_encode(18, ARRAY), Multihash(18, ARRAY)), Tuple[bytes, Multihash])
 assert_type((vm.encoded_len(18, 32), vm.compare(multihash, multihash)), Tuple[int, int])
 assert_type((vm.head(DATA).code, vm.head(DATA).digest_length, vm.head(DATA).length), Tuple[int, int, int])
 vm.decode("1200")  # type: ignore[arg-type]
-vm.read(DATA, "64")  # type: ignore[arg-type]
+vm.read(DATA, None)  # type: ignore[arg-type]
+vm.head("1200")  # type: ignore[arg-type]
+vm.scale_decode("1200")  # type: ignore[arg-type]
 vm.encode("sha2-256", DATA)  # type: ignore[arg-type]
 vm.encode(18, 32)  # type: ignore[arg-type]
+vm.scale_encode(18, 32)  # type: ignore[arg-type]
+vm.encoded_len(18, 32.0)  # type: ignore[arg-type]
 vm.compare(DATA, multihash)  # type: ignore[arg-type]
+vm.compare(multihash, DATA)  # type: ignore[arg-type]
 
 
 class Sha256(Multihash):
     pass
 
 
-assert_type((Sha256(18, digest=DATA), Sha256.fromhex("1200")), Tuple[Sha256, Sha256])
+assert_type((Sha256(18, digest=DATA).__replace__(code=1), Sha256.fromhex("1200")), Tuple[Sha256, Sha256])
 assert_type((multihash.code, multihash.digest, multihash.hex(), hash(multihash)), Tuple[int, bytes, str, int])
 assert_type(multihash.hexdigest(), str)
 assert_type((multihash.__replace__(digest=DATA), bytes(multihash)), Tuple[Multihash, bytes])
 assert_type((multihash < multihash, multihash >= multihash), Tuple[bool, bool])
 Multihash("sha2-256", DATA)  # type: ignore[arg-type]
+Multihash(18, "abc")  # type: ignore[arg-type]
 Multihash.fromhex(DATA)  # type: ignore[arg-type]
 multihash.digest = DATA  # type: ignore[misc]
 multihash.__replace__(size=2)  # type: ignore[call-arg]
@@ -45,15 +51,15 @@ match multihash:
     case Multihash(0x12, digest):
         assert_type(digest, bytes)
 
-error: ValueError = vm.MultihashError(4, 256)
+error: ValueError = vm.MultihashError(status=4, size=256, code=0, taken=2, text="")
 if isinstance(error, vm.MultihashError):
     assert_type((error.status, error.is_incomplete), Tuple[Status, bool])
     assert_type((error.size, error.code, error.taken), Tuple[int, int, int])
 
-reader = vm.MultihashReader(io.BytesIO(DATA), limit=64)
+reader = vm.MultihashReader(file=io.BytesIO(DATA), limit=64)
 assert_type((reader.read(), reader.rest, reader.taken), Tuple[Optional[Multihash], bytes, int])
 assert_type((next(reader), list(reader)), Tuple[Multihash, List[Multihash]])
-assert_type(vm.read_from(io.BytesIO(DATA), limit=64), Optional[Multihash])
+assert_type(vm.read_from(file=io.BytesIO(DATA), limit=64), Optional[Multihash])
 vm.MultihashReader("name")  # type: ignore[arg-type]
 vm.read_from(io.StringIO("a text"))  # type: ignore[arg-type]
 
@@ -70,17 +76,19 @@ vm.MultihashReader(Raw())
 
 
 async def read(stream: asyncio.StreamReader) -> None:
-    waiting = vm.AsyncMultihashReader(stream, limit=64)
+    waiting = vm.AsyncMultihashReader(stream=stream, limit=64)
     assert_type(await waiting.read(), Optional[Multihash])
     async for each in waiting:
         assert_type(each, Multihash)
     vm.AsyncMultihashReader(io.BytesIO(DATA))  # type: ignore[arg-type]
 
 
-assert_type((hashes.digest(ARRAY, "sha2-256"), hashes.verify(ARRAY, ARRAY)), Tuple[Multihash, bool])
-assert_type(hashes.digest_file(io.BytesIO(DATA), "sha2-256"), Multihash)
-assert_type(hashes.verify_file(multihash, io.BytesIO(DATA)), bool)
-assert_type(hashes.Hasher("sha2-256").multihash(), Multihash)
+assert_type(hashes.digest(data=ARRAY, name="sha2-256"), Multihash)
+assert_type((hashes.verify(multihash=multihash, data=ARRAY), hashes.verify(ARRAY, ARRAY)), Tuple[bool, bool])
+assert_type(hashes.digest_file(file=io.BytesIO(DATA), name="sha2-256"), Multihash)
+assert_type(hashes.verify_file(multihash=multihash, file=io.BytesIO(DATA)), bool)
+assert_type(hashes.verify_file(ARRAY, io.BytesIO(DATA)), bool)
+assert_type(hashes.Hasher(name="sha2-256").multihash(), Multihash)
 assert_type((hashes.CODES, hashes.NAMES), Tuple[Mapping[str, int], Mapping[int, str]])
 assert_type(vm.hashes.NAMES, Mapping[int, str])
 vm.more  # type: ignore[attr-defined]

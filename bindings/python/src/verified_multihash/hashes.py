@@ -56,11 +56,11 @@ _CHUNK_HINTS = {"encode": " (open the file in binary mode)", "__await__": " (rea
 
 def _bytes_like(data: Buffer, name: str = "data", hints: Mapping[str, str] = _HINTS) -> Buffer:
     try:
-        memoryview(data)
+        view = memoryview(data)
     except TypeError:
         hint = next((hints[each] for each in hints if hasattr(data, each)), "")
         raise TypeError("%s must be a bytes-like object%s, not %s" % (name, hint, type(data).__name__)) from None
-    return data
+    return data if view.c_contiguous else view.tobytes()  # hashlib takes no other buffer
 
 
 @functools.lru_cache(maxsize=None)
