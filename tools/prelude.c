@@ -4,9 +4,9 @@
 /* The library for C, in one file beside multihash.h. tools/generate writes it, from the proved functions in crates/ and
  * from tools/prelude.c: edit these instead.
  *
- * What is `Proved:` before a function or a statement is proved of each call inside this file: so no test of it is left.
- * Callers of multihash_* are not checked. First come functions that are written by hand, and tested only: what the
- * others need of Rust's library, by its names. */
+ * A comment `Proved:` before a function or a statement says what the proof has shown for each call inside this file, so
+ * that the code does not check it. The preconditions in multihash.h are not checked either. First come functions that
+ * are written by hand, and tested only: those of Rust's library that the others call, by their names there. */
 #include "multihash.h"
 
 #include <stdbool.h>

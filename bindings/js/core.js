@@ -16,9 +16,10 @@ export const SCALE_LENGTH_MAX = 264;
 // The longest prefix of an input that a result depends on, except for the number of trailing bytes.
 const PREFIX_MAX = HEAD_MAX + DIGEST_MAX;
 
-// The module's functions; its memory, which no function grows, and the words of a result and the first of an input in
-// it; and, in the memory after what the module uses, the addresses of that result, an input and an output. Lengths,
-// most codes and addresses are passed as BigInts of NUMBERS: 32-bit addresses suffice.
+// The module's functions; its memory, which no function grows or frees, so it stays as long as this file is loaded; the
+// words of a result and the first of an input in it; and the addresses of that result, an input and an output, after
+// what the module uses of the memory. Lengths, most codes and addresses are passed as BigInts of NUMBERS: 32-bit
+// addresses suffice.
 const unconnected = new Proxy({}, { get: askConnection });
 let [library, memory, words] = [unconnected, unconnected, unconnected]; // a field of a result has two words
 let first, output;

@@ -1,7 +1,10 @@
 // What the reader and the hash functions read: the chunks of a ReadableStream or of an async iterable.
 import { wrongType } from './arguments.js';
 
-/** The chunks of a ReadableStream, which in Safari is not an async iterable, or of an async iterable. */
+/**
+ * The chunks of a ReadableStream, which in Safari is not an async iterable, or of an async iterable. `next` returns what
+ * that of an iterator does, `release` unlocks a stream for other readers, and `close` ends the source.
+ */
 export function sourceOf(source, name, others = '') {
   if (typeof source?.getReader === 'function') return chunksOfStream(source);
   const iterator = source?.[Symbol.asyncIterator]?.();

@@ -26,6 +26,7 @@ TOP = Path(__file__).resolve().parents[2]
 DEFINITIONS = (TOP / "crates/multihash/specs/Varint.antt").read_text("utf-8")
 STORED = TOP / "crates/vectors/data/verdicts.tsv"
 COLUMNS = ("S", "input", "read", "read_taken", "from_bytes", "scale_decode", "scale_taken")
+VALUE_COLUMNS = ("kind", "limit", "code", "digest", "encoding", "scale")
 VALUES, PAGE = STORED.with_name("values.tsv"), STORED.with_name("README.md")
 
 # The number of the first inputs, and the SHA-256 of these with their capacities, which no bound changes.
@@ -169,19 +170,19 @@ def order(code: int, digest: bytes, other_code: int, other: bytes) -> str:
     return "\t".join(["order", *columns, str((left > right) - (left < right))])
 
 
+def line_of(stored: str) -> str:
+    """Makes a line of the value or of the order that it states."""
+    match stored.split("\t"):
+        case ["value", limit, code, digest, *_]:
+            return value(int(limit), int(code), bytes_of(digest))
+        case ["order", code, digest, other_code, other, *_]:
+            return order(int(code), bytes_of(digest), int(other_code), bytes_of(other))
+    raise ValueError(f"no value and no order: {stored}")
+
+
 def values_of(stored: str) -> str:
     """Makes the list of the stored values."""
-    columns, *lines = stored.splitlines()
-    made = [columns]
-    for line in lines:
-        match line.split("\t"):
-            case ["value", limit, code, digest, *_]:
-                made.append(value(int(limit), int(code), bytes_of(digest)))
-            case ["order", code, digest, other_code, other, *_]:
-                made.append(order(int(code), bytes_of(digest), int(other_code), bytes_of(other)))
-            case _:
-                raise ValueError(f"no value and no order: {line}")
-    return "\n".join([*made, ""])
+    return "\n".join(["\t".join(VALUE_COLUMNS), *map(line_of, stored.splitlines()[1:]), ""])
 
 
 def pairs(stored: str, seed: int, count: int) -> Iterator[str]:
@@ -222,6 +223,8 @@ def made_of(stored: str) -> str:
 def page_of(stored: str) -> str:
     """Makes the page, whose lines are of the inputs that it shows."""
     page = re.sub(r"(?m)^S\t.*", "\t".join(COLUMNS), stored)
+    page = re.sub(r"(?m)^kind\t.*", "\t".join(VALUE_COLUMNS), page)
+    page = re.sub(r"(?m)^(?:value|order)\t.*", lambda line: line_of(line[0]), page)
     return re.sub(r"(?m)^(\d+)\t([0-9a-f]+)\t.*", lambda line: RULES.line(int(line[1]), bytes_of(line[2])), page)
 
 

@@ -4,9 +4,9 @@
 /* The library for C, in one file beside multihash.h. tools/generate writes it, from the proved functions in crates/ and
  * from tools/prelude.c: edit these instead.
  *
- * What is `Proved:` before a function or a statement is proved of each call inside this file: so no test of it is left.
- * Callers of multihash_* are not checked. First come functions that are written by hand, and tested only: what the
- * others need of Rust's library, by its names. */
+ * A comment `Proved:` before a function or a statement says what the proof has shown for each call inside this file, so
+ * that the code does not check it. The preconditions in multihash.h are not checked either. First come functions that
+ * are written by hand, and tested only: those of Rust's library that the others call, by their names there. */
 #include "multihash.h"
 
 #include <stdbool.h>
@@ -537,7 +537,7 @@ MH_INLINE int32_t mh_compare_usual(const uint8_t *a, size_t a_length, const uint
     return mh_compare_last(a, a_length, b, a_length - 16);
 }
 
-/* How bytes of the same length compare. Those of 8 to 32 are compared by words.
+/* How bytes of the same length compare. For 8 to 32 words need fewer instructions than `cmp`, in C `memcmp`.
  * Proved: length a == length b. */
 MH_INLINE int32_t mh_compare_bytes(const uint8_t *a, size_t a_length, const uint8_t *b, size_t b_length)
 {

@@ -5,7 +5,8 @@
 
 #include <stddef.h>
 
-/* Two results have the same status and, from a second field on, the same bytes: these fields have no padding. */
+/* Two results have the same status and the same bytes from the field `second` on, which comes after the padding of the
+ * status: no field after it has padding. */
 #define SAME(type, second, a, b)                                                      \
     CHECK(a.status == b.status && memcmp((const char *)&a + offsetof(type, second),   \
                                          (const char *)&b + offsetof(type, second),   \
@@ -16,7 +17,7 @@
     type __wrap_##name parameters;                                       \
     type __wrap_##name parameters
 
-/* A function that writes nothing. */
+/* A function that writes nothing, the second field of its result, and its parameters and arguments. */
 #define READS(type, second, name, parameters, ...)                              \
     NAMES(type, name, parameters)                                               \
     {                                                                           \

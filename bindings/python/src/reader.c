@@ -150,7 +150,7 @@ static int read_chunk(reader_object *reader)
     return kept;
 }
 
-/* The multihash of the bytes, or None if there are none. */
+/* The multihash of the bytes, which are dropped, or None if there are none. After an error they stay, for `rest`. */
 static PyObject *take_multihash(reader_object *reader)
 {
     if (reader->length == 0) Py_RETURN_NONE;

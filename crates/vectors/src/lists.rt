@@ -280,7 +280,7 @@ fn put_value_of(page: &mut Page, limit: &str, code: &str, digest: &str) {
     }
 }
 
-fn value_of(alloc: Global, code: &str, digest: &str) -> Multihash<4> {
+fn value_of(alloc: Global, code: &str, digest: &str) -> Multihash<255> {
     Multihash::wrap(code.parse().unwrap_or(0), &bytes_of(alloc, digest)).unwrap_or_default()
 }
 
