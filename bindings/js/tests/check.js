@@ -20,6 +20,7 @@ const wordsOf = (text) => text.match(/[^\s:,()"]+/g) ?? [];
 
 /** A text has these words in this order: names and numbers, in any sentence. */
 export function says(text, words, what) {
+  if (/[:(] ?undefined/.test(text)) throw new Error(`${what}: ${text}`);
   let rest = wordsOf(text);
   for (const word of wordsOf(words)) {
     if (!rest.includes(word)) throw new Error(`${what}: no ${word} in ${text}, wanted ${words}`);
