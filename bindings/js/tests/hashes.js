@@ -87,6 +87,7 @@ export async function hashArguments({ Multihash, identity, sha256, verify }) {
   says(await told(sha256.digest(ABC, 20)), 'TypeError options object 20', 'options');
   for (const call of [sha256.digest('abc'), identity.digest('abc'), verify(whole, 'abc')])
     says(await told(call), 'TypeError content Uint8Array ReadableStream string TextEncoder', 'a content');
+  says(await told(sha256.digest(null)), 'TypeError content Uint8Array ReadableStream null', 'the body of no response');
   says(await told(verify(ABC, whole)), 'TypeError content Multihash', 'swapped arguments');
   const claims = [['1200', 'string Multihash.fromHex'], [{}, 'Object'], [null, 'null'], [new Blob(), 'Blob']];
   for (const [claim, got] of claims)

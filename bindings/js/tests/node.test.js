@@ -91,9 +91,9 @@ async function largeContent({ Multihash, identity, sha256, verify }) {
     timer = setImmediate(turn);
   });
   const { digest } = await sha256.digest(content);
+  clearImmediate(timer);
   same(turns > 32, true, 'other work');
   same(hex(digest), '75f9aa766c5e4c7c37e239ff62816017736205629d2996a34cce2bd405238461', 'of sha256sum');
-  clearImmediate(timer);
   const most = content.slice(-(2 ** 20));
   const [early, wanted] = [most, most.slice()].map((bytes) => sha256.digest(bytes));
   most.fill(2);
