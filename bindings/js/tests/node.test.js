@@ -74,7 +74,7 @@ async function compiledBefore() {
 
 /** Without node:crypto content is hashed by WebCrypto, which pages lack without HTTPS. */
 async function webCrypto(text) {
-  const [without, entry] = [await connected(), await connected({ crypto, ArrayBuffer, Blob })];
+  const [without, entry] = [await connected(), await connected({ crypto, ArrayBuffer, Blob, process: {} })];
   says(await told(without.sha256.digest(new Uint8Array())), 'TypeError WebCrypto HTTPS', 'without HTTPS');
   same(`${Object.keys(entry.hashers)}`, 'identity,sha1,sha2-256,sha2-512,sha2-384,dbl-sha2-256', 'of WebCrypto');
   for (const check of [hashes, hashStreams]) await check(entry, '', text);
@@ -166,10 +166,10 @@ function declared(module, which) {
   const names = stated.map(([, name]) => name);
   same(`${Object.keys(module).sort()}`, `${[...names, ...own].sort()}`, 'the names that *.d.ts have');
   for (const [, name, value] of stated) if (value) same(module[name], Number(value), name);
-  const { version, sideEffects, exports } = JSON.parse(bytesOf('package.json'));
+  const { type, version, sideEffects, exports } = JSON.parse(bytesOf('package.json'));
   for (const { types, default: code } of Object.values(exports))
     same(types, code?.replace(/js$/, 'd.ts'), 'types in package.json');
-  same(module.version, version, 'the version');
+  same(`${type} ${module.version}`, `module ${version}`, 'the type and version');
   same(sideEffects.includes(`./${which}.js`), which !== 'module', `sideEffects: ${which}.js`);
 }
 

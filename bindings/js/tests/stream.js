@@ -207,7 +207,7 @@ async function wrongSources(module, stream) {
     [new (class Own {})(), 'Own'],
     [{ [Symbol.asyncIterator]: () => null }, 'Object'], [{ [Symbol.asyncIterator]: () => ({}) }, 'Object']];
   for (const [source, kind] of kinds)
-    fails(TypeError, () => new module.MultihashReader(source), 'a source', `source ReadableStream iterable ${kind}`);
+    fails(TypeError, () => new module.MultihashReader(source), 'a source', `source a ReadableStream iterable ${kind}`);
   const options = [
     [RangeError, { limit: -1 }, 'limit 2^53 -1'],
     [TypeError, { limit: '64' }, 'limit number bigint string'],
