@@ -16,7 +16,7 @@ const later = () => new Promise((resolve) => globalThis.setImmediate(resolve));
 /** Hashes pieces with a function of node:crypto. */
 function byNode(algorithm, outputLength) {
   const hash = node.createHash(algorithm, outputLength && { outputLength });
-  return { update: (piece) => hash.update(piece), digest: () => new Uint8Array(hash.digest()) };
+  return { update: (piece) => hash.update(piece), digest: () => hash.digest() };
 }
 
 /** Hashes pieces with WebCrypto, which needs all of them at once, not in shared or resizable memory. */
