@@ -208,7 +208,7 @@ export class Multihash {
   equals(other) {
     if (other instanceof Multihash) return order(this, other) === 0;
     const [left, right, code] = [this.digest, other?.digest, other?.code];
-    if (!isBytes(left) || !isBytes(right)) return false;
+    if (!isBytes(right)) return false;
     // a number and a bigint of the same value are the same code
     if ((typeof code !== 'number' && typeof code !== 'bigint') || code != this.code) return false;
     const length = checkedLength(left, 'the digest');

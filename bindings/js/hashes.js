@@ -16,7 +16,7 @@ const later = () => new Promise((resolve) => globalThis.setImmediate(resolve));
 /** Hashes pieces with a function of node:crypto. */
 function byNode(algorithm, outputLength) {
   const hash = node.createHash(algorithm, outputLength && { outputLength });
-  return { update: (piece) => hash.update(piece), digest: () => new Uint8Array(hash.digest()) };
+  return { update: (piece) => hash.update(piece), digest: () => hash.digest() };
 }
 
 /** Hashes pieces with WebCrypto, which needs all of them at once, not in shared or resizable memory. */
@@ -72,7 +72,7 @@ async function reading(content, call) {
     if (content?.readableEnded) throw new TypeError('content is a stream that was read before: open it again');
     return await call(open);
   } catch (error) {
-    if (!isBytes(content)) await (async () => open().close())().catch(() => {}); // the first error is the one to know
+    await (async () => open().close())().catch(() => {}); // the first error is the one to know
     throw error;
   }
 }
@@ -82,7 +82,7 @@ async function digestOf(begin, content, open) {
   const hash = begin();
   if (isBytes(content)) {
     const length = checkedLength(content, 'content');
-    for (let at = 0; at === 0 || at < length; at += PIECE) {
+    for (let at = 0; at < length; at += PIECE) {
       if (at > 0) await later();
       hash.update(viewOf(content, at, Math.min(PIECE, length - at)));
     }

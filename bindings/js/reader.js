@@ -122,7 +122,7 @@ export class MultihashReader {
     this.#end ??= () => null;
     if (this.#isReleased) return;
     this.#stop?.();
-    await this.#source.close(reason, this.#calls > 0);
+    await this.#source.close(reason);
   }
 
   /** Yields each multihash; where the loop is left, the source is cancelled. */

@@ -11,16 +11,12 @@ export function sourceOf(source, name, others = '') {
   if (typeof iterator?.next !== 'function')
     throw wrongType(name, `${others}a ReadableStream or an async iterable`, source);
   if (typeof source.destroy === 'function') listen(source);
-  let hasBegun = false;
   return {
-    next() {
-      hasBegun = true;
-      return iterator.next();
-    },
+    next: () => iterator.next(),
     release() {},
     // `return` waits for what `next` waits for, which a Node.js Readable ends; before the first `next` it ends nothing
-    close(_, isWaiting) {
-      if ((isWaiting || !hasBegun) && typeof source.destroy === 'function') source.destroy();
+    close() {
+      if (typeof source.destroy === 'function') source.destroy();
       return iterator.return?.();
     },
   };

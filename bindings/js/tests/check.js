@@ -18,10 +18,14 @@ export const told = (promise) => promise.then(String, String);
 
 const wordsOf = (text) => text.match(/[^\s:,()"]+/g) ?? [];
 
-/** A text has these words: names and numbers, in any sentence. */
+/** A text has these words in this order: names and numbers, in any sentence. */
 export function says(text, words, what) {
-  const missing = wordsOf(words).filter((word) => !wordsOf(text).includes(word));
-  if (missing.length > 0) throw new Error(`${what}: no ${missing} in ${text}`);
+  if (/[:(] ?undefined/.test(text)) throw new Error(`${what}: ${text}`);
+  let rest = wordsOf(text);
+  for (const word of wordsOf(words)) {
+    if (!rest.includes(word)) throw new Error(`${what}: no ${word} in ${text}, wanted ${words}`);
+    rest = rest.slice(rest.indexOf(word) + 1);
+  }
 }
 
 /** The error of a call, which has to be of that class, and to say those words if some are given. */

@@ -52,7 +52,8 @@ export async function hashes(module, _, text) {
   }
   for (const name of ALWAYS) same(hashers[name]?.name, name, 'functions of all platforms');
   const platform = hashers['sha3-256'] ? process.getBuiltinModule('node:crypto').getHashes() : [];
-  for (const [name, theirs] of [['sm3-256', 'sm3'], ['ripemd-160', 'ripemd160']])
+  for (const [name, theirs] of [['sm3-256', 'sm3'], ['ripemd-160', 'ripemd160'], ['shake-128', 'shake128'],
+    ['blake2b-512', 'blake2b512'], ['sha2-512-256', 'sha512-256'], ['md5', 'md5']])
     if (platform.includes(theirs)) same(hashers[name]?.name, name, 'a function of another name');
   for (const each of [identity, sha256, sha384, sha512]) same(hashers[each.name], each, 'a function with a name');
   same(`${CODES.constructor} ${NAMES.toString} ${hashers.valueOf}`, 'undefined undefined undefined', 'not names');
@@ -86,26 +87,26 @@ export async function hashArguments({ Multihash, identity, sha256, verify }) {
   says(await told(sha256.digest(ABC, 20)), 'TypeError options object 20', 'options');
   for (const call of [sha256.digest('abc'), identity.digest('abc'), verify(whole, 'abc')])
     says(await told(call), 'TypeError content Uint8Array ReadableStream string TextEncoder', 'a content');
+  says(await told(sha256.digest(null)), 'TypeError content Uint8Array ReadableStream null', 'the body of no response');
   says(await told(verify(ABC, whole)), 'TypeError content Multihash', 'swapped arguments');
-  for (const claim of ['1200', {}, null, new Blob()])
-    says(await told(verify(claim, ABC)), 'TypeError multihash Multihash got', 'a claim');
+  const claims = [['1200', 'string Multihash.fromHex'], [{}, 'Object'], [null, 'null'], [new Blob(), 'Blob']];
+  for (const [claim, got] of claims)
+    says(await told(verify(claim, ABC)), `TypeError multihash Multihash got ${got}`, 'a claim');
+  says(await told(verify({ code: '18', digest: ABC }, ABC)), 'TypeError code number string', "a claim's code");
   says(await told(verify(ABC, ABC)), 'MultihashError digest 1 98', 'an encoding');
-  says(await told(identity.digest(new Uint8Array(300))), 'MultihashError identity 255 300', 'too long');
+  const tooLong = await identity.digest(new Uint8Array(300)).catch((error) => error);
+  says(`${tooLong} ${tooLong.status} ${tooLong.size}`, 'MultihashError identity 255 300 invalid_size 300', 'too long');
   same(await verify(Multihash.of(0, new Uint8Array(255)), new Uint8Array(300)), false, 'a content that is too long');
   const longest = await identity.digest(new Uint8Array(255).fill(1));
   same(hex(longest.digest), '01'.repeat(255), 'the longest');
 }
 
 /** Chunks in the same memory, as sources may have them. */
-async function* chunks(content, end) {
-  const memory = new Uint8Array(1000);
-  try {
-    for (let at = 0; at < content.length; at += 1000) {
-      memory.set(content.subarray(at, at + 1000));
-      yield memory.subarray(0, Math.min(1000, content.length - at));
-    }
-  } finally {
-    end?.();
+async function* chunks(content) {
+  const memory = new Uint8Array(100);
+  for (let at = 0; at < content.length; at += 100) {
+    memory.set(content.subarray(at, at + 100));
+    yield memory.subarray(0, Math.min(100, content.length - at));
   }
 }
 
@@ -121,9 +122,12 @@ export async function hashStreams({ hashers, identity, sha256, verify }) {
     }
   }
   same(`${await identity.digest(chunks(content.subarray(0, 3)))}`, '0003000102', 'identity');
-  says(await told(identity.digest(stream())), 'MultihashError identity 255 2500', 'identity');
+  says(await told(identity.digest(chunks(content))), 'MultihashError identity 255 2500', 'identity');
+  for (const empty of [new Uint8Array(), chunks('')])
+    same(`${await sha256.digest(empty)}`.slice(0, 12), '1220e3b0c442', 'no content');
   let ends = 0;
-  const texts = { [Symbol.asyncIterator]: () => ({ next: async () => ({ value: 'a' }), return: () => (ends += 1) }) };
+  const failed = () => Promise.reject(new Error(`a failure at the end ${(ends += 1)}`));
+  const texts = { [Symbol.asyncIterator]: () => ({ next: async () => ({ value: 'a' }), return: failed }) };
   says(await told(sha256.digest(texts)), 'TypeError chunk content Uint8Array string encoding', 'a text');
   same(ends, 1, 'the source is cancelled');
   for (const call of [(source) => verify('1200', source), (source) => sha256.digest(source, 20)]) {

@@ -85,9 +85,11 @@ async function malformedStream(module, stream, wanted) {
   says(`${error}`, 'MultihashError digest 32 31', 'a limit');
   same(`${error.taken} ${source.locked}`, '2 false', 'a stream at an error');
   same(ended.taken, 0, 'taken at an error');
+  same(await ended.read().catch((again) => again), error, 'the error, again');
   const other = new module.MultihashReader(source, { rest });
   same(await told(ended.cancel()), 'undefined', "the stream is the other's now");
-  same(`${(await drained(other)).found} ${cancelled}`, `${wanted} 0`, 'another reader of a stream');
+  const { found: others } = await drained(other);
+  same(`${others} ${source.locked} ${cancelled}`, `${wanted} false 0`, 'another reader of a stream');
   const left = byteStream([], undefined, () => (cancelled += 1));
   const reader = new module.MultihashReader(left, { limit: 31, rest });
   rest.fill(0); // a copy is in the reader
@@ -153,7 +155,7 @@ async function givenUp(module, stream) {
       const source = byteStream(stream.subarray(0, 20), undefined, (reason) => (reasons += reason));
       let deliver;
       const chunk = new Promise((resolve) => (deliver = resolve));
-      const iterable = { [Symbol.asyncIterator]: () => ({ next: () => chunk }) };
+      const iterable = { destroy() {}, [Symbol.asyncIterator]: () => ({ next: () => chunk }) };
       const readers = [source, iterable].map((each) => new module.MultihashReader(each));
       const calls = readers.flatMap((reader) => [told(reader.read()), told(reader.read())]);
       for (const reader of readers) await reader[name]('why');
@@ -169,9 +171,11 @@ async function givenUp(module, stream) {
 
 /** What a source does when it is cancelled is awaited. Its error is the call's, if that has no other one. */
 async function failingCancellations(module) {
-  const fail = async () => {
-    await null;
-    throw new Error('stuck');
+  let ends;
+  const fail = async (reason = 'stuck') => {
+    await new Promise((resolve) => setTimeout(resolve));
+    ends = true;
+    throw new Error(reason);
   };
   const [whole, malformed] = [Uint8Array.of(1, 0), Uint8Array.of(0x80, 0)];
   const iterable = (value) => {
@@ -182,9 +186,11 @@ async function failingCancellations(module) {
     const [first, second, left] = [malformed, malformed, whole].map(sourceOf);
     const reader = new module.MultihashReader(first);
     await told(reader.read());
-    same(`${await told(reader.cancel())}, ${!first.locked}`, 'Error: stuck, true', 'a call after the end');
+    const wanted = first.getReader ? 'Error: why, true' : 'Error: stuck, true';
+    same(`${await told(reader.cancel('why'))}, ${!first.locked}`, wanted, 'a call after the end');
+    ends = false;
     const failed = new module.MultihashReader(second)[Symbol.asyncIterator]();
-    says(await told(failed.next()), 'MultihashError varint code', 'the first error of a loop');
+    says(`${await told(failed.next())} ${ends}`, 'MultihashError varint code true', 'the first error of a loop');
     const loop = new module.MultihashReader(left)[Symbol.asyncIterator]();
     await loop.next();
     same(`${await told(loop.return())}, ${!left.locked}`, 'Error: stuck, true', 'a loop that is left');
@@ -197,10 +203,11 @@ async function wrongSources(module, stream) {
     says(`${text.error} ${text.found.length} ${text.rest.length}`, 'TypeError chunk source Uint8Array string encoding 0 9',
       'a chunk that is text');
   const kinds = [[null, 'null'], [3, '3'], ['ab', 'string'], [[stream], 'Array'],
-    [new Response(), 'Response body'], [new Blob([]), 'Blob stream'], [new (class Own {})(), 'Own'],
+    [new Response(), 'Response body'], [new Blob([]), 'Blob stream'], [new File([], ''), 'File stream'],
+    [new (class Own {})(), 'Own'],
     [{ [Symbol.asyncIterator]: () => null }, 'Object'], [{ [Symbol.asyncIterator]: () => ({}) }, 'Object']];
   for (const [source, kind] of kinds)
-    fails(TypeError, () => new module.MultihashReader(source), 'a source', `source ReadableStream iterable ${kind}`);
+    fails(TypeError, () => new module.MultihashReader(source), 'a source', `source a ReadableStream iterable ${kind}`);
   const options = [
     [RangeError, { limit: -1 }, 'limit 2^53 -1'],
     [TypeError, { limit: '64' }, 'limit number bigint string'],

@@ -2,7 +2,7 @@
 import * as index from 'verified-multihash';
 import { Multihash, MultihashError, MultihashReader, compare, decode, encode, encodedLength, head, read, scaleDecode,
   scaleEncode } from 'verified-multihash';
-import type { ByteStream, Details, Status, Wide } from 'verified-multihash';
+import type { ByteStream, Status, Wide } from 'verified-multihash';
 import { CODES, NAMES, hashers, identity, sha256, sha384, sha512, verify } from 'verified-multihash';
 import type { Content } from 'verified-multihash';
 import * as hashes from 'verified-multihash/hashes';
@@ -17,30 +17,30 @@ type Fields<A> = { [Name in keyof A as A[Name] extends Function ? never : Name]:
 const isFixed = <A>(_: A, ...__: Same<Fields<A>, Readonly<Fields<A>>> extends true ? [] : [never]): void => undefined;
 
 const bytes = new Uint8Array([0x12, 0]);
-const found = is<Multihash>()(decode(bytes));
-is<{ readonly multihash: Multihash; readonly taken: number }>()(read(bytes, 2n ** 60n));
-is<{ readonly code: Wide; readonly digestLength: Wide; readonly taken: number }>()(head(bytes));
-is<Uint8Array>()(encode(found.code, scaleEncode(2n, found.digest)));
-is<number>()(encodedLength(18, 2n));
-is<-1 | 0 | 1>()(compare(found, scaleDecode(bytes).multihash));
+const found = decode(bytes);
+type Read = { readonly multihash: Multihash; readonly taken: number };
+is<(bytes: Uint8Array) => Multihash>()(decode);
+is<(bytes: Uint8Array, limit?: Wide) => Read>()(read);
+is<(bytes: Uint8Array) => Read>()(scaleDecode);
+is<(bytes: Uint8Array) => { readonly code: Wide; readonly digestLength: Wide; readonly taken: number }>()(head);
+is<(code: Wide, digest: Uint8Array) => Uint8Array>()(encode);
+is<(code: Wide, digest: Uint8Array) => Uint8Array>()(scaleEncode);
+is<(code: Wide, digestLength: Wide) => number>()(encodedLength);
+is<(left: Multihash, right: Multihash) => -1 | 0 | 1>()(compare);
 is<readonly [255, 18, 266, 264]>()(
   [index.DIGEST_MAX, index.HEAD_MAX, index.LENGTH_MAX, index.SCALE_LENGTH_MAX] as const);
 
-is<Multihash<number>>()(Multihash.of(0x12, bytes));
-is<Multihash<Wide>>()(Multihash.of(2n ** 60n, bytes));
-// @ts-expect-error a code is no name
-Multihash.of('sha2-256', bytes);
-// @ts-expect-error a digest is no text
-Multihash.of(18, '');
+is<{ (code: number, digest: Uint8Array): Multihash<number>; (code: Wide, digest: Uint8Array): Multihash }>()(
+  Multihash.of);
 // @ts-expect-error Multihash.of makes one
 new Multihash();
 is<number | bigint>()(found.code);
 isFixed(found);
 is<Multihash<number>>()(is<Multihash>()(Multihash.fromHex(`${found}`)).narrow());
-is<boolean>()(found.equals('any value'));
+is<(other: unknown) => boolean>()(found.equals);
 is<{ code: number | string; size: number; digest: string }>()(found.toJSON());
 
-const error = new MultihashError('a text', { status: 'invalid_size', size: 2n ** 60n });
+const error = new MultihashError('a text', { status: 'not_hexadecimal', size: 2n ** 60n });
 export const plain: Error = error;
 // @ts-expect-error 'ok' is the status of no error
 new MultihashError('a text', { status: 'ok' });
@@ -55,28 +55,27 @@ is<{ name: string; message: string; status: Status; size?: number | string; code
   error.toJSON());
 isFixed(error as Omit<MultihashError, 'name' | 'message' | 'stack'>);
 isFixed(error.cause);
-is<Details>()(error.cause);
-is<MultihashError | undefined>()(MultihashError.from({}));
+is<{ readonly status: Status; readonly size?: Wide; readonly code?: Wide; readonly taken?: number }>()(error.cause);
+is<(value: unknown) => MultihashError | undefined>()(MultihashError.from);
 
 declare const stream: ReadableStream<Uint8Array>;
 const reader = new MultihashReader(stream, { limit: 64, rest: bytes });
-new MultihashReader(stream, { limit: 2n ** 60n });
+is<[source: ByteStream | AsyncIterable<Uint8Array>, options?: { limit?: Wide; rest?: Uint8Array }]>()(
+  {} as ConstructorParameters<typeof MultihashReader>);
 export const source: ByteStream = stream;
 export const iterable = (chunks: AsyncIterable<Uint8Array>): MultihashReader => new MultihashReader(chunks);
 // @ts-expect-error chunks are no texts
 export const texts = (stream: ReadableStream<string>): MultihashReader => new MultihashReader(stream);
-// @ts-expect-error an option that is none
-new MultihashReader(stream, { most: 64 });
 is<Multihash | null>()(await reader.read());
 for await (const each of reader) is<Multihash>()(each);
 is<Uint8Array>()(reader.rest);
 is<number>()(reader.taken);
 isFixed(reader);
-await reader.cancel('a reason');
+is<(reason?: unknown) => Promise<void>>()(reader.cancel);
 is<void>()(reader.release());
-await reader[Symbol.asyncDispose]();
+is<Promise<void>>()(reader[Symbol.asyncDispose]());
 
-module.connect({});
+is<(module: object) => void>()(module.connect);
 is<string>()(index.version);
 export const entries: (typeof index)[] = [inline, module, hashes];
 
@@ -96,25 +95,20 @@ export const theirs: MultihashDigest[] = [found.narrow(), Multihash.of(0x12, byt
 // @ts-expect-error the code may be a bigint
 export const wide: MultihashDigest = found;
 export const theirHashers: MultihashHasher[] = [sha256, identity];
-is<readonly [0x20, 0x13, 0x56]>()(
-  [hashers['sha2-384'].code, hashers['sha2-512'].code, hashers['dbl-sha2-256'].code] as const);
+is<readonly [0, 0x12, 0x20, 0x13, 0x56]>()([hashers.identity.code, hashers['sha2-256'].code,
+  hashers['sha2-384'].code, hashers['sha2-512'].code, hashers['dbl-sha2-256'].code] as const);
 isFixed(sha256);
 is<readonly [0, 0x20, 0x13]>()([identity.code, sha384.code, sha512.code] as const);
 is<Multihash<0x12>>()(await sha256.digest(bytes));
 is<Multihash<0x12>>()(await sha256.digest(stream, { truncate: 20 }));
-is<boolean>()((await hashers['blake2b-512']?.digest(bytes))?.equals(found) ?? false);
+is<hashes.MultihashHasher | undefined>()(hashers['blake2b-512']);
 is<Multihash<0x11>>()(await hashers.sha1.digest(bytes));
-export const contents = [bytes, stream, reader.rest] as Content[];
+is<Uint8Array | ByteStream | AsyncIterable<Uint8Array>>()(bytes as Content);
 // @ts-expect-error a text has to be encoded before
 sha256.digest('abc');
-is<boolean>()(await verify(found, bytes));
-is<boolean>()(await verify(bytes, stream));
-is<boolean>()(await verify({ code: 18, digest: bytes }, bytes));
-is<boolean>()(await verify(theirs[0]!, bytes));
-// @ts-expect-error an encoding is no text
-verify('1200', bytes);
-// @ts-expect-error nor is a content
-verify(bytes, '');
+is<{ readonly code: Wide; readonly digest: Uint8Array }>()(found as index.MultihashDigest);
+is<(multihash: index.MultihashDigest | Uint8Array, content: Content) => Promise<boolean>>()(verify);
+verify(theirs[0]!, stream);
 is<string | undefined>()(NAMES[18]);
 is<0x12>()(CODES['sha2-256']);
 is<number | undefined>()(CODES['blake2b-128']);
