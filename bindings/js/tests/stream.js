@@ -83,6 +83,8 @@ async function malformedStream(module, stream, wanted) {
   const ended = new module.MultihashReader(source, { limit: 31 });
   const { error, rest } = await drained(ended);
   says(`${error}`, 'MultihashError digest 32 31', 'a limit');
+  const long = await readAll(module, chunks(Uint8Array.of(18, 172, 2)), { limit: 1000 });
+  says(`${long.error}`, 'digest 300 255', 'a limit of more than 255 bytes');
   same(`${error.taken} ${source.locked}`, '2 false', 'a stream at an error');
   same(ended.taken, 0, 'taken at an error');
   same(await ended.read().catch((again) => again), error, 'the error, again');
