@@ -41,6 +41,7 @@ CALLS["values"] = lambda: (OTHER.code, OTHER.digest, OTHER.hexdigest(), bytes(OT
 CALLS["format"] = OTHER.__format__, [""]
 CALLS["hexadecimal"] = lambda: (Multihash.fromhex(OTHER.hex()), Named.fromhex(str(VALUE))), ()
 CALLS["replace"] = lambda: (VALUE.__replace__(digest=b"d"), Named(1, b"a").__replace__(code=2)), ()
+CALLS["no field"] = functools.partial(VALUE.__replace__, name=1), ()
 CALLS["order"] = lambda: (VALUE == OTHER, VALUE < OTHER, VALUE == 1, VALUE == Named(VALUE.code, VALUE.digest)), ()
 CALLS["a text"] = vm._core.status_text, [1 << 62]
 CALLS["pickle"] = VALUE.__getnewargs__, ()

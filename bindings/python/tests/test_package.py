@@ -62,6 +62,7 @@ TEXTS = [
     (vm.read_from, [io.BytesIO(b"\x12\3ab")], "digest 2 3"),
     (vm.encoded_len, [18, 1 << 64], "digest 18446744073709551616 255"),
     (vm.encoded_len, [18, 10**5000], "digest %s 255" % front_of(10**5000)),
+    (vm.encode, [10**39, b""], "code %d 2^63" % 10**39),
     (vm.encode, [10**4400, b""], "code %s 2^63" % front_of(10**4400)),
     (vm.decode, ["1220"], "data bytes Multihash.fromhex str"),
     (vm.read, [3], "data bytes-like int"),
@@ -243,7 +244,7 @@ class Arguments(unittest.TestCase):
 class Values(unittest.TestCase):
     def test_order(self):
         pairs = [(0, b"zz"), (1, b"b"), (1, b"ab"), (1, b"bb"), (2, b""), (2, bytes(255)), ((1 << 63) - 1, b"")]
-        kinds = Multihash, Named, type("Sibling", (Multihash,), {}), type("Inner", (Named,), {})
+        kinds = Multihash, Named, type("Other", (type("Middle", (Multihash,), {}),), {}), type("Inner", (Named,), {})
         for one, other in itertools.product(kinds, repeat=2):
             for (i, left), (k, right) in itertools.product(enumerate(pairs), repeat=2):
                 left, right = one(*left), other(*right)
