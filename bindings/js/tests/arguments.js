@@ -57,7 +57,8 @@ export function numbers({ Multihash, MultihashError, encode, encodedLength, read
       fails(RangeError, () => call(wrong), `${wrong}`, `${name} 2^53 ${wrong}`);
     const most = name === 'code' ? '2^63' : '2^64';
     for (const wrong of [-1n, 1n << 64n]) fails(RangeError, () => call(wrong), `${wrong}`, `${name} ${most} ${wrong}`);
-    fails(RangeError, () => call(10n ** 4000n), 'long', `${name} ${most} 1${'0'.repeat(39)}...`);
+    for (const [digits, end] of [[40, ''], [41, '...'], [4000, '...']])
+      fails(RangeError, () => call(10n ** BigInt(digits - 1)), `${digits}`, `${name} ${most} 1${'0'.repeat(39)}${end}`);
   }
   const code = 1n << 63n;
   same(fails(MultihashError, () => encodedLength(code, 2), 'a code').code, code, 'a code');
@@ -71,7 +72,7 @@ export function numbers({ Multihash, MultihashError, encode, encodedLength, read
 export function polluted(module) {
   Object.assign(Object.prototype, { size: 5, code: 6 });
   const { message, size, code, taken } = fails(module.MultihashError, () => module.head(unhex('8000')), 'polluted');
-  same(fails(module.MultihashError, () => module.encode(1, new Uint8Array(300)), 'polluted').code, undefined, 'code');
+  same(fails(module.MultihashError, () => module.encode(1, new Uint8Array(256)), 'polluted').code, undefined, 'code');
   delete Object.prototype.size;
   delete Object.prototype.code;
   same(`${size} ${code} ${taken}`, 'undefined undefined 2', 'fields');
@@ -91,6 +92,11 @@ export function equality(module) {
     same(multihash.equals({ code: 0, digest: other }), false, `equals, a digest: ${kindOf(other)}`);
   for (const value of [null, undefined, 22, 'text', {}, EXAMPLE])
     same(multihash.equals(value), false, `equals ${kindOf(value)}`);
+  const [code, zeros] = [2n ** 53n, new Uint8Array(255)];
+  const [long, larger] = [zeros, Uint8Array.of(...zeros.subarray(1), 1)].map((each) => module.Multihash.of(code, each));
+  same(`${long.equals(larger)} ${module.compare(long, larger)}`, 'false -1', 'the last byte');
+  for (const other of [{ code, digest: larger.digest }, { code: code + 1n, digest: zeros }])
+    same(long.equals(other), false, 'the last byte, or a code that is no number');
   const empty = module.Multihash.of(18, new Uint8Array());
   for (const digest of withoutMemory())
     fails(TypeError, () => empty.equals({ code: 18, digest }), 'a digest that is gone', 'other digest detached');
@@ -129,9 +135,11 @@ export function multihashes(module) {
     same(`${Object.keys(plain)}`, 'code,size,digest', 'fields');
     same(Multihash.of(plain.code, plain.digest).equals(multihash), true, 'from a clone');
   }
-  const shown = [multihash, Multihash.of(18, new Uint8Array())].map((each) => each[INSPECT]());
-  same(`${shown}`, `Multihash(0x16, ${hex(EXAMPLE.subarray(2))}),Multihash(0x12, empty)`, 'console.log');
-  same(multihash.narrow(), multihash, 'a code that is a number');
+  const shown = [multihash, Multihash.of(2n ** 63n - 1n, new Uint8Array())].map((each) => each[INSPECT]());
+  const texts = [`0x16, ${hex(EXAMPLE.subarray(2))}`, '0x7fffffffffffffff, empty'];
+  same(`${shown}`, `${texts.map((text) => `Multihash(${text})`)}`, 'console.log');
+  const narrow = [0, 2 ** 53 - 1].map((code) => Multihash.of(code, EXAMPLE));
+  for (const each of narrow) same(each.narrow(), each, 'a code that is a number');
   fails(RangeError, () => Multihash.of(2n ** 53n, EXAMPLE).narrow(), 'narrow', 'code 9007199254740992 bigint');
   fails(TypeError, () => new Multihash(Symbol('making'), 22, EXAMPLE), 'constructor', 'Multihash.of');
   same(Object.is(Multihash.of(-0, EXAMPLE).code, 0), true, 'code -0');
@@ -170,18 +178,20 @@ export function errors(module, _verdicts, _hashes, _values, messages) {
   }
   const code = 2n ** 63n;
   const cases = [
-    [() => encode(1, new Uint8Array(300)), 'digest 300 255', '"invalid_size","size":300'],
+    [() => encode(1, new Uint8Array(256)), 'digest 256 255', '"invalid_size","size":256'],
     [() => encode(code, EXAMPLE), `code ${code} 2^63`, `"invalid_code","code":"${code}"`],
     [() => decode(unhex('12ffffffffffffffff7f')), 'digest', `"invalid_size","size":"${code - 1n}","taken":10`],
     [() => decode(new Uint8Array(1 << 22)), '4194302 bytes', '"invalid_size","size":4194302,"taken":4194304'],
     [() => decode(Uint8Array.of(1, 255, 1, ...new Uint8Array(256))), '1 byte', '"invalid_size","size":1,"taken":259'],
     [() => decode(unhex('80')), 'code', '"insufficient","taken":1'],
     [() => module.Multihash.fromHex('1g'), 'g 1', '"not_hexadecimal"'],
+    [() => module.Multihash.fromHex(''), 'input empty', '"insufficient","taken":0'],
   ];
   for (const [call, words, rest] of cases) {
     const error = fails(MultihashError, call, words, words);
     const start = `{"name":"MultihashError","message":${JSON.stringify(error.message)},"status":`;
     same(JSON.stringify(error), `${start}${rest}}`, 'in JSON');
+    same(`${Object.keys(error)}`, 'status,size,code,taken', 'what console.log shows');
     const again = MultihashError.from(structuredClone(error));
     same(again instanceof MultihashError, keepsCause(), `from a clone: ${words}`);
     const fields = ['name', 'message', 'status', 'size', 'code', 'taken', 'isIncomplete'];

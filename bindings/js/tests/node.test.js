@@ -38,17 +38,20 @@ async function inContext(name, program = '', globals = {}, wasm = false) {
 async function unfit() {
   const responding = (response) => ({ fetch: async () => response, process }); // as pages have one by some bundlers
   const found = responding({ ok: true, arrayBuffer: async () => bytesOf('multihash.wasm') });
+  const ofPage = bytesOf('README.md').toString().match(/\b[A-Z][a-z.]+\s\d[\d.]*/g).slice(0, 5);
+  const { engines } = JSON.parse(bytesOf('package.json'));
+  same(ofPage[0], `Node.js ${engines.node.slice(2)}`, 'the first version of README.md');
   const programs = [
     ['', 'CompileError'],
     ['delete globalThis.WebAssembly'],
     ['delete globalThis.BigInt'],
-    ['WebAssembly.validate = () => false'],
+    ['WebAssembly.validate = (bytes) => !bytes.includes(252)'], // the first byte of later instructions
   ];
   for (const [program, cause] of programs) {
     for (const name of ['inline.js', 'index.js']) {
       const error = await inContext(name, program, found).catch((error) => error);
       same(error.cause?.name, cause, `${name} ${program}`);
-      says(error.message, 'WebAssembly BigInt Node.js Chrome Edge Firefox Safari', `${name} ${program}`);
+      says(error.message, `WebAssembly BigInt ${ofPage.join(' ')}`, `${name} ${program}`);
     }
   }
   const error = await inContext('index.js', '', responding({ ok: false, status: 500 })).catch((error) => error);
@@ -167,6 +170,9 @@ function declared(module, which) {
   same(`${Object.keys(module).sort()}`, `${[...names, ...own].sort()}`, 'the names that *.d.ts have');
   for (const [, name, value] of stated) if (value) same(module[name], Number(value), name);
   const { type, version, sideEffects, exports } = JSON.parse(bytesOf('package.json'));
+  const listed = Object.fromEntries([...texts.matchAll(/^  readonly '(.+)': (0x\w+);/gm)].map(([, ...pair]) => pair));
+  const alone = Object.keys(module.CODES).filter((name) => !/^(blake2|skein)/.test(name)); // not of a family
+  for (const name of [...alone, ...Object.keys(listed)]) same(module.CODES[name], Number(listed[name]), name);
   for (const { types, default: code } of Object.values(exports))
     same(types, code?.replace(/js$/, 'd.ts'), 'types in package.json');
   same(`${type} ${module.version}`, `module ${version}`, 'the type and version');

@@ -45,7 +45,10 @@ const byteStream = (stream, after, cancel) => new ReadableStream({
 
 const close = (controller) => controller.close();
 
-/** Sources that end after those bytes, and then by an error. They may use the memory of a chunk again. */
+/**
+ * Sources that end after those bytes, and then by an error. They may use the memory of a chunk again. A chunk may be
+ * empty, and what a generator returns is no chunk.
+ */
 function sourcesOf(stream, error) {
   const chunk = new Uint8Array(7);
   async function* parts() {
@@ -53,8 +56,10 @@ function sourcesOf(stream, error) {
       const part = stream.subarray(at, at + 7);
       chunk.set(part);
       yield chunk.subarray(0, part.length);
+      yield chunk.subarray(7);
     }
     if (error) throw error;
+    return chunk;
   }
   return [byteStream(stream, error ? (controller) => controller.error(error) : close), parts()];
 }
@@ -63,8 +68,9 @@ function sourcesOf(stream, error) {
 async function endedSources(module, stream, wanted) {
   for (const source of sourcesOf(stream)) {
     const found = [];
-    for await (const multihash of new module.MultihashReader(source)) found.push(hex(multihash.bytes));
-    same(`${found} ${!source.locked}`, `${wanted} true`, 'a loop');
+    const reader = new module.MultihashReader(source);
+    for await (const multihash of reader) found.push(hex(multihash.bytes));
+    same(`${found} ${!source.locked} ${await reader.read()}`, `${wanted} true null`, 'a loop');
   }
   for (const source of sourcesOf(stream.subarray(0, 20), new Error('broken'))) {
     const reader = new module.MultihashReader(source);
@@ -83,6 +89,8 @@ async function malformedStream(module, stream, wanted) {
   const ended = new module.MultihashReader(source, { limit: 31 });
   const { error, rest } = await drained(ended);
   says(`${error}`, 'MultihashError digest 32 31', 'a limit');
+  const later = await readAll(module, chunks(Uint8Array.of(1, 0, 1, 2)), { limit: 1 });
+  says(`${later.error} ${later.found}`, 'MultihashError digest 2 1 0100', 'a limit after a multihash');
   const long = await readAll(module, chunks(Uint8Array.of(18, 172, 2)), { limit: 1000 });
   says(`${long.error}`, 'digest 300 255', 'a limit of more than 255 bytes');
   same(`${error.taken} ${source.locked}`, '2 false', 'a stream at an error');
@@ -117,6 +125,7 @@ async function leftLoops(module, stream) {
   const reader = new module.MultihashReader(chunks(stream));
   await reader.read();
   reader.release();
+  reader.rest.fill(0);
   same(hex(reader.rest), hex(stream.subarray(34)), 'rest after a release');
   says(await told(reader[Symbol.asyncIterator]().next()), RELEASED, 'a loop after a release');
 }
@@ -181,8 +190,8 @@ async function failingCancellations(module) {
   };
   const [whole, malformed] = [Uint8Array.of(1, 0), Uint8Array.of(0x80, 0)];
   const iterable = (value) => {
-    const iterator = { next: async () => ({ value }), return: fail };
-    return { [Symbol.asyncIterator]: () => iterator };
+    const iterators = [{ next: async () => ({ value }), return: fail }];
+    return { [Symbol.asyncIterator]: () => iterators.pop() };
   };
   for (const sourceOf of [(stream) => byteStream(stream, undefined, fail), iterable]) {
     const [first, second, left] = [malformed, malformed, whole].map(sourceOf);

@@ -48,7 +48,8 @@ new MultihashError('a text', { status: 'ok' });
 new MultihashError('a text', { status: 'no_room' });
 // @ts-expect-error a field may be absent, not undefined
 new MultihashError('a text', { status: 'overflow', taken: undefined });
-is<Status>()(error.status);
+is<'insufficient' | 'overflow' | 'not_minimal' | 'invalid_size' | 'invalid_code' | 'unexpected_eof' |
+  'not_hexadecimal'>()(error.status as Status);
 is<readonly [Wide | undefined, Wide | undefined, number | undefined, boolean]>()(
   [error.size, error.code, error.taken, error.isIncomplete] as const);
 is<{ name: string; message: string; status: Status; size?: number | string; code?: number | string; taken?: number }>()(
@@ -63,17 +64,23 @@ const reader = new MultihashReader(stream, { limit: 64, rest: bytes });
 is<[source: ByteStream | AsyncIterable<Uint8Array>, options?: { limit?: Wide; rest?: Uint8Array }]>()(
   {} as ConstructorParameters<typeof MultihashReader>);
 export const source: ByteStream = stream;
+interface Lock {
+  read(): Promise<{ done: boolean; value?: Uint8Array | undefined }>;
+  cancel(reason?: unknown): Promise<void>;
+  releaseLock(): void;
+}
+is<{ readonly locked: boolean; getReader(): Lock; cancel(reason?: unknown): Promise<void> }>()(source);
 export const iterable = (chunks: AsyncIterable<Uint8Array>): MultihashReader => new MultihashReader(chunks);
 // @ts-expect-error chunks are no texts
 export const texts = (stream: ReadableStream<string>): MultihashReader => new MultihashReader(stream);
-is<Multihash | null>()(await reader.read());
-for await (const each of reader) is<Multihash>()(each);
+is<() => Promise<Multihash | null>>()(reader.read);
+is<() => AsyncGenerator<Multihash, void, void>>()(reader[Symbol.asyncIterator]);
 is<Uint8Array>()(reader.rest);
 is<number>()(reader.taken);
 isFixed(reader);
 is<(reason?: unknown) => Promise<void>>()(reader.cancel);
-is<void>()(reader.release());
-is<Promise<void>>()(reader[Symbol.asyncDispose]());
+is<() => void>()(reader.release);
+is<() => Promise<void>>()(reader[Symbol.asyncDispose]);
 
 is<(module: object) => void>()(module.connect);
 is<string>()(index.version);
@@ -99,9 +106,9 @@ is<readonly [0, 0x12, 0x20, 0x13, 0x56]>()([hashers.identity.code, hashers['sha2
   hashers['sha2-384'].code, hashers['sha2-512'].code, hashers['dbl-sha2-256'].code] as const);
 isFixed(sha256);
 is<readonly [0, 0x20, 0x13]>()([identity.code, sha384.code, sha512.code] as const);
-is<Multihash<0x12>>()(await sha256.digest(bytes));
-is<Multihash<0x12>>()(await sha256.digest(stream, { truncate: 20 }));
-is<hashes.MultihashHasher | undefined>()(hashers['blake2b-512']);
+is<(content: Content, options?: { truncate?: number }) => Promise<Multihash<0x12>>>()(sha256.digest);
+sha256.digest(stream, { truncate: 20 });
+is<hashes.MultihashHasher<number> | undefined>()(hashers['blake2b-512']);
 is<Multihash<0x11>>()(await hashers.sha1.digest(bytes));
 is<Uint8Array | ByteStream | AsyncIterable<Uint8Array>>()(bytes as Content);
 // @ts-expect-error a text has to be encoded before

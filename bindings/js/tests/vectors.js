@@ -85,6 +85,8 @@ function checkHead(module, data, kind, read, taken) {
     return consumed;
   }
   const { code, digestLength, taken: length } = module.head(kind(data));
+  for (const number of [code, digestLength])
+    same(typeof number, number <= Number.MAX_SAFE_INTEGER ? 'number' : 'bigint', 'type of a number of a head');
   const [head, ...numbers] = [varints[0].length / 2, ...varints.slice(1).map(numberOf)];
   same(`${code} ${digestLength} ${length}`, `${numbers.join(' ')} ${head}`, 'head');
   return taken === '-' ? length : taken;
