@@ -70,7 +70,7 @@ packed_types() {
   printf '%s\n' "export * from 'verified-multihash/module';" "// @ts-expect-error no types of pages are there" \
     "export type Compiled = WebAssembly.Module;" > no_page.ts
   "${strict[@]}" --lib es2022 no_page.ts
-  printf "export * from 'verified-multihash/%s';\n" inline module hashes > entries.ts
+  printf "export * from 'verified-multihash%s';\n" '' /inline /module /hashes > entries.ts
   tsc --noEmit --strict --target es2022 --module es2022 --moduleResolution node entries.ts
 }
 

@@ -19,12 +19,12 @@ const vectors = process.env.MULTIHASH_VERDICTS ??
 
 /**
  * Evaluates a program and then an entry in a context of its own, which compiles no WebAssembly, like hosts at the edge,
- * unless that is wanted. Returns the entry's exports.
+ * unless that is wanted. With a process it is loaded from a server, else from a file. Returns the entry's exports.
  */
 async function inContext(name, program = '', globals = {}, wasm = false) {
   const context = createContext({ atob, TextDecoder, URL, ...globals }, { codeGeneration: { strings: false, wasm } });
   runInContext(program, context);
-  const initializeImportMeta = (meta) => (meta.url = `https://localhost/${name}`);
+  const initializeImportMeta = (meta) => (meta.url = `${globals.process ? 'https' : 'file'}://localhost/${name}`);
   const files = {};
   const parsed = (file) =>
     (files[file] ??= new SourceTextModule(bytesOf(file).toString(), { context, initializeImportMeta }));
@@ -48,8 +48,8 @@ async function unfit() {
     ['WebAssembly.validate = (bytes) => !bytes.includes(252)'], // the first byte of later instructions
   ];
   for (const [program, cause] of programs) {
-    for (const name of ['inline.js', 'index.js']) {
-      const error = await inContext(name, program, found).catch((error) => error);
+    for (const [name, globals] of [['inline.js', {}], ['index.js', found], ['index.js', { fetch: found.fetch }]]) {
+      const error = await inContext(name, program, globals).catch((error) => error);
       same(error.cause?.name, cause, `${name} ${program}`);
       says(error.message, `WebAssembly BigInt ${ofPage.join(' ')}`, `${name} ${program}`);
     }
@@ -170,6 +170,7 @@ function declared(module, which) {
   same(`${Object.keys(module).sort()}`, `${[...names, ...own].sort()}`, 'the names that *.d.ts have');
   for (const [, name, value] of stated) if (value) same(module[name], Number(value), name);
   const { type, version, sideEffects, exports } = JSON.parse(bytesOf('package.json'));
+  same(exports[`./${which}`.replace('/index', '')].default, `./${which}.js`, 'an entry in package.json');
   const listed = Object.fromEntries([...texts.matchAll(/^  readonly '(.+)': (0x\w+);/gm)].map(([, ...pair]) => pair));
   const alone = Object.keys(module.CODES).filter((name) => !/^(blake2|skein)/.test(name)); // not of a family
   for (const name of [...alone, ...Object.keys(listed)]) same(module.CODES[name], Number(listed[name]), name);
