@@ -34,9 +34,12 @@ is<{ (code: number, digest: Uint8Array): Multihash<number>; (code: Wide, digest:
   Multihash.of);
 // @ts-expect-error Multihash.of makes one
 new Multihash();
-is<number | bigint>()(found.code);
+is<readonly [number | bigint, number, Uint8Array, Uint8Array]>()(
+  [found.code, found.size, found.digest, found.bytes] as const);
 isFixed(found);
-is<Multihash<number>>()(is<Multihash>()(Multihash.fromHex(`${found}`)).narrow());
+is<(text: string) => Multihash>()(Multihash.fromHex);
+is<() => Multihash<number>>()(found.narrow);
+is<() => string>()(found.toString);
 is<(other: unknown) => boolean>()(found.equals);
 is<{ code: number | string; size: number; digest: string }>()(found.toJSON());
 
