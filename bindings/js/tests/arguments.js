@@ -88,13 +88,15 @@ export function equality(module) {
   const noCodes = ['0', '', false, [], [0], null, undefined, Symbol('0'), Object.create(null)];
   for (const code of [...noCodes, { valueOf: () => 0 }, 1, 1n])
     same(multihash.equals({ code, digest }), false, `equals, a code: ${kindOf(code)}`);
-  for (const other of [[5], '5', new Int8Array([5]), Uint8Array.of(6), new Lying([5, 6, 7])])
+  for (const other of [[5], '5', Int8Array.of(5), Uint8ClampedArray.of(5), Uint8Array.of(6), new Lying([5, 6, 7])])
     same(multihash.equals({ code: 0, digest: other }), false, `equals, a digest: ${kindOf(other)}`);
   for (const value of [null, undefined, 22, 'text', {}, EXAMPLE])
     same(multihash.equals(value), false, `equals ${kindOf(value)}`);
   const [code, zeros] = [2n ** 53n, new Uint8Array(255)];
-  const [long, larger] = [zeros, Uint8Array.of(...zeros.subarray(1), 1)].map((each) => module.Multihash.of(code, each));
-  same(`${long.equals(larger)} ${module.compare(long, larger)}`, 'false -1', 'the last byte');
+  const digests = [new Uint8Array(), zeros, Uint8Array.of(...zeros.subarray(1), 1)];
+  const [none, long, larger] = digests.map((digest) => module.Multihash.of(code, digest));
+  for (const [left, right] of [[none, long], [long, larger]])
+    same(`${left.equals(right)} ${module.compare(left, right)}`, 'false -1', 'all bytes, or the last one');
   for (const other of [{ code, digest: larger.digest }, { code: code + 1n, digest: zeros }])
     same(long.equals(other), false, 'the last byte, or a code that is no number');
   const empty = module.Multihash.of(18, new Uint8Array());
@@ -154,8 +156,9 @@ export function multihashes(module) {
 /** Whether a clone of an error keeps its cause, which Safari drops. */
 const keepsCause = () => structuredClone(new Error('text', { cause: 3 })).cause === 3;
 
-/** The names and numbers of a message, in order. */
-const gist = (text) => `${text.match(/\d+|code|digest|length|inside|before/g)}`;
+/** The names and numbers of a message, and words that tell it from others, in order. */
+const gist = (text) =>
+  `${text.match(/\d+|code|digest|length|inside|before|bytes?|follows?|limit|empty|varint|minimal|nine/g)}`;
 
 /** The calls that reject the input of a row of messages.tsv. */
 function callsOf({ decode, head, read, scaleDecode }, { call, limit, input, status }) {
@@ -200,7 +203,8 @@ export function errors(module, _verdicts, _hashes, _values, messages) {
   }
   same(JSON.stringify(Object.getOwnPropertyDescriptor(MultihashError.prototype, 'name')),
     '{"value":"MultihashError","writable":true,"enumerable":false,"configurable":true}', 'name, as of other errors');
-  const others = [null, undefined, 3, {}, new Error('text'), new Error('text', { cause: { status: 'ok' } })];
+  const causes = [undefined, { status: 'ok' }, { status: 404 }].map((cause) => new Error('text', { cause }));
+  const others = [null, undefined, 3, {}, ...causes];
   for (const value of others) same(MultihashError.from(value), undefined, `from ${kindOf(value)}`);
 }
 

@@ -151,11 +151,11 @@ async function unreadStreams({ Multihash, MultihashReader, hashers, sha256, veri
       await closed(stream); // an error without a listener would end the process
     }
   }
-  const early = createReadStream('missing');
+  const early = createReadStream('missing').on('error', () => null);
   const reader = new MultihashReader(early);
-  new MultihashReader(early); // adds no listener
+  new MultihashReader(early); // adds no listener, and removes none
   await closed(early);
-  same(early.listenerCount('error'), 1, 'listeners');
+  same(early.listenerCount('error'), 2, 'listeners');
   says(await told(reader.read()), 'Error ENOENT', 'an error before the first read');
   for (const call of [sha256.digest, (content) => verify(claim, content)])
     says(await told(call(createReadStream('missing'))), 'Error ENOENT', 'an error while it is read');

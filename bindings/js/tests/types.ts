@@ -43,6 +43,7 @@ is<() => string>()(found.toString);
 is<(other: unknown) => boolean>()(found.equals);
 is<{ code: number | string; size: number; digest: string }>()(found.toJSON());
 
+is<[message: string, details: index.Details]>()({} as ConstructorParameters<typeof MultihashError>);
 const error = new MultihashError('a text', { status: 'not_hexadecimal', size: 2n ** 60n });
 export const plain: Error = error;
 // @ts-expect-error 'ok' is the status of no error
