@@ -19,6 +19,8 @@ static void check_streams(void)
             length += multihash_encode(codes[i], digest, lengths[k], bytes + length, sizeof bytes - length).length;
         }
     }
+    CHECK(multihash_encoded_len(INT64_MAX, sizeof digest).length == MULTIHASH_LENGTH_MAX);
+    CHECK(multihash_scale_encode(0, digest, sizeof digest, NULL, 0).length == MULTIHASH_SCALE_LENGTH_MAX);
     for (size_t part = 0; part <= length; part++) {
         uint8_t *input = copy_of(bytes, part);
         for (size_t room = 0; room <= 31; room++) check_many(input, part, room);
@@ -106,6 +108,7 @@ static void check_messages(void)
     uint8_t *front = buffer(MULTIHASH_HEAD_MAX);
     memset(front, 0xff, MULTIHASH_HEAD_MAX);
     front[8] = front[17] = 0x7f;
+    CHECK(multihash_head(front, MULTIHASH_HEAD_MAX).taken == MULTIHASH_HEAD_MAX);
     CHECK(multihash_from_prefix(front, MULTIHASH_HEAD_MAX, 1000).size == INT64_MAX);
     check_message_is(multihash_message(message, sizeof message, front, 1000, any),
                      "the digest has 9223372036854775807 bytes, and the limit is 255");
@@ -116,6 +119,7 @@ static void check_messages(void)
     CHECK(multihash_message(message, short_size, ok, 0, any) == 18 && strcmp(message, "the") == 0);
     CHECK(multihash_message(NULL, 0, ok, 0, any) == 18);
     check_message_is(multihash_message(message, sizeof message, ok, sizeof ok, any), "ok");
+    check_message_is(multihash_encode_message(message, sizeof message, multihash_encoded_len(0, 0), 0, 0), "ok");
     FILE *file = tmpfile();
     CHECK(file != NULL && multihash_print_message(file, ok, 0, any) == 19);
     rewind(file);
