@@ -27,7 +27,8 @@ debug_build() {
   prints '100% tests passed, 0 tests failed out of ' ctest -C Debug --test-dir "$work/debug"
   cmake --install "$work/debug" --config Debug
   [ -e "$work/debug.prefix/lib/libmultihash_cd.a" ]
-  "$work/debug.prefix/$document/examples/test.sh" "$work/debug.prefix"
+  PKG_CONFIG_PATH=$work/debug.prefix/lib/pkgconfig LD_LIBRARY_PATH=$work/debug.prefix/lib \
+    "$work/debug.prefix/$document/examples/test.sh"
 }
 
 # The package works where it was unpacked, also with other folders of each kind, another program, and the libraries of
@@ -106,24 +107,25 @@ builds_for_windows() {
 }
 
 # Flags of a distribution reach the compiler, before those of the build type and of a shared library, and the linker, and
-# hide no function of it. Without tests none are built, and without Python no man pages. A folder may be outside the prefix.
+# hide no function of it. Without tests none are built, and without Python no man pages. Folders may be outside the prefix.
 with_flags() {
   CFLAGS="-fvisibility=hidden -fno-pie -g3" LDFLAGS=-Wl,--build-id=0x01234567 cmake -S "$top" -B "$work/flags" \
     -DCMAKE_EXE_LINKER_FLAGS=-no-pie -DBUILD_TESTING=OFF -DCMAKE_DISABLE_FIND_PACKAGE_Python3=ON \
-    -DCMAKE_INSTALL_INCLUDEDIR="$work/headers"
+    -DCMAKE_INSTALL_{INCLUDEDIR="$work/headers",LIBDIR="$work/libraries"}
   prints '-fvisibility=hidden -fno-pie -g3 -O3 -DNDEBUG -fPIC ' cmake --build "$work/flags" --verbose
   exports_exactly "$work/flags/libmultihash_c.so" bindings/c/src/multihash_c.map
   prints 'Build ID: 01234567' readelf -n "$work/flags/libmultihash_c.so"
   rejects 'No tests were found' build flags
   cmake --install "$work/flags" --prefix "$work/no pages"
   [ ! -e "$work/no pages/$man/man3" ]
-  grep -x "includedir=$work/headers" "$work/no pages/lib/pkgconfig/multihash_c.pc"
+  printf '%s\n' {includedir="$work/headers",libdir="$work/libraries"} |
+    diff - <(grep dir= "$work/libraries/pkgconfig/multihash_c.pc")
 }
 
 # The variables that a project sets before it adds the repository count each time that it is configured, which it is when
 # the archive changes.
 has_options_of_project() {
-  local to=$work/options
+  local to="$work/its options"
   mkdir "$to"
   cc -c -xc /dev/null -o "$to/own.o"
   ar rc "$to/own.a" "$to/own.o"
