@@ -9,7 +9,7 @@ require cc cmake python3 readelf pkg-config
 # shellcheck source=checks/lib/installed.sh
 . checks/lib/installed.sh
 prefix="$work/a #prefix's"
-libdir=lib/$(cc -print-multiarch) # where CMake finds it too
+libdir=lib/$(cc -print-multiarch) libdir=${libdir%/} # where CMake finds it too
 
 # In the configured prefix, whose name is no word of a shell.
 installs() {

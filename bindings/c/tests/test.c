@@ -19,8 +19,6 @@ static void check_streams(void)
             length += multihash_encode(codes[i], digest, lengths[k], bytes + length, sizeof bytes - length).length;
         }
     }
-    CHECK(multihash_encoded_len(INT64_MAX, sizeof digest).length == MULTIHASH_LENGTH_MAX);
-    CHECK(multihash_scale_encode(0, digest, sizeof digest, NULL, 0).length == MULTIHASH_SCALE_LENGTH_MAX);
     for (size_t part = 0; part <= length; part++) {
         uint8_t *input = copy_of(bytes, part);
         for (size_t room = 0; room <= 31; room++) check_many(input, part, room);
@@ -108,7 +106,6 @@ static void check_messages(void)
     uint8_t *front = buffer(MULTIHASH_HEAD_MAX);
     memset(front, 0xff, MULTIHASH_HEAD_MAX);
     front[8] = front[17] = 0x7f;
-    CHECK(multihash_head(front, MULTIHASH_HEAD_MAX).taken == MULTIHASH_HEAD_MAX);
     CHECK(multihash_from_prefix(front, MULTIHASH_HEAD_MAX, 1000).size == INT64_MAX);
     check_message_is(multihash_message(message, sizeof message, front, 1000, any),
                      "the digest has 9223372036854775807 bytes, and the limit is 255");
