@@ -62,19 +62,20 @@ man_pages() {
   diff <(sed -n 's/^\.Nm \(\w*\).*/\1/p' "$first" | sort) <(basename -s .3 -a "${first%/*}"/* | sort)
   sed -nE 's/^\.(Sh|In) //p' "$first" | diff - <(printf '%s\n' NAME LIBRARY SYNOPSIS multihash{,_message,_names}.h \
     DESCRIPTION ERRORS 'SEE ALSO')
-  mandoc -T utf8 "$first" > "$work/page"
+  mandoc -T utf8 -O width=1000 "$first" > "$work/page"
   python3 - "$work/page" "$c"/include/*.h << 'END'
 import re, sys
+def flat(text):
+    return " ".join(re.sub(r".\x08|•", "", text).split()).replace("* ", "*")
 page, *headers = (open(path, encoding="utf-8").read() for path in sys.argv[1:])
-page = re.sub(r".\x08|•|\s", "", page)
-for comment, of in re.findall(r"(?ms)^ */\*((?:(?!\*/).)*)\*/\n(.*?)(?:;?\n\n|\n\{| = )", "".join(headers)):
+for comment, of in re.findall(r"(?ms)^ */\*((?:(?!\*/).)*)\*/\n?(.*?)(?=;?\n\n|\n\{| = |\n/\*)", "".join(headers)):
     said = re.sub(r"\n \*(  -)?|`|(?<=Returns):|(?<=Errors):", "", comment)
     if of.startswith(("typedef", "#define")):
         said += of
     elif not of.startswith("#"):  # a function, or a status
         said = re.sub(r"(?s).*(multihash_\w+)\(.*", r"\1", of) + said
     for text in (said, of.removeprefix("static inline ") * ("(" in of)):
-        if " mh_" not in of and "SPDX" not in comment and "".join(text.split()) not in page:
+        if " mh_" not in of and "SPDX" not in comment and flat(text) not in flat(page):
             sys.exit("not there: " + text)
 END
 }
