@@ -49,7 +49,7 @@ packs() {
   works "$work/un packed built" lib
   local bin=other/bin include=headers/c document=pages/c man=manual
   works "$work/un packed other" "$libdir"
-  cmp "$work/program" "$work/un packed other/$bin/mh_show"
+  "$work/un packed other/$bin/mh_show" < /dev/null # where mh_show itself fails
   mv "$work/moved" "$prefix"
 }
 
