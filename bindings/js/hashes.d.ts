@@ -39,7 +39,7 @@ export const sha384: MultihashHasher<0x20>;
 export const sha512: MultihashHasher<0x13>;
 
 /**
- * Returns whether the multihash, or its encoding, is the multihash of the content. Returns false for a truncated digest.
+ * Returns whether the multihash, or its encoding, is the multihash of the content: false for a truncated digest.
  * Throws a `RangeError` if the platform does not have the function. The time for digests of equal lengths does not
  * depend on their bytes.
  */

@@ -1,4 +1,4 @@
-"""Multihashes: decoding, encoding and order, by C that is translated from proved functions.
+"""Decodes, encodes and compares multihashes, by C that is translated from proved functions.
 
 Functions that take bytes accept any object that supports the buffer protocol, and raise TypeError for anything else.
 Invalid input, and a code or digest that is too large, raise MultihashError, a subclass of ValueError. The module
