@@ -1,6 +1,7 @@
 #!/usr/bin/env bash
-# Compares the generated files with what tools/generate makes, the version that files state with that of multihash.h, and
-# the C source with what Rattle's compiler makes of the same functions. A result has the command that makes files anew.
+# Compares the generated files with what tools/generate makes, the version that files state with that of multihash.h,
+# and the C source with what Rattle's compiler makes of the same functions. A result has the command that makes the
+# files anew.
 # shellcheck source=checks/lib/tap.sh
 . "$(dirname "$0")/lib/tap.sh"
 # shellcheck source=checks/lib/c.sh

@@ -1,5 +1,5 @@
 # shellcheck shell=bash
-# For cmake.t and release.t, after tap.sh: builds the library for C by CMake, and tests what is installed: the files, the
+# For cmake.t and release.t, after tap.sh: builds the library for C by CMake, and tests what is installed: files,
 # exports of the shared library, flags.
 # shellcheck disable=SC2034,SC2154 # what others use, or have set
 # shellcheck source=checks/lib/c.sh
