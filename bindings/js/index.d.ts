@@ -1,3 +1,4 @@
+// What all three entries of the package declare.
 import type { STATUSES } from './statuses.js';
 
 export * from './hashes.js';
