@@ -9,6 +9,7 @@ require cc cmake python3 readelf pkg-config
 # shellcheck source=checks/lib/installed.sh
 . checks/lib/installed.sh
 prefix="$work/a #prefix's"
+libdir=lib/$(cc -print-multiarch) libdir=${libdir%/} # where CMake finds it too
 
 # In the configured prefix, whose name is no word of a shell.
 installs() {
@@ -26,16 +27,19 @@ debug_build() {
   prints '100% tests passed, 0 tests failed out of ' ctest -C Debug --test-dir "$work/debug"
   cmake --install "$work/debug" --config Debug
   [ -e "$work/debug.prefix/lib/libmultihash_cd.a" ]
-  "$work/debug.prefix/$document/examples/test.sh" "$work/debug.prefix"
+  PKG_CONFIG_PATH=$work/debug.prefix/lib/pkgconfig LD_LIBRARY_PATH=$work/debug.prefix/lib \
+    "$work/debug.prefix/$document/examples/test.sh"
 }
 
-# The package works where it was unpacked, also with other folders of each kind and another program.
+# The package works where it was unpacked, also with other folders of each kind, another program, and the libraries of
+# an archive.
 packs() {
   local name packed
   packed=multihash_c-$version-$(uname -m).tar.gz
   cp "$(type -P true)" "$work/program"
   (cd "$work"; build other -DBUILD_SHARED_LIBS=ON -DMULTIHASH_C_PROGRAM=program \
-    -DCMAKE_INSTALL_{LIBDIR=lib/other,INCLUDEDIR=headers/c,DOCDIR=pages/c,MANDIR=manual,BINDIR=other/bin})
+    -DMULTIHASH_C_ARCHIVE="$work/built/libmultihash_c.a" \
+    -DCMAKE_INSTALL_{LIBDIR="$libdir",INCLUDEDIR=headers/c,DOCDIR=pages/c,MANDIR=manual,BINDIR=other/bin})
   for name in built other; do
     mkdir "$work/un packed $name"
     (cd "$work/$name"; cpack -B "$work/$name/packed")
@@ -44,20 +48,36 @@ packs() {
   mv "$prefix" "$work/moved"
   works "$work/un packed built" lib
   local bin=other/bin include=headers/c document=pages/c man=manual
-  works "$work/un packed other" lib/other
-  cmp "$work/program" "$work/un packed other/$bin/mh_show"
+  works "$work/un packed other" "$libdir"
+  "$work/un packed other/$bin/mh_show" < /dev/null # where mh_show itself fails
   mv "$work/moved" "$prefix"
 }
 
-# They are well formed, and the first, which has the names of all functions and what the comments of the headers say, is
-# linked from each. Of the comments the words with capitals are compared: the first of each sentence, and constants.
+# They are well formed, and the first has the names of all functions, each declaration of the headers, and each comment
+# after the name of its function. The others include it.
 man_pages() {
-  mandoc -T lint "$prefix"/share/man/{man3/multihash.3,man1/mh_show.1}
-  diff <(sed -n 's/^\.Nm \(\w*\).*/\1/p' "$prefix/share/man/man3/multihash.3" | sort) \
-    <(basename -s .3 -a "$prefix"/share/man/man3/* | sort)
-  cat "$c"/include/*.h | perl -0777 -ne 's{/\* SPDX.*?\*/}{}sg; print "$&\n" while m{/\*.*?\*/}sg' |
-    grep -oP '\w*[A-Z]\w*' | sort > "$work/words"
-  grep -oP '\w*[A-Z]\w*' "$prefix/share/man/man3/multihash.3" | sort | comm -23 "$work/words" - | diff /dev/null -
+  local first=$prefix/share/man/man3/multihash.3
+  mandoc -T lint "$first" "$prefix/share/man/man1/mh_show.1"
+  cat "${first%.3}"_*.3 | sort -u | diff - <(echo .so man3/multihash.3)
+  diff <(sed -n 's/^\.Nm \(\w*\).*/\1/p' "$first" | sort) <(basename -s .3 -a "${first%/*}"/* | sort)
+  sed -nE 's/^\.(Sh|In) //p' "$first" | diff - <(printf '%s\n' NAME LIBRARY SYNOPSIS multihash{,_message,_names}.h \
+    DESCRIPTION ERRORS 'SEE ALSO')
+  mandoc -T utf8 -O width=1000 "$first" > "$work/page"
+  python3 - "$work/page" "$c"/include/*.h << 'END'
+import re, sys
+def flat(text):
+    return " ".join(re.sub(r".\x08|•", "", text).split()).replace("* ", "*")
+page, *headers = (open(path, encoding="utf-8").read() for path in sys.argv[1:])
+for comment, of in re.findall(r"(?ms)^ */\*((?:(?!\*/).)*)\*/\n?(.*?)(?=;?\n\n|\n\{| = |\n/\*)", "".join(headers)):
+    said = re.sub(r"\n \*(  -)?|`|(?<=Returns):|(?<=Errors):", "", comment)
+    if of.startswith(("typedef", "#define")):
+        said += of
+    elif not of.startswith("#"):  # a function, or a status
+        said = re.sub(r"(?s).*(multihash_\w+)\(.*", r"\1", of) + said
+    for text in (said, of.removeprefix("static inline ") * ("(" in of)):
+        if " mh_" not in of and "SPDX" not in comment and flat(text) not in flat(page):
+            sys.exit("not there: " + text)
+END
 }
 
 # A system has a shared library or not. Without an operating system the library alone is built.
@@ -87,24 +107,26 @@ builds_for_windows() {
   { wineserver -k || true; }
 }
 
-# Flags of a distribution reach the compiler, before those of the build type, and the linker, and hide no function of
-# the shared library. Without tests none are built, and without Python no man pages. A folder may be outside the prefix.
+# Flags of a distribution reach the compiler, before those of the build type and of a shared library, and the linker, and
+# hide no function of it. Without tests none are built, and without Python no man pages. Folders may be outside the prefix.
 with_flags() {
   CFLAGS="-fvisibility=hidden -fno-pie -g3" LDFLAGS=-Wl,--build-id=0x01234567 cmake -S "$top" -B "$work/flags" \
     -DCMAKE_EXE_LINKER_FLAGS=-no-pie -DBUILD_TESTING=OFF -DCMAKE_DISABLE_FIND_PACKAGE_Python3=ON \
-    -DCMAKE_INSTALL_INCLUDEDIR="$work/headers"
-  prints '-fvisibility=hidden -fno-pie -g3 -O3 -DNDEBUG ' cmake --build "$work/flags" --verbose
+    -DCMAKE_INSTALL_{INCLUDEDIR="$work/headers",LIBDIR="$work/libraries"}
+  prints '-fvisibility=hidden -fno-pie -g3 -O3 -DNDEBUG -fPIC ' cmake --build "$work/flags" --verbose
   exports_exactly "$work/flags/libmultihash_c.so" bindings/c/src/multihash_c.map
   prints 'Build ID: 01234567' readelf -n "$work/flags/libmultihash_c.so"
   rejects 'No tests were found' build flags
   cmake --install "$work/flags" --prefix "$work/no pages"
   [ ! -e "$work/no pages/$man/man3" ]
-  grep -x "includedir=$work/headers" "$work/no pages/lib/pkgconfig/multihash_c.pc"
+  printf '%s\n' {includedir="$work/headers",libdir="$work/libraries"} |
+    diff - <(grep dir= "$work/libraries/pkgconfig/multihash_c.pc")
 }
 
-# The variables that a project sets before it adds the repository count each time that it is configured.
+# The variables that a project sets before it adds the repository count each time that it is configured, which it is when
+# the archive changes.
 has_options_of_project() {
-  local to=$work/options
+  local to="$work/its options"
   mkdir "$to"
   cc -c -xc /dev/null -o "$to/own.o"
   ar rc "$to/own.a" "$to/own.o"
@@ -117,6 +139,9 @@ has_options_of_project() {
     cmp "$to"/{own.a,built/multihash_c/libmultihash_c.a}
     [ ! -e "$to/built/multihash_c/libmultihash_c.so" ]
   done
+  ar r "$to/own.a" LICENSE
+  cmake --build "$to/built"
+  cmp "$to"/{own.a,built/multihash_c/libmultihash_c.a}
 }
 
 # The example in a project of CMake, whose last lines are those of the standard input, with each library. Further words
@@ -150,9 +175,10 @@ by_subdirectory() {
 by_find_package() {
   local to=$work/project
   block_of bindings/c/README.md cmake | sed 's/::shared/::${kind}/' |
-    in_project "$to" -DCMAKE_PREFIX_PATH="$work/un packed built"
+    in_project "$to" -DCMAKE_PREFIX_PATH="$work/un packed other"
   grep -F 'multihash_c::${kind})' "$to/CMakeLists.txt"
-  sed -i "s/\"$version\"/\"$major.9.9\"/" "$work/un packed built/lib/cmake/multihash_c/multihash_c-config-version.cmake"
+  sed -i "s/\"$version\"/\"$major.9.9\"/" \
+    "$work/un packed other/$libdir/cmake/multihash_c/multihash_c-config-version.cmake"
   cmake -S "$to" -B "$to/shared"
   sed -i "s/(multihash_c [0-9.]*/(multihash_c $((major - 1)).9/" "$to/CMakeLists.txt"
   rejects "compatible with requested version" cmake -S "$to" -B "$to/shared"

@@ -1,5 +1,5 @@
 /* Models: functions that compute the result of each call from docs/FORMAT.md, independently of the library. The checks
- * compare each field, and each byte of a buffer. What was decoded is encoded to the same bytes, and what was encoded is
+ * compare each field, whose order is part of the ABI, and each byte of a buffer. What was decoded is encoded to the same bytes, and what was encoded is
  * decoded again. */
 #include "check.h"
 
@@ -41,13 +41,13 @@ static multihash_status model_varint(const uint8_t *bytes, size_t length, uint64
 
 static multihash_front model_head(const uint8_t *bytes, size_t length)
 {
-    multihash_front head = {MULTIHASH_OK, 0, 0, 0};
-    head.status = model_varint(bytes, length, &head.code, &head.taken);
-    if (head.status == MULTIHASH_OK) {
-        size_t at = head.taken;
-        head.status = model_varint(bytes + at, length - at, &head.digest_length, &head.taken);
-    }
-    if (head.status != MULTIHASH_OK) head.code = head.digest_length = 0;
+    uint64_t code, digest = 0;
+    size_t taken = 0;
+    multihash_status status = model_varint(bytes, length, &code, &taken);
+    size_t at = taken;
+    if (status == MULTIHASH_OK) status = model_varint(bytes + at, length - at, &digest, &taken);
+    if (status != MULTIHASH_OK) code = digest = 0;
+    multihash_front head = {status, code, digest, taken};
     return head;
 }
 
@@ -182,11 +182,13 @@ void check_many(const uint8_t *bytes, size_t length, size_t room)
     for (; count < room && taken < length; count++) {
         next = model_read(bytes + taken, length - taken, length - taken, MULTIHASH_DIGEST_MAX);
         if (next.status != MULTIHASH_OK) break;
-        CHECK(out[count].code == next.code && out[count].digest_length == next.digest_length);
-        CHECK(out[count].digest_offset == taken + next.digest_offset);
+        multihash_item wanted = {next.code, taken + next.digest_offset, next.digest_length};
+        CHECK(memcmp(out + count, &wanted, sizeof wanted) == 0); /* no padding */
         taken += next.taken;
     }
-    CHECK(batch.status == next.status && batch.size == next.size && batch.count == count && batch.taken == taken);
+    multihash_batch wanted = {next.status, next.size, count, taken};
+    CHECK(batch.status == wanted.status && batch.size == wanted.size);
+    CHECK(batch.count == wanted.count && batch.taken == wanted.taken);
     check_marks((uint8_t *)out, count * sizeof *out, room * sizeof *out);
     release((uint8_t *)out);
 }

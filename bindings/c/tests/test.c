@@ -116,6 +116,7 @@ static void check_messages(void)
     CHECK(multihash_message(message, short_size, ok, 0, any) == 18 && strcmp(message, "the") == 0);
     CHECK(multihash_message(NULL, 0, ok, 0, any) == 18);
     check_message_is(multihash_message(message, sizeof message, ok, sizeof ok, any), "ok");
+    check_message_is(multihash_encode_message(message, sizeof message, multihash_encoded_len(0, 0), 0, 0), "ok");
     FILE *file = tmpfile();
     CHECK(file != NULL && multihash_print_message(file, ok, 0, any) == 19);
     rewind(file);

@@ -135,6 +135,8 @@ fn shown() {
         assert_eq!(format!("{error:?}"), format!("Error {{ kind: {shown} }}"));
         assert_eq!(error.source().is_some(), shown.starts_with("Io"));
     }
+    let large = Value::wrap(1 << 63, b"").expect_err("too large");
+    assert_eq!(format!("{large:?}"), "Error { kind: InvalidCode(9223372036854775808) }");
     let cut = of(b"\x12\x03ab");
     assert_eq!(format!("{cut:99.9}"), UNEXPECTED_EOF);
     let source = cut.source().and_then(|it| it.downcast_ref::<io::Error>()).expect("its source");
@@ -144,5 +146,7 @@ fn shown() {
     {
         assert_eq!(format!("{source:9.6}"), "failed   ");
         assert_eq!(format!("{source:?}"), format!("Error {{ kind: UnexpectedEof, error: {UNEXPECTED_EOF:?} }}"));
+        let full = Value::default().write(&mut [][..]).expect_err("it is full");
+        assert!(format!("{full:?}").ends_with(&format!("Io(Error {{ kind: WriteZero, error: {NO_ROOM:?} }}) }}")));
     }
 }

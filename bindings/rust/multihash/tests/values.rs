@@ -109,7 +109,7 @@ mod serde {
         assert!(error("[18,4,97,98,99,100]").starts_with("Invalid multihash size 4."));
         assert!(error("[18,1]").starts_with("failed to fill whole buffer"));
         assert!(error("[18,256]").contains("256"));
-        assert!(error("7").contains("expected a valid Multihash in bytes"));
+        assert!(error("7").contains("expected a valid Multihash in bytes at"));
     }
 
     /// A sequence of more numbers than an encoding has is an error before its end, and the longest encoding is decoded.

@@ -4,7 +4,7 @@ use serde::{Serialize, Serializer};
 fn main() {
     // upstream's package accepts a code of ten bytes
     let code = b"\xff\xff\xff\xff\xff\xff\xff\xff\xff\x01\x00";
-    println!("{}", Multihash::<64>::read(&code[..]).unwrap_err());
+    println!("{}", Multihash::<64>::read(std::io::Cursor::new(code)).unwrap_err());
     // for a format that has sequences of numbers and no bytes
     let mut json = serde_json::Serializer::new(Vec::new());
     let mut map = json.serialize_map(None).unwrap();
