@@ -29,12 +29,13 @@ debug_build() {
   "$work/debug.prefix/$document/examples/test.sh" "$work/debug.prefix"
 }
 
-# The package works where it was unpacked, also with other folders of each kind.
+# The package works where it was unpacked, also with other folders of each kind and another program.
 packs() {
   local name packed
   packed=multihash_c-$version-$(uname -m).tar.gz
-  build other -DBUILD_SHARED_LIBS=ON \
-    -DCMAKE_INSTALL_{LIBDIR=lib/other,INCLUDEDIR=headers/c,DOCDIR=pages/c,MANDIR=manual,BINDIR=other/bin}
+  cp "$(type -P true)" "$work/program"
+  (cd "$work"; build other -DBUILD_SHARED_LIBS=ON -DMULTIHASH_C_PROGRAM=program \
+    -DCMAKE_INSTALL_{LIBDIR=lib/other,INCLUDEDIR=headers/c,DOCDIR=pages/c,MANDIR=manual,BINDIR=other/bin})
   for name in built other; do
     mkdir "$work/un packed $name"
     (cd "$work/$name"; cpack -B "$work/$name/packed")
@@ -44,6 +45,7 @@ packs() {
   works "$work/un packed built" lib
   local bin=other/bin include=headers/c document=pages/c man=manual
   works "$work/un packed other" lib/other
+  cmp "$work/program" "$work/un packed other/$bin/mh_show"
   mv "$work/moved" "$prefix"
 }
 
