@@ -90,12 +90,6 @@ on_machine() {
     build_and_run "$2" "$3" "$2-gcc" "${c_flags[@]}" -O2 -static "${tests[@]}" "$source"
 }
 
-# Compilers warn of nothing in the examples.
-compile_examples() {
-  local each
-  for each in "$c"/examples/*.c; do cc "${c_flags[@]}" -I "$c/include" -fsyntax-only "$each"; done
-}
-
 # The first programs of the page. The one that reads a file prints each multihash, also one that is cut where a part of
 # the file ends, and why the last is incomplete.
 page_programs() {
@@ -162,7 +156,6 @@ on_machine "x86, 32 bits" i686-linux-gnu qemu-i386
 needs=--all on_machine riscv64 riscv64-linux-gnu qemu-riscv64
 on_machine "armhf, 32 bits" arm-linux-gnueabihf qemu-arm
 on_machine "s390x, big-endian" s390x-linux-gnu qemu-s390x
-needs=/usr/include/openssl/evp.h try "the examples" compile_examples
 try "the first programs of the page" page_programs
 try "the reader of a stream" stream_example
 needs=/usr/include/openssl/evp.h try "the example that hashes" verify_example

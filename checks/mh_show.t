@@ -14,7 +14,8 @@ sys.path.append(str(Path(__file__).with_name("lib")))
 import tap
 
 TOP = tap.CRATES.parent
-CC = """cc -std=c11 -Wall -Wextra -Wpedantic -Wconversion -Werror -fsanitize=address,undefined -fno-sanitize-recover=all
+CC = """cc -std=c11 -Wall -Wextra -Wpedantic -Wconversion -Wsign-conversion -Wshadow -Wcast-qual -Werror
+    -Wstrict-prototypes -Wmissing-prototypes -fsanitize=address,undefined -fno-sanitize-recover=all
     -I bindings/c/include bindings/c/examples/mh_show.c bindings/c/src/multihash.c"""
 
 SHOWN, NOT_READ = "code 22\nsize 1\ndigest 00\n0\n", "mh_show: input not read\n1\n"

@@ -1,7 +1,6 @@
 #!/usr/bin/env python3
 """The version of the library and its packages: multihash.h has it, and other files state the same.
 
-    tools/version.py                   prints it
     tools/version.py --check           compares the files with the header
     tools/version.py VERSION [DATE]    writes a later one: what CHANGES has as not released is released, today or then
 """
@@ -88,8 +87,6 @@ def write(old: str, new: str, day: datetime.date) -> None:
 def main() -> None:
     version = re.findall(r'#define MULTIHASH_VERSION "(.*)"', texts[HEADER])[0]
     match sys.argv[1:]:
-        case []:
-            print(version)
         case ["--check"]:
             sys.exit("\n".join(errors(version)) or 0)
         case [new, *date] if not new.startswith("-") and len(date) < 2:

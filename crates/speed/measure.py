@@ -6,8 +6,6 @@
                                                    are not compared
     crates/speed/measure.py --write [TUNED DEFAULT] writes the tables of the page. With two builds of rust/main.rs
                                                    counts them too; else their columns stay
-    crates/speed/measure.py --c [BUILD..]          prints the nanoseconds of each call from C, of these archives or C
-                                                   files, or of the page's
     crates/speed/measure.py --rust UPSTREAM        prints the nanoseconds of comparisons by the package for Rust and by
                                                    upstream's, which is in this folder
     crates/speed/measure.py --rust-counts UPSTREAM prints the shares of that package in upstream's instructions
@@ -41,9 +39,8 @@ RUST = "| Call | instructions | tuned Rust | share | default Rust | share |"
 FROM_C = "| Call from C | this library | plain C | share | fast C | share | archive |"
 CAUSES = "| Call | Cause |"
 FEWER, MORE, JOBS = 1000, 3000, 2
-# the turns of each program, and of those that time two libraries; the rounds in one, and the bytes before the code of
-# those in C, since its alignment changes the time
-TURNS, FEW_TURNS, ROUNDS, PLACES = 18, 5, 20, (0, 16, 32)
+# the turns of the programs in Rust, and of those that time two libraries
+TURNS, FEW_TURNS = 18, 5
 Counts = dict[str, list[int]]
 # a program over a package, and how it is optimized: by default, or as one module
 PACKAGE = """[package]
@@ -83,12 +80,6 @@ def count(program: str, names: Iterable[str]) -> dict[str, int]:
         return dict(zip(names, pool.map(of_call, names)))
 
 
-def compile_c(build: Path, program: str, *before: str) -> str:
-    """Compiles and returns the program that calls this build."""
-    run(["cc", "-std=c11", "-O2", f"-I{C}/include", *before, HOME / "from_c/count.c", build, "-o", program])
-    return program
-
-
 def make_archive(folder: str) -> Path:
     """Returns the archive that the kit builds of the proved functions."""
     run([ROOT / "tools/generate", "archive", f"{folder}/proved.a", "--cpu=x86-64"])
@@ -97,10 +88,12 @@ def make_archive(folder: str) -> Path:
 
 def count_c(builds: list[Path]) -> Counts:
     """Returns the instructions of each call from C: of each of these builds."""
+    counts = []
     with tempfile.TemporaryDirectory() as work:
-        programs = [compile_c(build, f"{work}/{number}") for number, build in enumerate(builds)]
-        counts = [count(program, run([program]).split()) for program in programs]
-        return {name: [found[name] for found in counts] for name in counts[0]}
+        for build in builds:
+            run(["cc", "-std=c11", "-O2", f"-I{C}/include", HOME / "from_c/count.c", build, "-o", f"{work}/count"])
+            counts.append(count(f"{work}/count", run([f"{work}/count"]).split()))
+    return {name: [found[name] for found in counts] for name in counts[0]}
 
 
 def print_least(heads: list[str], programs: list[tuple[int, Iterable[str | Path]]], turns: int = TURNS) -> None:
@@ -118,19 +111,6 @@ def print_least(heads: list[str], programs: list[tuple[int, Iterable[str | Path]
     print("|---|" + "---:|" * (2 * len(heads) - 1))
     for name, (own, *others) in least.items():
         print(f"| {name} | {own:.1f} |", *(f"{other:.1f} | {own / other:.2f} |" for other in others))
-
-
-def print_c(builds: list[Path]) -> None:
-    """Prints the time of each call from C: of each of these builds, with the code at several places."""
-    programs: list[tuple[int, Iterable[str | Path]]] = []
-    with tempfile.TemporaryDirectory() as work:
-        for place in PLACES:
-            source = Path(f"{work}/{place}.s")
-            source.write_text(f'.section .text.unlikely, "ax"\n.zero {place}\n.section .note.GNU-stack, ""\n', "utf-8")
-            for number, build in enumerate(builds):
-                program = compile_c(build, f"{work}/{number}_{place}", str(source))
-                programs.append((number, [program, str(ROUNDS)]))
-        print_least([f"{build.parent.name}/{build.name}" for build in builds], programs)
 
 
 def compile_package(package: Path, profile: str, work: str) -> Path:
@@ -260,8 +240,6 @@ def main() -> int:
             return tap.report(results(tap.program("speed"), names))
         case ["--write", *builds]:
             write([tap.program("speed"), *builds], names)
-        case ["--c", *builds]:
-            print_c([*map(Path, builds)] or C_BUILDS)
         case ["--rust", upstream]:
             print_rust(Path(upstream))
         case ["--rust-counts", upstream]:

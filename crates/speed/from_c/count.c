@@ -1,13 +1,11 @@
-/* Makes many calls of one operation, to be counted. The arguments are the number of calls and its name; with
- * none it prints the names, and with a number of rounds each name and the least nanoseconds of a call in these. Inputs
- * and results are in memory that the compiler cannot see through. Exits with status 1 if the sum of the results is
- * another. */
+/* Makes many calls of one operation, to be counted. The arguments are the number of calls and its name; with none it
+ * prints the names. Inputs and results are in memory that the compiler cannot see through. Exits with status 1 if the
+ * sum of the results is another. */
 #include "multihash.h"
 
 #include <stdio.h>
 #include <stdlib.h>
 #include <string.h>
-#include <time.h>
 
 static uint64_t code = 18;
 static uint8_t digest[64], short_bytes[34], long_bytes[75], out[MULTIHASH_LENGTH_MAX];
@@ -119,30 +117,12 @@ static int repeat(size_t operation, uint64_t calls)
     return sum == calls * operations[operation].result;
 }
 
-/* Rounds are short, so that some are not interrupted. */
-static double nanoseconds(size_t operation, uint64_t rounds)
-{
-    enum { CALLS = 1000 };
-    double least = 0;
-    struct timespec from, to;
-    for (uint64_t k = 0; k < rounds; k++) {
-        timespec_get(&from, TIME_UTC);
-        if (!repeat(operation, CALLS)) exit(1);
-        timespec_get(&to, TIME_UTC);
-        double took = difftime(to.tv_sec, from.tv_sec) * 1e9 + (double)(to.tv_nsec - from.tv_nsec);
-        if (k == 0 || took < least) least = took;
-    }
-    return least / CALLS;
-}
-
 int main(int argc, char **argv)
 {
     fill();
     for (size_t i = 0; i < sizeof operations / sizeof operations[0]; i++) {
         const char *name = operations[i].name;
-        if (argc == 2) {
-            printf("%s %.2f\n", name, nanoseconds(i, strtoul(argv[1], NULL, 10)));
-        } else if (argc != 3) {
+        if (argc != 3) {
             printf("%s\n", name);
         } else if (strcmp(argv[2], name) == 0) {
             return !repeat(i, strtoul(argv[1], NULL, 10));

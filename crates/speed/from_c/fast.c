@@ -1,4 +1,4 @@
-/* The functions of multihash.h as fast as C by hand makes them, unproved, for x86-64: both varints of the usual
+/* Functions of multihash.h as fast as C by hand makes them, unproved, for x86-64: both varints of the usual
  * head by one load, eight bytes of a longer varint at once, copies and comparisons by vectors. docs/SPEED.md
  * compares the library's instructions with theirs. */
 #include "multihash.h"
@@ -159,18 +159,6 @@ multihash_decoded multihash_read(const uint8_t *bytes, size_t length)
     return multihash_read_limit(bytes, length, MULTIHASH_DIGEST_MAX);
 }
 
-multihash_batch multihash_read_many(const uint8_t *bytes, size_t length, multihash_item *out, size_t room)
-{
-    size_t count = 0, taken = 0;
-    while (count < room && taken < length) {
-        multihash_decoded found = multihash_read(bytes + taken, length - taken);
-        if (found.status != MULTIHASH_OK) return (multihash_batch){found.status, found.size, count, taken};
-        out[count++] = (multihash_item){found.code, taken + found.digest_offset, found.digest_length};
-        taken += found.taken;
-    }
-    return (multihash_batch){MULTIHASH_OK, 0, count, taken};
-}
-
 multihash_decoded multihash_scale_decode(const uint8_t *bytes, size_t length)
 {
     if (length < 8) return reject(MULTIHASH_UNEXPECTED_EOF, 0, 0);
@@ -262,7 +250,7 @@ multihash_encoded multihash_scale_encode(uint64_t code, const uint8_t *digest, s
     return (multihash_encoded){MULTIHASH_OK, 0, 9 + length};
 }
 
-/* ---- the rest */
+/* ---- comparing */
 
 /* A bit for each of 16 bytes that differs. */
 INLINE unsigned unlike(const uint8_t *left, const uint8_t *right)
@@ -286,18 +274,4 @@ int32_t multihash_compare(uint64_t left_code, const uint8_t *left, size_t left_l
     }
     int order = left_length > 0 ? memcmp(left, right, left_length) : 0;
     return (order > 0) - (order < 0);
-}
-
-uint32_t multihash_version(void)
-{
-    return MULTIHASH_VERSION_NUMBER;
-}
-
-multihash_encoded multihash_put_status_text(multihash_status status, uint8_t *out, size_t out_length)
-{
-    const char *text = multihash_status_text(status);
-    size_t length = strlen(text);
-    if (length > out_length) return (multihash_encoded){MULTIHASH_NO_ROOM, 0, length};
-    memcpy(out, text, length);
-    return (multihash_encoded){MULTIHASH_OK, 0, length};
 }

@@ -1,4 +1,4 @@
-/* The functions of multihash.h as C is written by hand, unproved, for a little-endian machine. docs/SPEED.md
+/* Functions of multihash.h as C is written by hand, unproved, for a little-endian machine. docs/SPEED.md
  * compares the library's instructions with theirs. */
 #include "multihash.h"
 
@@ -120,18 +120,6 @@ multihash_decoded multihash_read_limit(const uint8_t *bytes, size_t length, size
     return read_within(bytes, length, limit);
 }
 
-multihash_batch multihash_read_many(const uint8_t *bytes, size_t length, multihash_item *out, size_t room)
-{
-    size_t count = 0, taken = 0;
-    while (count < room && taken < length) {
-        multihash_decoded found = multihash_read(bytes + taken, length - taken);
-        if (found.status != MULTIHASH_OK) return (multihash_batch){found.status, found.size, count, taken};
-        out[count++] = (multihash_item){found.code, taken + found.digest_offset, found.digest_length};
-        taken += found.taken;
-    }
-    return (multihash_batch){MULTIHASH_OK, 0, count, taken};
-}
-
 multihash_decoded multihash_scale_decode(const uint8_t *bytes, size_t length)
 {
     multihash_decoded found = {0};
@@ -226,22 +214,4 @@ int32_t multihash_compare(uint64_t left_code, const uint8_t *left, size_t left_l
     if (left_length != right_length) return left_length < right_length ? -1 : 1;
     int order = left_length > 0 ? memcmp(left, right, left_length) : 0;
     return (order > 0) - (order < 0);
-}
-
-uint32_t multihash_version(void)
-{
-    return MULTIHASH_VERSION_NUMBER;
-}
-
-multihash_encoded multihash_put_status_text(multihash_status status, uint8_t *out, size_t out_length)
-{
-    multihash_encoded result = {0};
-    const char *text = multihash_status_text(status);
-    result.length = strlen(text);
-    if (result.length > out_length) {
-        result.status = MULTIHASH_NO_ROOM;
-        return result;
-    }
-    memcpy(out, text, result.length);
-    return result;
 }

@@ -1,7 +1,7 @@
 //! Tests of `examples`, `form` and `storage`: known values, and a reader over one of `std`.
 ghost use Rattle.std.specs.Prelude.{◌<◌};
 
-use crate::support::expect::{check, check_eq, expect_ok};
+use crate::expect::{check, check_eq, expect_ok};
 use examples::std_reader::StdReader;
 use examples::{formats, loops};
 use fakes::{Cuts, FailAt};

@@ -4,11 +4,13 @@
 #[cfg(test)]
 mod callers;
 #[cfg(test)]
+mod expect;
+#[cfg(test)]
 mod memory;
 #[cfg(test)]
 mod readers;
 #[cfg(test)]
-mod support;
+mod samples;
 #[cfg(test)]
 mod values;
 #[cfg(test)]

@@ -3,8 +3,8 @@
 //! turn: the call then has to return out of memory, and the test fails with `FAILED`.
 ghost use Rattle.std.specs.Prelude.{◌<◌, ◌^◌};
 
-use crate::support::expect::{check, check_eq, expect_ok, is_passed_on};
-use crate::support::samples::{Form, samples};
+use crate::expect::{check, check_eq, expect_ok, is_passed_on};
+use crate::samples::{Form, samples};
 use examples::any_reader::read_up_to;
 use examples::forms::{json, scale, there_and_back};
 use fakes::OUT_OF_MEMORY;

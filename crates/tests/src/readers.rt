@@ -2,8 +2,8 @@
 //! error is passed on unchanged, with no call after it.
 ghost use Rattle.std.specs.Prelude.{◌<◌, ◌^◌};
 
-use crate::support::expect::{check, check_eq, expect_ok, is_passed_on};
-use crate::support::samples::{Calls, Form, Sample, long_list, samples};
+use crate::expect::{check, check_eq, expect_ok, is_passed_on};
+use crate::samples::{Calls, Form, Sample, long_list, samples};
 use fakes::{Counts, CountsWrites, Cuts, FailAt, OUT_OF_MEMORY, Silent};
 use multihash::Multihash;
 use multihash::list::{read_list, write_list};

@@ -1,7 +1,6 @@
 //! Values: what `Debug` prints.
-use crate::support::expect::{check, check_eq, expect_ok};
-use multihash::{Head, Multihash, MultihashGeneric, no_std_io};
-use serde_json::Value;
+use crate::expect::{check, check_eq, expect_ok};
+use multihash::{Head, Multihash, MultihashGeneric};
 use std::alloc::Global;
 use std::fmt::Debug;
 use std::process::Abort;
@@ -32,31 +31,4 @@ fn known_values_are_shown(rt: HostRuntime) {
         ..head
     };
     check!(rt; head == head && other != head);
-}
-
-#[test]
-fn known_errors_are_shown(rt: HostRuntime) {
-    let alloc = rt.alloc();
-    let rt = &rt;
-    let own = no_std_io::Error::other("link down");
-    expect_shown(rt, alloc, &own, "Error { kind: Other(\"link down\") }");
-    let large = Multihash::<4>::wrap(1 << 63, &[]);
-    let wanted = "Err(Error { kind: InvalidCode(9223372036854775808) })";
-    expect_shown(rt, alloc, &large, wanted);
-    let other = Multihash::<4>::from_value(&Value::Null);
-    expect_shown(rt, alloc, &other, "Err(Error { kind: NotBytes })");
-    for (input, kind) in [
-        ([].as_slice(), "Insufficient"),
-        (&[255; 9], "Overflow"),
-        (&[128, 0], "NotMinimal"),
-        (&[0, 5], "InvalidSize(5)"),
-        (
-            &[0, 1],
-            "Io(Error { kind: UnexpectedEof(\"failed to fill whole buffer\") })",
-        ),
-    ] {
-        let wanted = expect_ok!(rt; format!(in alloc; "Err(Error {{ kind: {kind} }})"));
-        let outcome = Multihash::<4>::from_bytes(input);
-        expect_shown(rt, alloc, &outcome, wanted.as_str());
-    }
 }

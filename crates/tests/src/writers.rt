@@ -2,8 +2,8 @@
 //! is passed on unchanged, with no call after it.
 ghost use Rattle.std.specs.Prelude.{◌<◌, ◌^◌};
 
-use crate::support::expect::{FULL, check, check_eq, expect_ok, is_passed_on};
-use crate::support::samples::{Form, Sample, long_list, samples};
+use crate::expect::{FULL, check, check_eq, expect_ok, is_passed_on};
+use crate::samples::{Form, Sample, long_list, samples};
 use fakes::{CountsWrites, Drip, FailWrite, OUT_OF_MEMORY};
 use multihash::no_std_io::{self, Write};
 use std::alloc::Global;

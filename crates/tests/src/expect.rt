@@ -11,7 +11,7 @@ macro_rules! check {
         check!($rt; $cond, ())
     };
     ($rt:expr; $cond:expr, $note:expr $(,)?) => {
-        $crate::support::expect::holds($cond, $note).expect($rt, stringify!($cond))
+        $crate::expect::holds($cond, $note).expect($rt, stringify!($cond))
     };
 }
 
@@ -21,7 +21,7 @@ macro_rules! check_eq {
         check_eq!($rt; $left, $right, ())
     };
     ($rt:expr; $left:expr, $right:expr, $note:expr $(,)?) => {
-        $crate::support::expect::equal($left, $right, $note).expect($rt, stringify!($left))
+        $crate::expect::equal($left, $right, $note).expect($rt, stringify!($left))
     };
 }
 
