@@ -8,6 +8,11 @@ from unittest.mock import Mock, patch
 
 from verified_multihash import Multihash, MultihashError, hashes
 
+try:
+    from _testbuffer import ND_FORTRAN, ndarray
+except ImportError:
+    ndarray = None
+
 HERE = Path(__file__).resolve().parent
 # in the repository, or beside this file in an sdist
 DATA = next(path for path in (HERE / "../../../crates/vectors/data", HERE) if path.exists())
@@ -37,6 +42,15 @@ class Hashes(unittest.TestCase):
                 self.assertIs(hashes.verify(bytes(found), data), True)
                 self.assertIs(hashes.verify(bytes(found), bytes(data) + b"d"), False)
 
+    @unittest.skipIf(ndarray is None, "_testbuffer is not installed")
+    def test_matrix(self):
+        """The bytes of a matrix are those of its rows, also where its columns are in memory."""
+        matrix = ndarray([*b"acbd"], shape=[2, 2], flags=ND_FORTRAN)
+        for name in ("identity", "sha1"):
+            found = hashes.digest(matrix, name)
+            self.assertEqual((found, hashes.verify(found, matrix)), (hashes.digest(b"abcd", name), True))
+        self.assertEqual(Multihash(0, matrix).digest, b"abcd")
+
     def test_other_names(self):
         for name in {*hashes.CODES} - {name for _, name, _ in ROWS}:
             if not name.startswith("blake2"):
@@ -54,7 +68,8 @@ class Hashes(unittest.TestCase):
                 part[:] = bytes(len(part))  # was copied
                 hasher.multihash()  # of what is there, and more follows
             self.assertEqual([hasher.multihash(), hasher.multihash()], [right] * 2)
-            file = Mock(read=Mock(side_effect=io.BytesIO(whole).read))
+            file = Mock(wraps=io.BytesIO(b"front" + whole))
+            file.seek(5)  # it is read from there
             self.assertEqual(hashes.digest_file(file, name), right)
             self.assertLessEqual(max(call[0][0] for call in file.read.call_args_list), 1 << 20)
             for claimed in (right, bytes(right), type("Own", (Multihash,), {})(right.code, right.digest)):
@@ -100,3 +115,5 @@ class Hashes(unittest.TestCase):
                 text = "^d[a-z]+ .* %s$" % type(wrong).__name__
                 self.assertRaisesRegex(TypeError, text, hashes.digest, wrong, name)
         self.assertRaisesRegex(TypeError, "binary", hashes.digest_file, io.StringIO("abc"), "sha1")
+        for wrong in (("0000", io.BytesIO()), (b"\0\0", "path")):
+            self.assertRaises(TypeError, hashes.verify_file, *wrong)
