@@ -157,5 +157,4 @@ needs=/usr/include/openssl/evp.h try "the examples" compile_examples
 try "the first programs of the page" page_programs
 try "the reader of a stream" stream_example
 needs=/usr/include/openssl/evp.h try "the example that hashes" verify_example
-try "the version that files state" tools/version.py --check
 finish

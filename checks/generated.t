@@ -1,6 +1,7 @@
 #!/usr/bin/env bash
-# Compares the generated files with what tools/generate makes, and the C source with what Rattle's compiler makes of the
-# same functions. A result has the command that makes the files anew.
+# Compares the generated files with what tools/generate makes, the version that files state with that of multihash.h,
+# and the C source with what Rattle's compiler makes of the same functions. A result has the command that makes the
+# files anew.
 # shellcheck source=checks/lib/tap.sh
 . "$(dirname "$0")/lib/tap.sh"
 # shellcheck source=checks/lib/c.sh
@@ -19,6 +20,7 @@ beside_archive() {
 }
 
 for what in c rust contracts vectors names statuses; do try "tools/generate $what" tools/generate "$what" --check; done
+try "the version that files state" tools/version.py --check
 needs="rt wasm-opt=$binaryen wasm2wat=$wabt" try "tools/generate wasm" tools/generate wasm --check
 needs="rt cc objcopy /lib64/ld-linux-x86-64.so.2" try "beside the C source" beside_archive
 finish

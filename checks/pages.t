@@ -1,6 +1,6 @@
 #!/usr/bin/env python3
-"""Compares the pages with the sources: links, names, versions, limits, and what blocks and tables show. What a page
-says in its own words is not compared."""
+"""Compares the pages with the sources: links, names of functions and options, versions, limits, output, code of
+CALLING.md, and bytes of FORMAT.md. Nothing else is compared: no sentence, size or time, no status of a table."""
 import sys
 from pathlib import Path
 

@@ -1,6 +1,6 @@
 #!/usr/bin/env python3
 """For `tools/generate c`: prints the library for C in C11, which is the functions of crates/multihash_c, and those that
-they call, without contracts.
+they call, without contracts. It translates statements, `if` and `match`, and c_expressions.py other expressions.
 
 What a function of multihash.h needs becomes the same in C, with its name after `mh_` and its comments:
 

@@ -15,7 +15,7 @@ export interface MultihashHasher<Code extends number = number> {
   readonly code: Code;
   /**
    * Returns the multihash of the content, with the first `truncate` bytes of the digest if that is given. The memory
-   * of content above 1 MiB must not change until then. A browser holds a whole stream in memory.
+   * of content above 1 MiB must not change until the promise is settled. A browser holds a whole stream in memory.
    */
   digest(content: Content, options?: { truncate?: number }): Promise<Multihash<Code>>;
 }
@@ -39,8 +39,8 @@ export const sha384: MultihashHasher<0x20>;
 export const sha512: MultihashHasher<0x13>;
 
 /**
- * Returns whether a multihash, or its encoding, is that of the content. Returns false for a truncated digest. Throws a
- * `RangeError` if the platform does not have the function. The time for digests of equal lengths does not depend on
- * their bytes.
+ * Returns whether the multihash, or its encoding, is the multihash of the content: false for a truncated digest.
+ * Throws a `RangeError` if the platform does not have the function. The time for digests of equal lengths does not
+ * depend on their bytes.
  */
 export function verify(multihash: MultihashDigest | Uint8Array, content: Content): Promise<boolean>;

@@ -1,3 +1,4 @@
+// What all three entries of the package declare.
 import type { STATUSES } from './statuses.js';
 
 export * from './hashes.js';
@@ -120,7 +121,7 @@ export function read(bytes: Uint8Array, limit?: Wide): Read;
 export function head(bytes: Uint8Array): Head;
 /** Returns the encoding of a code and a digest. */
 export function encode(code: Wide, digest: Uint8Array): Uint8Array;
-/** Returns the length of the encoding of a code and a digest of that length. */
+/** Returns the length of the encoding of a code and a digest of `digestLength` bytes. */
 export function encodedLength(code: Wide, digestLength: Wide): number;
 /** Compares by code, then by digest length, then by the first digest byte that differs. */
 export function compare(left: Multihash, right: Multihash): -1 | 0 | 1;
@@ -147,8 +148,8 @@ export class MultihashReader implements AsyncIterable<Multihash> {
   /** A copy of the bytes received that belong to no multihash returned so far. */
   readonly rest: Uint8Array;
   /**
-   * The number of bytes of the multihashes returned so far, with those in the option `rest`. So it is where the next one
-   * starts, and after a `MultihashError` where the invalid one starts.
+   * The number of bytes of the multihashes returned so far, with those in the option `rest`: the position at which the
+   * next multihash starts, or after a `MultihashError` the invalid one.
    */
   readonly taken: number;
   /**
@@ -168,7 +169,7 @@ export class MultihashReader implements AsyncIterable<Multihash> {
    * source: an async generator ends only once what it awaits has arrived. A Node.js `Readable` is destroyed.
    */
   cancel(reason?: unknown): Promise<void>;
-  /** The same, in engines that have `Symbol.asyncDispose`. */
+  /** Calls `cancel`, in engines that have `Symbol.asyncDispose`. */
   [Symbol.asyncDispose](): Promise<void>;
   /** Leaving the loop cancels the source. If that fails, its error is thrown only if the loop itself threw none. */
   [Symbol.asyncIterator](): AsyncGenerator<Multihash, void, void>;

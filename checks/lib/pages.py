@@ -1,4 +1,4 @@
-"""For pages.t: compares the pages with the sources: links, names, versions, limits, statuses, output, code, bytes."""
+"""For pages.t: finds errors of the pages. DECLARED and STATED list names, versions and limits, and their sources."""
 
 import os
 import re

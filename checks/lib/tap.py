@@ -1,5 +1,5 @@
-"""For checks in Python, verdicts.py of crates/vectors and count.py of crates/speed: prints results as TAP, for prove, and
-builds the programs that checks run."""
+"""For checks in Python, verdicts.py of crates/vectors and measure.py of crates/speed: prints results as TAP, for prove,
+and builds the programs that checks run."""
 
 import os
 import subprocess

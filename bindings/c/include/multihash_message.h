@@ -4,10 +4,10 @@
 /* Messages for the errors of multihash.h, with the numbers that the text of a status lacks: "the input ends inside the
  * digest (3 of 32 bytes)". These functions are defined in the header, over snprintf; they are tested, not proved.
  *
- * Call one after a call of multihash.h has failed. Except for multihash_print_message, it writes the message to `text` as
+ * Call one after a function of multihash.h has failed. Each but multihash_print_message writes the message to `text` as
  * snprintf does: at most `text_size` bytes, of which the last is zero. If `text_size` is 0, `text` may be null. It
  * returns the length of the whole message, without the zero byte: if that is `text_size` or more, the message was
- * truncated. A buffer of MULTIHASH_MESSAGE_SIZE bytes is large enough for each. */
+ * truncated. A buffer of MULTIHASH_MESSAGE_SIZE bytes is large enough for each message. */
 #ifndef MULTIHASH_MESSAGE_H
 #define MULTIHASH_MESSAGE_H
 

@@ -1,4 +1,5 @@
-// The reader over streams that are cut at each byte.
+// The reader: over streams that are cut at each byte, end by an error or are wrong, and that are left, released, given
+// up or cancelled.
 import { fails, hex, same, says, told } from './check.js';
 
 async function* chunks(...parts) {

@@ -8,7 +8,7 @@ import unittest
 from unittest.mock import ANY
 
 import verified_multihash as vm
-from test_package import NAMED_CALLS, Named
+from test_arguments import NAMED_CALLS, Named
 from verified_multihash import Multihash, MultihashError
 
 try:

@@ -16,7 +16,7 @@ from concurrent.futures import ThreadPoolExecutor
 from pathlib import Path
 
 import verified_multihash as vm
-from test_package import NAMED_CALLS
+from test_arguments import NAMED_CALLS
 from verified_multihash import Multihash, hashes
 
 README = Path(__file__).resolve().parents[1] / "README.md"

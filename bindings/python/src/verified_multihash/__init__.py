@@ -1,4 +1,4 @@
-"""Multihashes: decoding, encoding and order, by C that is translated from proved functions.
+"""Decodes, encodes and compares multihashes, by C that is translated from proved functions.
 
 Functions that take bytes accept any object that supports the buffer protocol, and raise TypeError for anything else.
 Invalid input, and a code or digest that is too large, raise MultihashError, a subclass of ValueError. The module
@@ -128,8 +128,8 @@ class MultihashReader(_core.Reader):
     `limit` is the maximum length of a digest, in bytes. `file.read` may return fewer bytes than requested. Nothing
     else may read from the file or seek in it.
 
-    If the file does not block and has no bytes yet, its `read` returns None or raises BlockingIOError. `read` then
-    raises BlockingIOError, and the next call continues where it stopped. The same holds if the file ends inside a
+    If the file does not block and has no bytes yet, `file.read` returns None or raises BlockingIOError. The reader then
+    raises BlockingIOError, and its next call continues where it stopped. The same holds if the file ends inside a
     multihash, which raises MultihashError. After any other error of the file, every call raises ValueError, because a
     buffered file may have lost bytes. A call during another call raises RuntimeError, and the other call continues.
     """

@@ -1,3 +1,4 @@
+//! The error, with upstream's text, and the caller's error of a reader or writer in it.
 use crate::{io, StdError};
 use core::fmt;
 use verified_multihash as proved;

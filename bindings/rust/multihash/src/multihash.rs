@@ -1,3 +1,4 @@
+//! The type, with upstream's functions and names, over the proved one.
 use crate::error::{Error, Kind};
 use crate::io::{Read, Write};
 use crate::streams::Kept;

@@ -1,4 +1,5 @@
 //! The binary encoding: the varint of the code, the varint of the digest's length, and the digest.
+// Made by tools/generate rust.
 use crate::rattle::{std, *};
 
 use crate::multihash::whole;

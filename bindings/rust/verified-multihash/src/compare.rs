@@ -1,4 +1,5 @@
 //! Comparison and hashing.
+// Made by tools/generate rust.
 use crate::rattle::{std, *};
 
 use crate::Multihash;

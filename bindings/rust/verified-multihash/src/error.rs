@@ -1,4 +1,5 @@
 //! The library's error.
+// Made by tools/generate rust.
 use crate::rattle::{std, *};
 
 use crate::no_std_io;

@@ -1,4 +1,5 @@
 //! The two varints at the front of an encoding, for callers that keep the digest where it is.
+// Made by tools/generate rust.
 use crate::rattle::{std, *};
 
 use crate::Error;

@@ -1,3 +1,4 @@
+// Made by tools/generate rust.
 #![cfg_attr(any(feature = "std", not(doctest)), doc = include_str!("../README.md"))]
 #![no_std]
 #![forbid(unsafe_code)]

@@ -1,4 +1,5 @@
 //! Many multihashes in one stream, one after another.
+// Made by tools/generate rust.
 use crate::rattle::{std, *};
 
 use crate::no_std_io::{Read, Write};

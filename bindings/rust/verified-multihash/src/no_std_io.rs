@@ -1,4 +1,5 @@
 //! Readers and writers that need no operating system, and their error.
+// Made by tools/generate rust.
 use crate::rattle::{std, *};
 
 mod error;

@@ -1,4 +1,5 @@
 //! The SCALE encoding: the code in eight bytes, least significant first, the digest's length in one byte, the digest.
+// Made by tools/generate rust.
 use crate::rattle::{std, *};
 
 use crate::binary::write_digest;

@@ -1,4 +1,5 @@
 //! The error of readers and writers.
+// Made by tools/generate rust.
 use crate::rattle::{std, *};
 
 use std::fmt;

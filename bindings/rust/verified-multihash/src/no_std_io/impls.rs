@@ -1,4 +1,5 @@
 //! Slices, vectors and references as readers and writers.
+// Made by tools/generate rust.
 use crate::rattle::{std, *};
 
 use super::{Error, Read, Write};

@@ -1,4 +1,5 @@
 //! A writer that keeps the slice that it fills.
+// Made by tools/generate rust.
 use crate::rattle::{std, *};
 
 use super::impls::copy_front;

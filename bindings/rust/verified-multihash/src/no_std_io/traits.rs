@@ -1,4 +1,5 @@
 //! Traits of readers and writers, and the laws that every implementation keeps.
+// Made by tools/generate rust.
 use crate::rattle::{std, *};
 
 use super::Error;

@@ -1,4 +1,5 @@
 //! Reads the varint at the front of a slice from one word of 128 bits, with its first bytes.
+// Made by tools/generate rust.
 use crate::rattle::{std, *};
 
 use super::{LAST_BYTE_LIMIT, MAX_CONTINUATION, MAX_LEN};
