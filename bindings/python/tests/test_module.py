@@ -120,8 +120,8 @@ class Module(unittest.TestCase):
 
     def test_tables(self):
         """The tables of README.md show the parameters of each function, with defaults."""
-        rows = re.findall(r"^\|.*", README.read_text("utf-8").partition("## Functions")[2], re.M)
-        shown = re.findall(r"`(\w+)\((.*?)\)", "\n".join(rows))
+        tables = re.findall(r"^\| Name(?:.*\|\n)+", README.read_text("utf-8"), re.M)
+        shown = re.findall(r"`(\w+)\((.*?)\)", "".join(tables))
         self.assertGreater(len(shown), 9)
         for name, wanted in shown:
             call = next(vars(it)[name] for it in (vm, hashes, hashes.Hasher) if name in vars(it))
