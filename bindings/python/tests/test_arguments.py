@@ -230,7 +230,7 @@ class Arguments(unittest.TestCase):
 
     def test_errors(self):
         self.assertIs(MultihashError(Status.NO_ROOM).is_incomplete, False)
-        self.assertEqual(MultihashError(1).args, (1, 0, 0, 0, ""))
+        self.assertEqual(str(MultihashError(1).args), str((Status(1), 0, 0, 0, "")))
         for wrong in (0, len(Status), -1):
             self.assertRaises(ValueError, MultihashError, wrong)
         large = MultihashError(5, 0, 10**4300)

@@ -108,6 +108,9 @@ class Hashes(unittest.TestCase):
         for wrong in (None, 0x12, ("sha1", "md5"), bytearray()):
             self.assertRaises(TypeError, hashes.digest, b"abc", wrong)
         self.assertRaises(MultihashError, hashes.digest, bytes(256), "identity")
+        hasher = hashes.Hasher("identity")
+        hasher.update(bytes(255))
+        self.assertRaises(MultihashError, hasher.update, b"a")
         self.assertIs(hashes.verify(b"\0\4abcd", memoryview(bytes(256)).cast("I")), False)
         self.assertRaises(MultihashError, hashes.verify, b"\x12", b"abc")
         for name in ("identity", "sha2-256", "shake-128", "blake2b-256"):
