@@ -44,13 +44,13 @@ CALLS["replace"] = lambda: (VALUE.__replace__(digest=b"d"), Named(1, b"a").__rep
 CALLS["no field"] = functools.partial(VALUE.__replace__, name=1), ()
 CALLS["order"] = lambda: (VALUE == OTHER, VALUE < OTHER, VALUE == 1, VALUE == Named(VALUE.code, VALUE.digest)), ()
 CALLS["a text"] = vm._core.status_text, [1 << 62]
-CALLS["pickle"] = VALUE.__getnewargs__, ()
+CALLS["pickle"] = VALUE.__reduce_ex__, [4]
 CALLS["reader"] = lambda data, limit: vm.read_from(io.BytesIO(data), limit), [bytes(OTHER), 1 << 62]
 CALLS["a code"] = vm.scale_decode, [bytes(7) + b"\x80\0"]
 STEPS = vm._core.Reader(io.BytesIO(), 1)
 CALLS["steps"] = lambda: (STEPS._fail(None), STEPS._begin(), STEPS._end(b""), STEPS._take()), ()
 CALLS["too many"] = lambda data: (STEPS._fail(None), STEPS._begin(), STEPS._end(data)), [LONG]
-LASTING = [vm._core, vm._core.Reader, MultihashError, Multihash, Named, VALUE, OTHER, *vm.Status]
+LASTING = [object.__reduce_ex__, vm._core, vm._core.Reader, MultihashError, Multihash, Named, VALUE, OTHER, *vm.Status]
 if sys.version_info < (3, 12):  # which made these immortal
     LASTING += [None, False, True, NotImplemented, *range(2, 257)]
 
