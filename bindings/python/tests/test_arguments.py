@@ -65,7 +65,7 @@ TEXTS = [
     (vm.encoded_len, [18, 1 << 64], "digest 18446744073709551616 255"),
     (vm.encoded_len, [18, 10**5000], "digest %s 255" % front_of(10**5000)),
     (vm.encode, [10**39, b""], "code %d 2^63" % 10**39),
-    (vm.encode, [10**4400, b""], "code %s 2^63" % front_of(10**4400)),
+    (vm.encode, [10**40, b""], "code %s 2^63" % front_of(10**40)),
     (vm.decode, ["1220"], "data bytes Multihash.fromhex str"),
     (vm.read, [3], "data bytes-like int"),
     (Multihash.fromhex, [b"1220"], "text str decode bytes"),
@@ -134,7 +134,7 @@ class Arguments(unittest.TestCase):
         error = raised.exception
         self.assertIs(type(error.status), Status)
         self.assertEqual(attributes_of(error), attributes_of(MultihashError(*error.args)))
-        return error.status, error.size, error.code, str(error)
+        return error.status, error.size, error.code, str(error), error.taken
 
     def test_only_buffers(self):
         for call in BYTES_CALLS:
@@ -174,7 +174,7 @@ class Arguments(unittest.TestCase):
             for code in NEGATIVE:
                 self.assertRaisesRegex(ValueError, "code .* %s" % re.escape(front_of(code)), call, code, b"")
             for code in (1 << 63, (1 << 64) - 1, 1 << 64, (1 << 64) + 18, 1 << 700, 10**5000):
-                status, size, found, text = self.error_of(call, code, bytes(255))
+                status, size, found, text, _ = self.error_of(call, code, bytes(255))
                 self.assertEqual((status, size, found, front_of(code) in text), (Status.INVALID_CODE, 0, code, True))
                 self.assertEqual(self.error_of(call, code, bytes(256))[:3], (Status.INVALID_SIZE, 256, 0))
         self.assertEqual(self.error_of(vm.scale_decode, bytes(7) + b"\x80\0")[2], 1 << 63)
@@ -221,6 +221,7 @@ class Arguments(unittest.TestCase):
                 self.assertRaises(MemoryError, bytes, data)
                 self.assertEqual((vm.read(data), vm.head(data)), ((Multihash(0, b""), 2), (0, 0, 2)))
                 self.assertEqual(vm.scale_decode(data), (Multihash(0, b""), 9))
+                self.assertEqual(self.error_of(vm.decode, data)[4], length)
                 for call, size in ((vm.decode, length - 2), *((call, length) for call in BYTES_CALLS[4:])):
                     self.assertEqual(self.error_of(call, data)[:2], (Status.INVALID_SIZE, size))
                 self.assertIs(hashes.verify(Multihash(0, b""), data), False)

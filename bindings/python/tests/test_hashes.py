@@ -62,8 +62,9 @@ class Hashes(unittest.TestCase):
         for name in ("identity", "sha1", "sha2-256", "dbl-sha2-256", "shake-128", "blake2b-512", "blake2s-8"):
             whole = data[:255] if name == "identity" else data
             hasher, right = hashes.Hasher(name), hashes.digest(whole, name)
-            for at in range(0, len(whole), 1000):
-                part = bytearray(whole[at : at + 1000])
+            size = len(whole) // 9
+            for at in range(0, len(whole), size):
+                part = bytearray(whole[at : at + size])
                 hasher.update(part)
                 part[:] = bytes(len(part))  # was copied
                 hasher.multihash()  # of what is there, and more follows
