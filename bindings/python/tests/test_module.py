@@ -115,8 +115,8 @@ class Module(unittest.TestCase):
             required = [name for name, it in parameters_of(call).items() if not it or it.default is it.empty]
             few = arguments[: len(required) - 1]
             for wrong, more in (([*arguments, 1], {}), (few, {}), (arguments, {"more": 1})):
-                with self.assertRaises(TypeError):  # by itself, as assertRaises would pass keywords on
-                    call(*wrong, **more)
+                with self.assertRaises(TypeError):  # by itself: assertRaises passes keywords on, if only {}
+                    call(*wrong, **more) if more else call(*wrong)
 
     def test_tables(self):
         """The tables of README.md show the parameters of each function, with defaults."""
