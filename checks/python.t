@@ -94,12 +94,13 @@ under_sanitizers() {
 
 # A folder that was installed before is installed as it is now, also if a file is older than its build.
 built_before() {
-  local module=$work/sdist/src/verified_multihash/__init__.py
+  local source=$work/sdist/src
   installs "$work/sdist"
-  echo 'later = True' >> "$module"
-  touch -d @315532800 "$module"
+  echo 'later = "Later."' >> "$source/verified_multihash/__init__.py"
+  sed -i 's/The library for C/Later/' "$source/core.c"
+  touch -d @315532800 "$source"/{core.c,verified_multihash/__init__.py}
   imports "$work/sdist"
-  "$python" -c 'from verified_multihash import later'
+  "$python" -c 'from verified_multihash import _core, later; assert _core.__doc__ == later'
 }
 
 # The package is typed, and the module has the names of its stub. mypy accepts typed.py and the examples of README.md,

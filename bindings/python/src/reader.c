@@ -183,9 +183,7 @@ static PyObject *reader_begin(PyObject *self, PyObject *unused)
 
 static PyObject *reader_end(PyObject *self, PyObject *chunk)
 {
-    reader_object *reader = (reader_object *)self;
-    if (reader->wanted == 0) return PyErr_Format(PyExc_RuntimeError, "no call of the file has begun");
-    int kept = end(reader, chunk);
+    int kept = end((reader_object *)self, chunk);
     return kept < 0 ? NULL : PyBool_FromLong(kept);
 }
 

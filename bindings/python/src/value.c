@@ -89,8 +89,7 @@ static Py_hash_t multihash_hash(PyObject *self)
     uint64_t mixed = (uint64_t)PyObject_Hash(multihash->digest) ^ multihash->number; /* that of bytes cannot fail */
     mixed = (mixed ^ mixed >> 33) * 0xff51afd7ed558ccdu;
     mixed = (mixed ^ mixed >> 33) * 0xc4ceb9fe1a85ec53u;
-    Py_hash_t hash = (Py_hash_t)(mixed ^ mixed >> 33);
-    return hash == -1 ? -2 : hash;
+    return (Py_hash_t)((mixed ^ mixed >> 33) & PY_SSIZE_T_MAX); /* not -1, which is an error */
 }
 
 /* Writes the encoding, and returns its length: each Multihash has one. */

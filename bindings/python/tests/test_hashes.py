@@ -8,6 +8,11 @@ from unittest.mock import Mock, patch
 
 from verified_multihash import Multihash, MultihashError, hashes
 
+try:
+    from _testbuffer import ND_FORTRAN, ndarray
+except ImportError:
+    ndarray = None
+
 HERE = Path(__file__).resolve().parent
 # in the repository, or beside this file in an sdist
 DATA = next(path for path in (HERE / "../../../crates/vectors/data", HERE) if path.exists())
@@ -37,6 +42,15 @@ class Hashes(unittest.TestCase):
                 self.assertIs(hashes.verify(bytes(found), data), True)
                 self.assertIs(hashes.verify(bytes(found), bytes(data) + b"d"), False)
 
+    @unittest.skipIf(ndarray is None, "_testbuffer is not installed")
+    def test_matrix(self):
+        """The bytes of a matrix are those of its rows, also where its columns are in memory."""
+        matrix = ndarray([*b"acbd"], shape=[2, 2], flags=ND_FORTRAN)
+        for name in ("identity", "sha1"):
+            found = hashes.digest(matrix, name)
+            self.assertEqual((found, hashes.verify(found, matrix)), (hashes.digest(b"abcd", name), True))
+        self.assertEqual(Multihash(0, matrix).digest, b"abcd")
+
     def test_other_names(self):
         for name in {*hashes.CODES} - {name for _, name, _ in ROWS}:
             if not name.startswith("blake2"):
@@ -48,13 +62,15 @@ class Hashes(unittest.TestCase):
         for name in ("identity", "sha1", "sha2-256", "dbl-sha2-256", "shake-128", "blake2b-512", "blake2s-8"):
             whole = data[:255] if name == "identity" else data
             hasher, right = hashes.Hasher(name), hashes.digest(whole, name)
-            for at in range(0, len(whole), 1000):
-                part = bytearray(whole[at : at + 1000])
+            size = len(whole) // 9
+            for at in range(0, len(whole), size):
+                part = bytearray(whole[at : at + size])
                 hasher.update(part)
                 part[:] = bytes(len(part))  # was copied
                 hasher.multihash()  # of what is there, and more follows
             self.assertEqual([hasher.multihash(), hasher.multihash()], [right] * 2)
-            file = Mock(read=Mock(side_effect=io.BytesIO(whole).read))
+            file = Mock(wraps=io.BytesIO(b"front" + whole))
+            file.seek(5)  # it is read from there
             self.assertEqual(hashes.digest_file(file, name), right)
             self.assertLessEqual(max(call[0][0] for call in file.read.call_args_list), 1 << 20)
             for claimed in (right, bytes(right), type("Own", (Multihash,), {})(right.code, right.digest)):
@@ -93,6 +109,9 @@ class Hashes(unittest.TestCase):
         for wrong in (None, 0x12, ("sha1", "md5"), bytearray()):
             self.assertRaises(TypeError, hashes.digest, b"abc", wrong)
         self.assertRaises(MultihashError, hashes.digest, bytes(256), "identity")
+        hasher = hashes.Hasher("identity")
+        hasher.update(bytes(255))
+        self.assertRaises(MultihashError, hasher.update, b"a")
         self.assertIs(hashes.verify(b"\0\4abcd", memoryview(bytes(256)).cast("I")), False)
         self.assertRaises(MultihashError, hashes.verify, b"\x12", b"abc")
         for name in ("identity", "sha2-256", "shake-128", "blake2b-256"):
@@ -100,3 +119,5 @@ class Hashes(unittest.TestCase):
                 text = "^d[a-z]+ .* %s$" % type(wrong).__name__
                 self.assertRaisesRegex(TypeError, text, hashes.digest, wrong, name)
         self.assertRaisesRegex(TypeError, "binary", hashes.digest_file, io.StringIO("abc"), "sha1")
+        for wrong in (("0000", io.BytesIO()), (b"\0\0", "path")):
+            self.assertRaises(TypeError, hashes.verify_file, *wrong)

@@ -29,7 +29,7 @@ def error_of(reason):
 
 def run(*words, **given):
     """The status, and what was printed to both outputs."""
-    given = {"input": "", "stdout": subprocess.PIPE, "stderr": subprocess.PIPE, **given}
+    given = {"input": "", "stdout": subprocess.PIPE, "stderr": subprocess.PIPE, "errors": "surrogateescape", **given}
     command = [sys.executable, "-m", "verified_multihash", *words]
     ended = subprocess.run(command, encoding="utf-8", check=False, **given)
     return ended.returncode, ended.stdout or "", ended.stderr or ""
@@ -47,6 +47,8 @@ class Main(unittest.TestCase):
         for text, _, reason, _ in rows():
             if text in ("", "0041", "zz"):
                 self.assertEqual(run(text, input=HEX), (1, "", error_of(reason)))
+        for words, text in (("\udcff",), HEX), ((), "\udcff"):  # a byte that is no UTF-8
+            self.assertEqual(run(*words, input=text), (1, "", error_of("not hexadecimal")))
 
     def test_arguments(self):
         status, output, reason = run(HEX, HEX)

@@ -31,7 +31,7 @@ def calls():
         yield call, arguments
         for at, right in enumerate(arguments):
             kinds = (bytearray(right), memoryview(right)) if isinstance(right, bytes) else ()
-            for other in (None, -(1 << 100), 1 << 70, LONG, bytearray(LONG), memoryview(LONG), *kinds):
+            for other in (None, -(1 << 200), 1 << 70, LONG, bytearray(LONG), memoryview(LONG), *kinds):
                 yield call, [*arguments[:at], other, *arguments[at + 1 :]]
 
 
@@ -44,12 +44,13 @@ CALLS["replace"] = lambda: (VALUE.__replace__(digest=b"d"), Named(1, b"a").__rep
 CALLS["no field"] = functools.partial(VALUE.__replace__, name=1), ()
 CALLS["order"] = lambda: (VALUE == OTHER, VALUE < OTHER, VALUE == 1, VALUE == Named(VALUE.code, VALUE.digest)), ()
 CALLS["a text"] = vm._core.status_text, [1 << 62]
-CALLS["pickle"] = VALUE.__getnewargs__, ()
+CALLS["pickle"] = VALUE.__reduce_ex__, [4]
 CALLS["reader"] = lambda data, limit: vm.read_from(io.BytesIO(data), limit), [bytes(OTHER), 1 << 62]
 CALLS["a code"] = vm.scale_decode, [bytes(7) + b"\x80\0"]
 STEPS = vm._core.Reader(io.BytesIO(), 1)
 CALLS["steps"] = lambda: (STEPS._fail(None), STEPS._begin(), STEPS._end(b""), STEPS._take()), ()
-LASTING = [vm._core, vm.MultihashReader, MultihashError, Multihash, Named, VALUE, OTHER, *vm.Status]
+CALLS["too many"] = lambda data: (STEPS._fail(None), STEPS._begin(), STEPS._end(data)), [LONG]
+LASTING = [object.__reduce_ex__, vm._core, vm._core.Reader, MultihashError, Multihash, Named, VALUE, OTHER, *vm.Status]
 if sys.version_info < (3, 12):  # which made these immortal
     LASTING += [None, False, True, NotImplemented, *range(2, 257)]
 
@@ -74,7 +75,7 @@ def result_of(call):
     except MemoryError:
         return MemoryError
     except SystemError as error:
-        if str(error) != "error return without exception set":
+        if not str(error).startswith(("error return without exception set", "<function <lambda>")):
             raise
         return MemoryError  # CPython's, from 3.11 on, where it has no memory for a traceback
     except (MultihashError, TypeError, ValueError) as error:

@@ -7,6 +7,7 @@ import ctypes
 import doctest
 import importlib
 import inspect
+import re
 import subprocess
 import sys
 import typing
@@ -33,11 +34,13 @@ class Module(unittest.TestCase):
         interpreters = importlib.import_module("_interpreters" if sys.version_info > (3, 13) else "_xxsubinterpreters")
         program = "import sys; sys.path[:] = %r\nimport verified_multihash as vm\n" % (sys.path,)
         program += "for n in range(20000): assert vm.decode(vm.encode(n, b'abc')) == vm.Multihash(n, b'abc')\n"
-        program += "import importlib\nimportlib.reload(vm)\n"
+        program += "import importlib, io\nvm._core.kept = vm.MultihashReader(io.BytesIO())\nimportlib.reload(vm)\n"
         program += "try: vm.decode(b'')\nexcept vm.MultihashError as error: assert error.is_incomplete\n"
-        program += "import gc, weakref\nkept = weakref.ref(vm.Multihash)\ndel vm\n"
+        program += "import gc\ndel vm\n"
         program += "for name in [*sys.modules]: name.startswith('verified') and sys.modules.pop(name)\n"
-        program += "gc.collect()\nassert kept() is None, 'a module that is not used is kept'\n"
+        program += "gc.collect()\nkept = [it for it in gc.get_objects() if type(it) is type]\n"
+        program += "names = {it.__name__ for it in kept} if sys.version_info > (3, 9) else ()\n"
+        program += "assert 'Multihash' not in names, 'a module that is not used is kept'\n"
 
         def run(_):
             number = interpreters.create()
@@ -102,6 +105,8 @@ class Module(unittest.TestCase):
         self.assertEqual({*hashes.__all__}, {"CODES", "NAMES", *(name for name in own if name[0] != "_")})
         classes = [each for each in map(vars(vm).get, public) if isinstance(each, type)]
         self.assertEqual({each.__module__ for each in classes}, {vm.__name__})  # that pickled values name
+        called = [it for module in (vm, hashes) for it in map(vars(module).get, module.__all__) if callable(it)]
+        self.assertEqual([it for it in called if not it.__doc__], [])
         self.assertEqual(Multihash.__match_args__, tuple(parameters_of(Multihash)))
         for call, arguments in NAMED_CALLS.items():
             names = list(parameters_of(call))
@@ -111,8 +116,18 @@ class Module(unittest.TestCase):
             required = [name for name, it in parameters_of(call).items() if not it or it.default is it.empty]
             few = arguments[: len(required) - 1]
             for wrong, more in (([*arguments, 1], {}), (few, {}), (arguments, {"more": 1})):
-                with self.assertRaises(TypeError):  # by itself, as assertRaises would pass keywords on
-                    call(*wrong, **more)
+                with self.assertRaises(TypeError):  # by itself: assertRaises passes keywords on, if only {}
+                    call(*wrong, **more) if more else call(*wrong)
+
+    def test_tables(self):
+        """The tables of README.md show the parameters of each function, with defaults."""
+        tables = re.findall(r"^\| Name(?:.*\|\n)+", README.read_text("utf-8"), re.M)
+        shown = re.findall(r"`(\w+)\((.*?)\)", "".join(tables))
+        self.assertGreater(len(shown), 9)
+        for name, wanted in shown:
+            call = next(vars(it)[name] for it in (vm, hashes, hashes.Hasher) if name in vars(it))
+            own = [it.replace(annotation=it.empty) for it in inspect.signature(call).parameters.values()]
+            self.assertEqual(wanted, ", ".join(str(it) for it in own if it.name != "self"))
 
     def test_examples(self):
         text = "\n".join("" if line.startswith("```") else line for line in README.read_text("utf-8").splitlines())

@@ -64,14 +64,17 @@ class Vectors(unittest.TestCase):
         if match is None:
             self.assertEqual(shown(vm.head, data)[:2], (result, taken))
             return
-        head = (*map(number_of, match.groups()), match.end())
-        self.assertEqual((vm.head(data), vm.head(data[: match.end()])), (head, head))
+        head = "Head(code=%d, digest_length=%d, length=%d)" % (*map(number_of, match.groups()), match.end())
+        self.assertEqual((str(vm.head(data)), str(vm.head(data[: match.end()]))), (head, head))
 
     def check_file(self, data, size, result, consumed):
         for most in (1, 500):
-            file = Counts(data, most)
-            found = shown(lambda _: (vm.read_from(file, size), 0), data)[0] if data else vm.read_from(file, size)
-            self.assertEqual((found, file.file.tell()), (result if data else None, consumed))
+            file, other = Counts(data, most), Counts(data, most)
+            reader = vm.MultihashReader(other, size)
+            for call in (lambda _: (vm.read_from(file, size), 0), lambda _: (reader.read(), 0)):
+                self.assertEqual(shown(call, data)[0] if data else call(data)[0], result if data else None)
+            self.assertEqual((file.file.tell(), other.file.tell()), (consumed, consumed))
+            self.assertEqual(reader.rest, data[reader.taken : consumed])
         self.assertLessEqual(file.reads, vm.HEAD_MAX + 1)  # not one for each byte of the digest
 
     def check_long(self, data, kind, result, taken):

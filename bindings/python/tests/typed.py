@@ -39,7 +39,8 @@ assert_type((Sha256(18, digest=DATA).__replace__(code=1), Sha256.fromhex("1200")
 assert_type((multihash.code, multihash.digest, multihash.hex(), hash(multihash)), Tuple[int, bytes, str, int])
 assert_type(multihash.hexdigest(), str)
 assert_type((multihash.__replace__(digest=DATA), bytes(multihash)), Tuple[Multihash, bytes])
-assert_type((multihash < multihash, multihash >= multihash), Tuple[bool, bool])
+assert_type((multihash < multihash, multihash <= multihash), Tuple[bool, bool])
+assert_type((multihash > multihash, multihash >= multihash), Tuple[bool, bool])
 Multihash("sha2-256", DATA)  # type: ignore[arg-type]
 Multihash(18, "abc")  # type: ignore[arg-type]
 Multihash.fromhex(DATA)  # type: ignore[arg-type]
