@@ -34,6 +34,23 @@ macro_rules! errors {
     ($page:expr; $($call:expr => $outcome:expr),+ $(,)?) => { { $(print_error($page, $call, $outcome);)+ } };
 }
 
+/// The name of the kind of an error that an input has, as in the lists.
+pub fn kind_of(e: &Error) -> &'static str {
+    if e.is_insufficient() {
+        "insufficient"
+    } else if e.is_overflow() {
+        "overflow"
+    } else if e.is_not_minimal() {
+        "not_minimal"
+    } else if e.invalid_code().is_some() {
+        "invalid_code"
+    } else if e.invalid_size().is_some() {
+        "invalid_size"
+    } else {
+        "unexpected_eof"
+    }
+}
+
 type Mh = Multihash<0>;
 
 pub fn print_errors(page: &mut Page) {
