@@ -8,9 +8,7 @@ use serde_json::Value;
 // A macro, since a test is no value.
 macro_rules! put_tests {
     ($page:expr, $e:expr; $($test:ident)+) => {
-        for (name, applies) in &[$((concat!(" ", stringify!($test)), $e.$test())),+] {
-            $page.put(if *applies { *name } else { "" });
-        }
+        { $($page.put(if $e.$test() { concat!(" ", stringify!($test)) } else { "" });)+ }
     };
 }
 
