@@ -1,4 +1,5 @@
--- The invariant of the loop over a varint's bytes, and what has been consumed at its end.
+-- Reading a varint byte by byte: the invariant of the loop, and what has been consumed at its end. `WordFrontLemmas`,
+-- for a varint in a word, cites the ends.
 use Rattle.std.proofs.Common.{◌≡◌, ℕ, ◌+◌, ◌*◌, ◌%◌, ◌^◌, ◌<◌, ◌≤◌, ◌⊎◌, List, [], ◌∷◌, ◌++◌, length, Option, refl, sym, ap, ◌∙◌, subst, inl, inr, arith, append_assoc, bit_and, bit_or}
 use Rattle.std.specs.List.{All}
 use Rattle.std.specs.Io.KnownBytes.{IsAtEnd, prepend_known}

@@ -10,7 +10,7 @@ use Rattle.multihash_c.specs.Status.{status_of_error}
 use Rattle.multihash_c.specs.Decoded.{ReportsPair, ReportsError, Reports, ConsumesForm, ReportsPrefix, Determines, ReadsWithin, ReportsHead, ReportsHeadError}
 use Rattle.multihash_c.proofs.DecodedLemmas.{reported_length}
 use Rattle.multihash.proofs.ScaleLemmas.{scale_verdict_unique}
-use Rattle.multihash.proofs.FormVectors.{zeros, all_255, scale_code_above}
+use Rattle.multihash.proofs.CodecVectors.{zeros, all_255, scale_code_above}
 use Rattle.multihash.proofs.VerdictLemmas.{whole_exact, whole_verdict_unique, verdict_unique}
 use Rattle.multihash_c.proofs.ReadLemmas.{head_kept, head_no_error}
 use Rattle.std.specs.Prelude.{Some}

@@ -221,7 +221,7 @@ fn decode_whole(front: &[u8], whole_length: usize) -> Decoded
 }
 
 // Decodes the multihash whose encoding is at the front of `bytes`, with a digest of at most `limit` bytes,
-// and at most 255.
+// and at most 255. `multihash_read`, `multihash_read_limit` and `multihash_read_many` call it.
 #[inline(always)]
 pub(crate) fn read_within(bytes: &[u8], limit: usize) -> Decoded
     ensures { ReadsWithin limit bytes.now result }

@@ -47,6 +47,14 @@ fn print_text<const S: usize>(page: &mut Page, text: &str)
     page.end();
 }
 
+fn print_texts<const S: usize>(page: &mut Page, texts: &str)
+    requires { S < 2 ^ 16 }
+{
+    for text in texts.split(' ') {
+        print_text::<S>(page, text);
+    }
+}
+
 fn print_member(page: &mut Page, kind: &str) {
     if let Ok(text) = format!(in page.alloc; "[0,{kind}]") {
         print_text::<255>(page, &text);
@@ -66,12 +74,8 @@ pub fn print_values(page: &mut Page) {
     if let Ok(m) = Multihash::<32>::wrap(18, SHA256) {
         print_json(page, "wrap::<32>(18, ..).to_value()", &m);
     }
-    for text in TEXTS.split(' ') {
-        print_text::<32>(page, text);
-    }
-    for text in SHORT.split(' ') {
-        print_text::<2>(page, text);
-    }
+    print_texts::<32>(page, TEXTS);
+    print_texts::<2>(page, SHORT);
     page.call("from_value::<2>([0,0] and 100000 members 7)");
     if let Ok(value) = long_array(page.alloc) {
         page.put_found(Multihash::<2>::from_value(&value));

@@ -141,22 +141,21 @@ fn expect_not_read(rt: &(impl Abort + AllocGlobal), input: Drip, calls: usize) {
     expect_run(rt, input, whole_page(), whole_page(), wanted, (calls, 0, 1));
 }
 
+fn expect_last_read(rt: &(impl Abort + AllocGlobal), kind: ErrorKind) {
+    let end = End::Fails(kind);
+    expect_not_read(rt, Drip::new(b"", 5, end), 1);
+    expect_not_read(rt, Drip::new(b"1603", 5, end), 2);
+    expect_not_read(rt, Drip::new(EXAMPLE, 5, end), 3);
+}
+
 #[test]
 fn a_read_that_fails_is_the_last(rt: HostRuntime) {
-    let rt = &rt;
-    for (text, calls) in [(b"".as_slice(), 1), (b"1603", 2), (EXAMPLE, 3)] {
-        let end = End::Fails(ErrorKind::NotConnected);
-        expect_not_read(rt, Drip::new(text, 5, end), calls);
-    }
+    expect_last_read(&rt, ErrorKind::NotConnected);
 }
 
 #[test]
 fn a_read_that_is_interrupted_is_the_last(rt: HostRuntime) {
-    let rt = &rt;
-    for (text, calls) in [(b"".as_slice(), 1), (b"1603", 2), (EXAMPLE, 3)] {
-        let end = End::Fails(ErrorKind::Interrupted);
-        expect_not_read(rt, Drip::new(text, 5, end), calls);
-    }
+    expect_last_read(&rt, ErrorKind::Interrupted);
 }
 
 // More bytes than an input may have: the reader is never asked for all of them.
@@ -195,20 +194,23 @@ fn a_writer_of_one_byte(rt: HostRuntime) {
     );
 }
 
-// A page that is full at once or after ten bytes: the write that fails is the last.
+// A page that is full after these bytes: the write that fails is the last.
+fn expect_full(rt: &(impl Abort + AllocGlobal), end: End, shown: &[u8], calls: usize) {
+    let out = Page::new(shown.len(), CAPACITY, end);
+    let input = Drip::new(EXAMPLE, 9, End::Nothing);
+    expect_run(
+        rt,
+        input,
+        out,
+        whole_page(),
+        (1, shown, NOT_WRITTEN),
+        (3, calls, 1),
+    );
+}
+
 fn expect_not_written(rt: &(impl Abort + AllocGlobal), end: End) {
-    for (room, shown, calls) in [(0, b"".as_slice(), 1), (10, b"code 22\nsi", 2)] {
-        let out = Page::new(room, CAPACITY, end);
-        let input = Drip::new(EXAMPLE, 9, End::Nothing);
-        expect_run(
-            rt,
-            input,
-            out,
-            whole_page(),
-            (1, shown, NOT_WRITTEN),
-            (3, calls, 1),
-        );
-    }
+    expect_full(rt, end, b"", 1);
+    expect_full(rt, end, b"code 22\nsi", 2);
 }
 
 // Nor is the line with the reason written again.
