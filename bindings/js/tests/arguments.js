@@ -86,7 +86,7 @@ export function equality(module) {
     for (const code of [0, 0n]) same(multihash.equals({ code, digest }), true, 'equals');
   const { digest } = multihash;
   const noCodes = ['0', '', false, [], [0], null, undefined, Symbol('0'), Object.create(null)];
-  for (const code of [...noCodes, { valueOf: () => 0 }, 1, 1n])
+  for (const code of [...noCodes, { valueOf: () => 0 }, 0.5, 1n])
     same(multihash.equals({ code, digest }), false, `equals, a code: ${kindOf(code)}`);
   for (const other of [[5], '5', Int8Array.of(5), Uint8ClampedArray.of(5), Uint8Array.of(6), new Lying([5, 6, 7])])
     same(multihash.equals({ code: 0, digest: other }), false, `equals, a digest: ${kindOf(other)}`);
