@@ -121,7 +121,7 @@ async function nodeStreams(module) {
   await ofStream.cancel();
   const [ended, released] = await Promise.all(calls);
   same(ended, 'null', 'a call that waits');
-  says(released, 'TypeError released', 'a call that waits');
+  says(released, 'TypeError release', 'a call that waits');
   const file = new URL('../package.json', import.meta.url);
   for (const content of [Readable.from([Uint8Array.of(1)]), createReadStream(file)]) {
     await module.sha256.digest(content);
