@@ -111,7 +111,7 @@ export class MultihashReader {
    */
   release() {
     this.#end ??= () => {
-      throw new TypeError('the reader was released');
+      throw new TypeError('release() was called, so this reader reads no more');
     };
     this.#isReleased = true;
     this.#source.release();

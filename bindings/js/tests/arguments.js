@@ -86,7 +86,7 @@ export function equality(module) {
     for (const code of [0, 0n]) same(multihash.equals({ code, digest }), true, 'equals');
   const { digest } = multihash;
   const noCodes = ['0', '', false, [], [0], null, undefined, Symbol('0'), Object.create(null)];
-  for (const code of [...noCodes, { valueOf: () => 0 }, 1, 1n])
+  for (const code of [...noCodes, { valueOf: () => 0 }, 0.5, 1n])
     same(multihash.equals({ code, digest }), false, `equals, a code: ${kindOf(code)}`);
   for (const other of [[5], '5', Int8Array.of(5), Uint8ClampedArray.of(5), Uint8Array.of(6), new Lying([5, 6, 7])])
     same(multihash.equals({ code: 0, digest: other }), false, `equals, a digest: ${kindOf(other)}`);
@@ -127,7 +127,7 @@ export function multihashes(module) {
   same(`${multihash} ${new Map([[`${multihash}`, 1]]).get(hex(EXAMPLE))}`, `${hex(EXAMPLE)} 1`, 'as text');
   for (const text of [`${multihash}`, `${multihash}`.toUpperCase()])
     same(Multihash.fromHex(text).equals(multihash), true, 'from text');
-  const noDigits = [['162', 'odd 3'], ['1g01', 'g 1'], ['0x1600', 'x 1'], [' 160', '0'], ['1\u{1f600}', '\u{1f600} 1']];
+  const noDigits = [['162', '3'], ['1g01', 'g 1'], ['0x1600', 'x 1'], [' 160', '0'], ['1\u{1f600}', '\u{1f600} 1']];
   for (const [text, words] of noDigits) {
     const error = fails(MultihashError, () => Multihash.fromHex(text), text, words);
     same(`${error.status} ${error.isIncomplete}`, 'not_hexadecimal false', text);

@@ -125,7 +125,7 @@ export async function hashStreams({ hashers, identity, sha256, verify }) {
     }
   }
   same(`${await identity.digest(chunks(content.subarray(0, 3)))}`, '0003000102', 'identity');
-  says(await told(identity.digest(chunks(content))), 'MultihashError identity 255 2500', 'identity');
+  says(await told(identity.digest(chunks(content))), 'MultihashError 2500', 'identity');
   for (const [bytes, start] of [[new Uint8Array(), 'e3b0c442'], [chunks(''), 'e3b0c442'], [chunks(ABC), 'ba7816bf']])
     same(`${await sha256.digest(bytes)}`.slice(0, 12), `1220${start}`, 'of no bytes, or few');
   let ends = 0;

@@ -119,17 +119,15 @@ async function nodeStreams(module) {
   const calls = [ofStream, ofWeb].map((reader) => told(reader.read()));
   ofWeb.release();
   await ofStream.cancel();
-  const [ended, released] = await Promise.all(calls);
-  same(ended, 'null', 'a call that waits');
-  says(released, 'TypeError released', 'a call that waits');
+  says(`${await Promise.all(calls)}`, 'null TypeError release', 'calls that wait');
   const file = new URL('../package.json', import.meta.url);
   for (const content of [Readable.from([Uint8Array.of(1)]), createReadStream(file)]) {
     await module.sha256.digest(content);
     says(await told(module.sha256.digest(content)), 'TypeError content', 'a stream that was read');
   }
   const unread = endless();
-  await new MultihashReader(unread).cancel();
-  same(unread.destroyed, true, 'a stream that was not read is destroyed');
+  await new MultihashReader(unread).cancel('why');
+  same(`${unread.destroyed} ${unread.errored}`, 'true null', 'a stream that was not read is destroyed');
   const readable = (bytes) => Readable.toWeb(Readable.from(bytes, { objectMode: false }));
   await endedAnywhere(module, readable, () => new Promise(process.nextTick));
 }

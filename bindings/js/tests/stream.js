@@ -20,7 +20,7 @@ async function drained(reader) {
 /** The same of a new reader. */
 const readAll = (module, source, options) => drained(new module.MultihashReader(source, options));
 
-const RELEASED = 'TypeError released';
+const RELEASED = 'TypeError release';
 
 async function cutAt(module, stream, cut, wanted) {
   const [left, right] = [stream.subarray(0, cut), stream.subarray(cut)];
