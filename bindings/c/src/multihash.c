@@ -657,7 +657,7 @@ multihash_decoded multihash_from_prefix(const uint8_t *prefix, size_t prefix_len
 }
 
 /* Decodes the multihash whose encoding is at the front of `bytes`, with a digest of at most `limit` bytes,
- * and at most 255. */
+ * and at most 255. `multihash_read`, `multihash_read_limit` and `multihash_read_many` call it. */
 MH_INLINE multihash_decoded mh_decode_read_within(const uint8_t *bytes, size_t bytes_length, size_t limit)
 {
     const mh_maybe_head maybe_head = mh_head_find_front(bytes, bytes_length);
