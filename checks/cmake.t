@@ -1,7 +1,7 @@
 #!/usr/bin/env bash
 # What CMake builds, installs and packs of the library for C: on this machine, where its tests pass, its files are
-# there, and the installed test passes; for other machines, two of them emulated; with other options than the defaults.
-# Projects that use it, by CMake and in Go.
+# there, with a man page of each function, and the installed test passes; for other machines, two of them emulated; with
+# other options than the defaults. Projects that use it, by CMake and in Go.
 # shellcheck disable=SC2016 # what CMake expands
 # shellcheck source=checks/lib/tap.sh
 . "$(dirname "$0")/lib/tap.sh"

@@ -1,4 +1,4 @@
-"""For c_source.py: translates the expressions of functions of the library for C, and the names in them."""
+"""For c_source.py, which translates statements and `match`: translates other expressions, and the names in them."""
 
 import re
 from collections.abc import Callable

@@ -1,6 +1,6 @@
 # shellcheck shell=bash
-# For cmake.t and release.t, after tap.sh: builds the library for C by CMake, and tests what is installed: files,
-# exports of the shared library, flags.
+# For cmake.t and release.t, after tap.sh: builds the library for C by CMake, and tests what is installed: files, man
+# pages, exports of the shared library, flags.
 # shellcheck disable=SC2034,SC2154 # what others use, or have set
 # shellcheck source=checks/lib/c.sh
 . checks/lib/c.sh

@@ -1,6 +1,6 @@
-/* Models: functions that compute the result of each call from docs/FORMAT.md, independently of the library. The checks
- * compare each field, whose order is part of the ABI, and each byte of a buffer. What was decoded is encoded to the same bytes, and what was encoded is
- * decoded again. */
+/* Models: functions that compute the result of each call from docs/FORMAT.md, independently of the library. The checks,
+ * which the other tests call, compare each field, whose order is part of the ABI, and each byte of a buffer. What was
+ * decoded is encoded to the same bytes, and what was encoded is decoded again. */
 #include "check.h"
 
 /* The value of each byte that a call must not write. */

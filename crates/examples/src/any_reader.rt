@@ -1,5 +1,5 @@
 //! Callers over any reader, which conclude how often it failed and what it has left.
-ghost use Rattle.std.specs.Prelude.{◌≡◌, ◌<◌, ◌≤◌, ◌⊎◌, List, length, map, vec_capacity, IfOk, IfErr, IsOk};
+ghost use Rattle.std.specs.Prelude.{◌≡◌, ◌<◌, ◌≤◌, ◌⊎◌, List, length, map, IfOk, IfErr};
 ghost use Rattle.std.specs.Io.KnownBytes.{IsAtEnd};
 ghost use Rattle.multihash.specs.Pair.{Pair};
 ghost use Rattle.multihash.specs.Refusal.{IsOutOfMemory};
@@ -7,28 +7,8 @@ ghost use Rattle.multihash.specs.Streams.{ConsumesPairs, StopsAfterPairs};
 ghost use Rattle.multihash.specs.Multihash.{pair_of};
 
 use multihash::no_std_io::Read;
-use multihash::{Error, Multihash, list};
+use multihash::{Error, Multihash};
 use std::alloc::Global;
-
-/// Reads that many multihashes, into a vector without spare capacity.
-///
-/// # Errors
-///
-/// Those of [`list::read_list`]; none for a `count` of 0.
-pub fn read_tight<const S: usize, R: Read>(
-    alloc: Global,
-    r: &mut R,
-    count: usize,
-) -> Result<Vec<Multihash<S>>, Error>
-    ensures ok { IfOk result (λ list. (length list.items ≡ count) × (vec_capacity list ≡ length list.items)
-        × ConsumesPairs S (map pair_of list.items) (R.rest r.old) (R.rest r.new)) }
-    ensures none { count ≡ 0 → IsOk result }
-    ensures err { IfErr result (λ e.
-        (IsOutOfMemory e × (R.failures r.new ≡ R.failures r.old) × (R.rest r.new ≡ R.rest r.old))
-        ⊎ StopsAfterPairs S count e (R.failures r.old) (R.failures r.new) (R.rest r.old) (R.rest r.new)) }
-{
-    list::read_list(alloc, r, count)
-}
 
 /// Reads multihashes until the input has ended, but no more than `limit`.
 ///

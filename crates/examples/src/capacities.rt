@@ -1,29 +1,9 @@
 //! Digests in buffers of a given capacity.
-ghost use Rattle.std.specs.Prelude.{◌≡◌, ◌<◌, ◌≤◌, ◌⊎◌, ◌++◌, ◌-◌, ◌^◌, length, min, take, replicate, MatchResult, IfOk, IsTrue};
-ghost use Rattle.multihash.specs.Varint.{varint_limit};
+ghost use Rattle.std.specs.Prelude.{◌≡◌, ◌<◌, ◌++◌, ◌-◌, ◌^◌, length, min, take, replicate, IfOk, IsTrue};
 ghost use Rattle.multihash.specs.Pair.{truncated};
-ghost use Rattle.multihash.specs.Refusal.{IsInvalidSize, IsInvalidCode};
 ghost use Rattle.multihash.specs.Multihash.{pair_of};
 
 use multihash::{Error, Multihash};
-
-/// Returns the multihash of a digest of at most 32 bytes. A code is rejected only if the digest is not.
-pub fn of_parts(code: u64, digest: &[u8]) -> Result<Multihash<32>, Error>
-    ensures { MatchResult result (λ m. pair_of m ≡ record { code = code; digest = digest.now })
-        (λ e. (IsInvalidSize (length digest.now) e × (32 < length digest.now))
-        ⊎ (IsInvalidCode code e × (length digest.now ≤ 32) × (varint_limit ≤ code))) }
-{
-    Multihash::wrap(code, digest)
-}
-
-/// Returns the multihash with 32 bytes for the digest, if it has no more.
-pub fn in_32<const S: usize>(multihash: &Multihash<S>) -> Result<Multihash<32>, Error>
-    ensures { MatchResult result (λ m. pair_of m ≡ pair_of multihash.now) (λ e.
-        IsInvalidSize (length (pair_of multihash.now).digest) e
-        × (32 < length (pair_of multihash.now).digest)) }
-{
-    multihash.resize()
-}
 
 /// Returns the code, the first 20 bytes of the digest, with zeros after a shorter one, and their number
 /// without the zeros.

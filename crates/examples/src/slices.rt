@@ -1,6 +1,6 @@
-//! Callers that read a slice, or fill a slice or a vector, and whose contracts state its bytes.
-ghost use Rattle.std.specs.Prelude.{◌≡◌, ◌<◌, ◌≤◌, ◌+◌, ◌↔◌, ℕ, List, ◌++◌, length, take, drop, min, false, Some};
-ghost use Rattle.std.specs.Prelude.{◌-◌, vec_len, vec_capacity, IsOk, IsTrue, IfOk, IfErr, IfSome, IfNone, IsErrAnd, MatchOption};
+//! Callers that read a slice or write to one, and whose contracts state its bytes.
+ghost use Rattle.std.specs.Prelude.{◌≡◌, ◌<◌, ◌≤◌, ◌↔◌, ℕ, List, ◌++◌, length, drop, Some};
+ghost use Rattle.std.specs.Prelude.{◌-◌, IsOk, IfOk, IfErr, IfSome, IfNone, IsErrAnd, MatchOption};
 ghost use Rattle.multihash.specs.Varint.{insufficient, IsVarint, IsInsufficient};
 ghost use Rattle.multihash.specs.Pair.{digest_limit};
 ghost use Rattle.multihash.specs.Encoding.{IsEncoding};
@@ -10,7 +10,7 @@ ghost use Rattle.multihash.specs.Consuming.{ConsumesAtError, ConsumesShortestSet
 ghost use Rattle.multihash.specs.Outcome.{IsResultOf};
 ghost use Rattle.multihash.specs.Multihash.{pair_of};
 
-use multihash::no_std_io::{Read, SliceWriter, Write};
+use multihash::no_std_io::SliceWriter;
 use multihash::{Error, Multihash, varint};
 
 /// Returns the result of `read` for a slice, and what it leaves. If the digest is too long for the capacity,
@@ -30,37 +30,6 @@ pub fn read_slice<const S: usize>(stream: &[u8]) -> (Result<Multihash<S>, Error>
     let mut left = stream;
     let outcome = Multihash::read(&mut left);
     (outcome, left)
-}
-
-/// Fills the buffer with the first bytes. Returns whether there are as many, and what follows them; if not,
-/// the buffer is unchanged, and all bytes follow.
-pub fn fill<'a>(bytes: &'a [u8], buffer: &mut [u8]) -> (bool, &'a [u8])
-    ensures enough { IsTrue result.0 ↔ (length buffer.old ≤ length bytes.now) }
-    ensures filled { IsTrue result.0 → buffer.new ++ result.1.now ≡ bytes.now }
-    ensures unchanged { result.0 ≡ false → (buffer.new ≡ buffer.old) × (result.1.now ≡ bytes.now) }
-{
-    let mut left = bytes;
-    let enough = left.read_exact(buffer).is_ok();
-    (enough, left)
-}
-
-/// Copies as many bytes as the buffer has, to its front. Returns their number.
-pub fn copy(bytes: &[u8], buffer: &mut [u8]) -> usize
-    ensures count { result ≡ min (length bytes.now) (length buffer.old) }
-    ensures copied { buffer.new ≡ take result bytes.now ++ drop result buffer.old }
-{
-    let mut left = bytes;
-    left.read(buffer).unwrap()
-}
-
-/// Appends the bytes. Returns whether there was memory, as there is if the capacity suffices; if not, the
-/// vector is unchanged.
-pub fn append(bytes: &[u8], list: &mut Vec<u8>) -> bool
-    ensures appended { IsTrue result → list.new.items ≡ list.old.items ++ bytes.now }
-    ensures unchanged { result ≡ false → list.new.items ≡ list.old.items }
-    ensures room { vec_len list.old + length bytes.now ≤ vec_capacity list.old → IsTrue result }
-{
-    list.write_all(bytes).is_ok()
 }
 
 /// Returns the number at the front of a buffer, and what follows its varint, or `None` if more bytes have to be

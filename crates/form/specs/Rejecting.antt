@@ -105,6 +105,11 @@ abbrev pub ReadStops : {A : Type 0} → (A → List ℕ → Type 0) → (FormErr
 ReadStops IsForm Rejects before after e old new =
     IsFailed IsOutOfMemory e ⊎ IfSome old (λ input. StopsAt IsForm Rejects (before < after) e input new)
 
+-- the error of reading a value at the front of the input
+abbrev pub IsReadError : {A : Type 0} → (A → List ℕ → Type 0) → (FormError → List ℕ → Type 0) → FormError
+    → List ℕ → Type 0
+IsReadError IsForm Rejects e input = (left : Option (List ℕ)) × ReadStops IsForm Rejects 0 0 e (Some input) left
+
 -- The input shows `e`; or it is truncated; or an encoding that has bytes after it is at its front.
 -- The error of reading a value that is the whole of the input: out of memory, or one of these
 abbrev pub IsWholeError : {A : Type 0} → (A → List ℕ → Type 0) → (FormError → List ℕ → Type 0) → FormError

@@ -1,9 +1,10 @@
 //! Values that fill an input, one after another.
-ghost use Rattle.std.specs.Prelude.{List, MatchResult, IfOk};
+ghost use Rattle.std.specs.Prelude.{◌≡◌, ◌++◌, ℕ, List, MatchResult, IfOk, IfErr};
 ghost use Rattle.multihash.specs.Streams.{AreParts};
 ghost use Rattle.multihash.specs.Refusal.{IsOutOfMemory};
 ghost use Rattle.form.specs.Form.{AreSame};
 ghost use Rattle.form.specs.FormError.{IsFailed};
+ghost use Rattle.form.specs.Rejecting.{IsReadError};
 
 use crate::{Form, FormError, read_front};
 use std::alloc::Global;
@@ -17,6 +18,9 @@ pub fn all_from_bytes<T: Form + Drop>(alloc: Global, bytes: &[u8]) -> Result<Vec
     ensures ok { IfOk result (λ list. AreParts T.is_form list.items bytes.now) }
     ensures found { (xs : List T) → AreParts T.is_form xs bytes.now →
         MatchResult result (λ list. AreSame T.same list.items xs) (IsFailed IsOutOfMemory) }
+    ensures err { IfErr result (λ e. (xs : List T) × (front : List ℕ) × (rest : List ℕ)
+        × AreParts T.is_form xs front × (bytes.now ≡ front ++ rest)
+        × IsReadError T.is_form T.rejects e rest) }
 {
     let mut items = Vec::new(alloc);
     let mut rest = bytes;

@@ -5,7 +5,7 @@ ghost use Rattle.multihash.specs.Consuming.{ConsumesSome};
 ghost use Rattle.multihash.specs.Reading.{CountsReaderFailures};
 ghost use Rattle.multihash.specs.Refusal.{IsOutOfMemory, IsReaderError};
 ghost use Rattle.form.specs.FormError.{IsFailed, IsTruncated};
-ghost use Rattle.form.specs.Rejecting.{ReadStops, IsWholeError};
+ghost use Rattle.form.specs.Rejecting.{ReadStops, IsReadError, IsWholeError};
 ghost use Rattle.form.specs.declared.error.FormError.TheVariants.{Trailing};
 
 use crate::{ByteCount, Form, FormError};
@@ -80,6 +80,7 @@ pub fn read_front<T: Form>(alloc: Global, bytes: &[u8]) -> Result<(T, &[u8]), Fo
         IsErrAnd result (λ e. IsFailed IsTruncated e ⊎ IsFailed IsOutOfMemory e) }
     ensures rejected { (e : FormError) (front more : List ℕ) → T.rejects e front → bytes.now ≡ front ++ more →
         IsErrAnd result (λ f. (f ≡ e) ⊎ IsFailed IsOutOfMemory f) }
+    ensures err { IfErr result (λ e. IsReadError T.is_form T.rejects e bytes.now) }
 {
     let mut rest = bytes;
     let value = read::<T, &[u8]>(alloc, &mut rest)?;

@@ -5,12 +5,12 @@ use crate::expect::{check, check_eq, expect_ok};
 use examples::std_reader::StdReader;
 use examples::{formats, loops};
 use fakes::{Cuts, FailAt};
-use form::{FormError, OneOf};
+use form::{FormError, OneOf, Stream, all_from_bytes};
 use multihash::Multihash;
 use multihash::no_std_io::Read;
 use std::process::Abort;
-use storage::content::{UnknownCode, is_damaged, verify};
-use storage::log::valid_prefix;
+use storage::content::{UnknownCode, hash_of, is_damaged, verify};
+use storage::log::{hash_next, valid_prefix, write_entry};
 
 // The identifier of `aaaa` as raw bytes, with its SHA-256 from another implementation.
 const IDENTIFIER: [u8; 36] = [
@@ -41,7 +41,8 @@ fn expect_std(rt: &impl Abort, bytes: &[u8], most: usize, at: usize)
     let mut buffer = [0u8; 200];
     let mut filled = 0usize;
     let mut failed = 0usize;
-    for _ in 0..200 {
+    // It asks for 64 bytes. One call fails, and one finds the end.
+    for _ in 0..(bytes.len() / most.min(64)).saturating_add(3) {
         match reader.read(buffer.get_mut(filled..).unwrap_or(&mut [])) {
             Ok(0) => break,
             Ok(n) => filled = filled.saturating_add(n),
@@ -87,6 +88,11 @@ const LOG: [u8; 73] = [
 #[test]
 fn a_known_log_is_valid(rt: HostRuntime) {
     check_eq!(&rt; valid_prefix(&LOG), LOG.as_slice());
+    let mut log = Vec::new(rt.alloc());
+    expect_ok!(&rt; write_entry(&hash_of::<32>(b"one"), b"one", &mut log));
+    check_eq!(&rt; log.as_slice(), &LOG[..38]);
+    let hash = expect_ok!(&rt; hash_next(rt.alloc(), &mut &LOG[34..], usize::MAX));
+    check_eq!(&rt; hash, Multihash::from_bytes(&LOG[..34]).ok());
 }
 
 #[test]
@@ -131,4 +137,7 @@ fn numbers_of_entries_are_read(rt: HostRuntime) {
     log[41..].copy_from_slice(&LOG[38..]);
     let numbers = expect_ok!(&rt; formats::entry_numbers(rt.alloc(), &log));
     check!(&rt; matches!(numbers.as_slice(), [300, 6]));
+    let mut list = expect_ok!(&rt; all_from_bytes::<formats::LogEntry>(rt.alloc(), &log));
+    let mut stream = Stream::new(log.as_slice());
+    expect_ok!(&rt; formats::read_entries(rt.alloc(), &mut stream, usize::MAX, &mut list));
 }

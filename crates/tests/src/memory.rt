@@ -45,7 +45,7 @@ fn expect_each_kept<const S: usize>(rt: &impl Abort, alloc: Global)
 fn each_length_is_kept(rt: HostRuntime) {
     expect_each_kept::<0>(&rt, rt.alloc());
     expect_each_kept::<33>(&rt, rt.alloc());
-    expect_each_kept::<127>(&rt, rt.alloc());
+    expect_each_kept::<255>(&rt, rt.alloc());
 }
 
 const FAILED: &str = "an allocation failed";

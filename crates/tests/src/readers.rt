@@ -5,6 +5,7 @@ ghost use Rattle.std.specs.Prelude.{◌<◌, ◌^◌};
 use crate::expect::{check, check_eq, expect_ok, is_passed_on};
 use crate::samples::{Calls, Form, Sample, long_list, samples};
 use fakes::{Counts, CountsWrites, Cuts, FailAt, OUT_OF_MEMORY, Silent};
+use form::{Block, Stream};
 use multihash::Multihash;
 use multihash::list::{read_list, write_list};
 use multihash::no_std_io::{self, Read};
@@ -120,6 +121,23 @@ fn nothing_is_read_after_the_end(rt: HostRuntime) {
     let mut reader = FailAt::new(Cuts::new(&[1, 2, 3], 2), 600, "link down");
     check!(&rt; reader.read_exact(&mut [0; 4]).is_err());
     check_eq!(&rt; reader.asked, 3);
+}
+
+// A value, and then the end, which one call finds. A block is read by one call.
+#[test]
+fn the_end_is_read_once(rt: HostRuntime) {
+    let alloc = rt.alloc();
+    let rt = &rt;
+    let (mut reader, mut frames) = (Counts::new(&[0, 0]), Counts::new(&[3, 7, 7, 7]));
+    let mut stream = Stream::new(Counts::new(&[3, 7, 7, 7]));
+    for _ in 0..2 {
+        let _m = expect_ok!(rt; Multihash::<4>::read_next(&mut reader));
+        let _block = expect_ok!(rt; frame::read_next(alloc, &mut frames, usize::MAX));
+        let _value = expect_ok!(rt; stream.read_next::<Block<3>>(alloc));
+    }
+    check_eq!(rt; reader.asked(), (3, 0, 1));
+    check_eq!(rt; frames.asked(), (2, 0, 1));
+    check_eq!(rt; stream.inner.asked(), (2, 1, 0));
 }
 
 fn borrowed_read<R: Read>(r: &mut R, buf: &mut [u8]) -> Result<usize, no_std_io::Error> {

@@ -23,6 +23,10 @@ fn known_values_are_shown(rt: HostRuntime) {
     let lines = expect_ok!(rt; format!(in alloc; "{:#?}", cut.truncate(1)));
     let wanted = "Multihash {\n    code: 18,\n    size: 1,\n    digest: [\n        102,\n    ],\n}";
     check_eq!(rt; lines.as_str(), wanted);
+    let long = expect_ok!(rt; Multihash::<64>::wrap(18, &[65; 64]));
+    let digest = expect_ok!(rt; format!(in alloc; "size: 64, digest: {:?} }}", [65; 64]));
+    let shown = expect_ok!(rt; format!(in alloc; "{long:?}"));
+    check!(rt; shown.ends_with(digest.as_str()));
     let head = expect_ok!(rt; Head::read_front(&[18, 3, 7]));
     let wanted = "Head { code: 18, digest_len: 3, digest_offset: 2 }";
     expect_shown(rt, alloc, &head, wanted);

@@ -69,6 +69,13 @@ fn a_borrowed_writer_is_called_once(rt: HostRuntime) {
     }
 }
 
+#[test]
+fn a_frame_is_two_writes(rt: HostRuntime) {
+    let mut writer = CountsWrites::new(rt.alloc());
+    check!(&rt; frame::write(&[7; 300], &mut writer).is_ok());
+    check_eq!(&rt; (writer.parts, writer.whole), (0, 2));
+}
+
 // A writer that is full, or fails, after that many bytes.
 fn failing_writer<const A: bool>(
     rt: &impl Abort,

@@ -8,9 +8,7 @@ use serde_json::Value;
 // A macro, since a test is no value.
 macro_rules! put_tests {
     ($page:expr, $e:expr; $($test:ident)+) => {
-        for (name, applies) in &[$((concat!(" ", stringify!($test)), $e.$test())),+] {
-            $page.put(if *applies { *name } else { "" });
-        }
+        { $($page.put(if $e.$test() { concat!(" ", stringify!($test)) } else { "" });)+ }
     };
 }
 
@@ -32,6 +30,23 @@ fn print_error<T: Drop>(page: &mut Page, call: &str, outcome: Result<T, Error>) 
 
 macro_rules! errors {
     ($page:expr; $($call:expr => $outcome:expr),+ $(,)?) => { { $(print_error($page, $call, $outcome);)+ } };
+}
+
+/// The name of the kind of an error that an input has, as in the lists.
+pub fn kind_of(e: &Error) -> &'static str {
+    if e.is_insufficient() {
+        "insufficient"
+    } else if e.is_overflow() {
+        "overflow"
+    } else if e.is_not_minimal() {
+        "not_minimal"
+    } else if e.invalid_code().is_some() {
+        "invalid_code"
+    } else if e.invalid_size().is_some() {
+        "invalid_size"
+    } else {
+        "unexpected_eof"
+    }
 }
 
 type Mh = Multihash<0>;

@@ -2,6 +2,7 @@
 //! the same result, and so has what a multihash is made to; a result that differs is printed after the others.
 ghost use Rattle.std.specs.Prelude.{◌<◌, ◌^◌};
 
+use crate::errors::kind_of;
 use crate::page::Page;
 use crate::values::compared;
 use fakes::Cuts;
@@ -54,22 +55,6 @@ fn put_hex(page: &mut Page, bytes: &[u8]) {
     page.put(if bytes.is_empty() { "-" } else { "" });
     for byte in bytes {
         page.put(format_args!("{byte:02x}"));
-    }
-}
-
-fn kind_of(e: &Error) -> &'static str {
-    if e.is_insufficient() {
-        "insufficient"
-    } else if e.is_overflow() {
-        "overflow"
-    } else if e.is_not_minimal() {
-        "not_minimal"
-    } else if e.invalid_code().is_some() {
-        "invalid_code"
-    } else if e.invalid_size().is_some() {
-        "invalid_size"
-    } else {
-        "unexpected_eof"
     }
 }
 
