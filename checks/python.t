@@ -92,15 +92,20 @@ under_sanitizers() {
     ASAN_OPTIONS=detect_leaks=0:allocator_may_return_null=1 PYTHONMALLOC=malloc
 }
 
-# A folder that was installed before is installed as it is now, also if a file is older than its build.
+# A folder that was installed before is installed as it is now, also if a file is older than its build. Without PKG-INFO
+# it is that of a clone, and takes the library for C from the folders above it.
 built_before() {
-  local source=$work/sdist/src
-  installs "$work/sdist"
-  echo 'later = "Later."' >> "$source/verified_multihash/__init__.py"
-  sed -i 's/The library for C/Later/' "$source/core.c"
-  touch -d @315532800 "$source"/{core.c,verified_multihash/__init__.py}
-  imports "$work/sdist"
-  "$python" -c 'from verified_multihash import _core, later; assert _core.__doc__ == later'
+  local folder=$work/above/folder/sdist
+  cp -r --parents LICENSE bindings/c crates/{mh_show/rows.tsv,vectors/data} "$work/above"
+  sed -i 's/"ok"/"Later."/' "$work/above/bindings/c/src/multihash.c"
+  echo 'later = "Later."' >> "$folder/src/verified_multihash/__init__.py"
+  sed -i 's/The library for C/Later/' "$folder/src/core.c"
+  touch -d @315532800 "$folder"/src/{core.c,verified_multihash/__init__.py}
+  imports "$folder"
+  "$python" -c 'from verified_multihash import _core, later; assert _core.__doc__ == later != _core.status_text(0)'
+  rm "$folder/PKG-INFO"
+  imports "$folder"
+  "$python" -c 'from verified_multihash import _core, later; assert _core.status_text(0) == later'
 }
 
 # The package is typed, and the module has the names of its stub. mypy accepts typed.py and the examples of README.md,

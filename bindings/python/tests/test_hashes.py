@@ -108,7 +108,6 @@ class Hashes(unittest.TestCase):
             self.assertRaises(ValueError, hashes.digest, b"abc", name)
         for wrong in (None, 0x12, ("sha1", "md5"), bytearray()):
             self.assertRaises(TypeError, hashes.digest, b"abc", wrong)
-        self.assertRaises(MultihashError, hashes.digest, bytes(256), "identity")
         hasher = hashes.Hasher("identity")
         hasher.update(bytes(255))
         self.assertRaises(MultihashError, hasher.update, b"a")
@@ -118,6 +117,5 @@ class Hashes(unittest.TestCase):
             for wrong in ("abc", 3, None, [1]):
                 text = "^d[a-z]+ .* %s$" % type(wrong).__name__
                 self.assertRaisesRegex(TypeError, text, hashes.digest, wrong, name)
-        self.assertRaisesRegex(TypeError, "binary", hashes.digest_file, io.StringIO("abc"), "sha1")
         for wrong in (("0000", io.BytesIO()), (b"\0\0", "path")):
             self.assertRaises(TypeError, hashes.verify_file, *wrong)

@@ -129,6 +129,15 @@ class Module(unittest.TestCase):
             own = [it.replace(annotation=it.empty) for it in inspect.signature(call).parameters.values()]
             self.assertEqual(wanted, ", ".join(str(it) for it in own if it.name != "self"))
 
+    def test_replacements(self):
+        """What README.md has in place of the calls of other packages."""
+        m = hashes.digest(b"abc", "sha2-256")
+        names = {**vars(vm), "m": m, "digest": m.digest, "content": b"abc", "data": bytes(m), "text": m.hex()}
+        rows = re.search(r"^\| There .*\n.*((?:\n\|.*)+)", README.read_text("utf-8"), re.M)[1]
+        found = [eval(", ".join(re.findall("`(.*?)`", row.split(" | ")[1])), names) for row in rows.split("\n")[1:]]
+        short = Multihash(18, m.digest[:20])
+        self.assertEqual(found, [bytes(m), m, True, "sha2-256", 32, short, (m.hex(), bytes(m)), m, b"\x12 "])
+
     def test_examples(self):
         text = "\n".join("" if line.startswith("```") else line for line in README.read_text("utf-8").splitlines())
         test = doctest.DocTestParser().get_doctest(text, {}, "README.md", str(README), 0)
