@@ -19,13 +19,13 @@ installs() {
 }
 
 # By a generator of several configurations, under a name for debugging, by a compiler whose default is C90, with the
-# sources of each target as one unit.
+# sources of each target as one unit. It is installed below the configured prefix.
 debug_build() {
   cmake -S "$top" -B "$work/debug" -G "Ninja Multi-Config" -DCMAKE_C_STANDARD=90 -DCMAKE_DEBUG_POSTFIX=d \
-    -DCMAKE_UNITY_BUILD=ON -DCMAKE_INSTALL_PREFIX="$work/debug.prefix"
+    -DCMAKE_UNITY_BUILD=ON -DCMAKE_INSTALL_PREFIX="$work"
   cmake --build "$work/debug" --config Debug
   prints '100% tests passed, 0 tests failed out of ' ctest -C Debug --test-dir "$work/debug"
-  cmake --install "$work/debug" --config Debug
+  cmake --install "$work/debug" --config Debug --prefix "$work/debug.prefix"
   [ -e "$work/debug.prefix/lib/libmultihash_cd.a" ]
   PKG_CONFIG_PATH=$work/debug.prefix/lib/pkgconfig LD_LIBRARY_PATH=$work/debug.prefix/lib \
     "$work/debug.prefix/$document/examples/test.sh"

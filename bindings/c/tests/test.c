@@ -122,6 +122,7 @@ static void check_messages(void)
     rewind(file);
     CHECK(fgets(message, sizeof message, file) != NULL && strcmp(message, "the input is empty\n") == 0);
     fclose(file);
+    CHECK(multihash_print_message(stdin, ok, 0, any) == fprintf(stdin, "the input is empty\n"));
     check_message_is(multihash_scale_message(message, sizeof message, scale_ok, sizeof scale_ok), "ok");
 }
 
