@@ -4,7 +4,6 @@
 pub mod any_reader;
 pub mod capacities;
 pub mod code_table;
-pub mod formats;
 pub mod forms;
 pub mod loops;
 pub mod peer_id;

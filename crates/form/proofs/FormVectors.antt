@@ -1,5 +1,5 @@
 -- What the definitions exclude.
-use Rattle.std.proofs.Common.{◌≡◌, ℕ, List, [], ◌∷◌, ◌++◌, length, length-append, Some, inl, inr, refl, sym, ap, subst, ◌∙◌, arith}
+use Rattle.std.proofs.Common.{◌≡◌, ℕ, List, [], ◌∷◌, ◌++◌, length, length-append, Option, Some, inl, inr, refl, sym, ap, subst, ◌∙◌, arith}
 use Rattle.std.specs.Prelude.{⊤, codes}
 use Rattle.std.specs.Fmt.{digits}
 use Rattle.multihash.specs.Refusal.{of_varint, of_size}
@@ -11,7 +11,7 @@ use Rattle.form.specs.ByteCount.{HasCounted}
 use Rattle.form.specs.Form.{Then, AreSame}
 use Rattle.form.specs.FormError.{IsFailed, IsTruncated, IsErrorOfFrame, form_error_text}
 use Rattle.form.specs.OneOf.{AreSameCase}
-use Rattle.form.specs.Rejecting.{IsShortest, ShowsMalformed, ShowsError, IsUndecided, StopsAt, ReadStops, IsWholeError}
+use Rattle.form.specs.Rejecting.{IsShortest, ShowsMalformed, ShowsError, IsUndecided, StopsAt, ReadStops, IsReadError, IsWholeError}
 use Rattle.form.specs.Stream.{rest_from, AppendsValues, AppendsUpTo, AppendsThenStops}
 use Rattle.multihash.specs.Streams.{AreParts}
 use Rattle.form.specs.declared.byte_count.ByteCount.{ByteCount}
@@ -147,19 +147,23 @@ one_too_many r = elim r.number [
 nothing_to_read : (e : FormError) → ¬ (AppendsThenStops IsByte (λ f b. ⊥) 0 [] [] 0 0 (Some []) (Some []) e)
 nothing_to_read e r = omega (arith, r.fewer)
 
--- nothing explains the error
+-- no byte shows the error, and a slice does not fail
+no_cause : (left : Option (List ℕ)) → ¬ (ReadStops IsByte (λ f b. ⊥) 0 0 (TooMany 7) (Some []) left)
+no_cause left (inl memory) = too_many_is_not_failed 7 (memory.0, memory.1, tt)
+no_cause left (inr s) = elim s.cause [
+  | inl rejects ↦ rejects
+  | inr (inl (failed, _)) ↦ omega (arith, failed)
+  | inr (inr (ends, _)) ↦ too_many_is_not_failed 7 (ends.0, ends.1, tt)
+]
+
+no_read_error : ¬ (IsReadError IsByte (λ f b. ⊥) (TooMany 7) [])
+no_read_error (left, stops) = no_cause left stops
+
 no_reason : ¬ (AppendsThenStops IsByte (λ f b. ⊥) 1 [] [] 0 0 (Some []) (Some []) (TooMany 7))
 no_reason r =
     let (c, _, consumes) = r.reads.consumed in
     let (left, is_left, _) = Consumes-known [] c r.following consumes in
-    elim (subst (λ o. ReadStops IsByte (λ f b. ⊥) 0 0 (TooMany 7) o (Some [])) is_left r.failed) [
-      | inl memory ↦ too_many_is_not_failed 7 (memory.0, memory.1, tt)
-      | inr s ↦ elim s.cause [
-        | inl rejects ↦ rejects
-        | inr (inl (failed, _)) ↦ omega (arith, failed)
-        | inr (inr (ends, _)) ↦ too_many_is_not_failed 7 (ends.0, ends.1, tt)
-      ]
-    ]
+    no_cause (Some []) (subst (λ o. ReadStops IsByte (λ f b. ⊥) 0 0 (TooMany 7) o (Some [])) is_left r.failed)
 
 -- a writer whose count is 2 has counted two bytes, and no other number
 counts_two : (w : ByteCount) → w.count ≡ 2 → HasCounted w 2 × ((n : ℕ) → HasCounted w n → n ≡ 2)

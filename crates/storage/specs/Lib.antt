@@ -1,2 +1,3 @@
 pub mod Content
+pub mod Formats
 pub mod Log

@@ -1,5 +1,6 @@
-//! Callers that hash and keep content.
+//! Callers that hash and keep content, and formats that name content.
 #![tactic(auto)]
 
 pub mod content;
+pub mod formats;
 pub mod log;

@@ -3,13 +3,14 @@ ghost use Rattle.std.specs.Prelude.{◌<◌};
 
 use crate::expect::{check, check_eq, expect_ok};
 use examples::std_reader::StdReader;
-use examples::{formats, loops};
+use examples::loops;
 use fakes::{Cuts, FailAt};
 use form::{FormError, OneOf, Stream, all_from_bytes};
 use multihash::Multihash;
 use multihash::no_std_io::Read;
 use std::process::Abort;
 use storage::content::{UnknownCode, hash_of, is_damaged, verify};
+use storage::formats;
 use storage::log::{hash_next, valid_prefix, write_entry};
 
 // The identifier of `aaaa` as raw bytes, with its SHA-256 from another implementation.

@@ -9,7 +9,7 @@ ghost use Rattle.form.specs.FormError.{IsFailed, IsTruncated};
 ghost use Rattle.form.specs.Rejecting.{ReadStops};
 ghost use Rattle.form.specs.Stream.{rest_from, AppendsUpTo, AppendsSame};
 ghost use Rattle.form.specs.declared.error.FormError.TheVariants.{Trailing};
-ghost use Rattle.examples.specs.Formats.{IsNode};
+ghost use Rattle.storage.specs.Formats.{IsNode};
 
 use form::{Block, Both, Bytes, Counted, Form, FormError, Number, OneOf, Stream, Tag};
 use multihash::Multihash;
