@@ -1,5 +1,5 @@
 #!/usr/bin/env python3
-"""Makes each allocation fail in turn, in the tests and in mh_show.
+"""Makes each allocation fail in turn, in crates/tests and mh_show, as memory.rs and test_memory.py do in packages.
 
 It runs each by itself while its Nth allocation fails, N counted upwards until it makes fewer. A test in which one
 failed, and that found all as it should be, fails with FAILED; mh_show has to print that it is out of memory, and

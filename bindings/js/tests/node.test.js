@@ -1,5 +1,5 @@
-// The tests in Node.js: all of index.js, and of the other entries how they load. MULTIHASH_VERDICTS names the test
-// vectors, if not those of the repository.
+// The tests in Node.js: those of suite.js, how each entry loads, streams of Node.js, large content. MULTIHASH_VERDICTS
+// names the test vectors, if not those of the repository.
 import { createReadStream, readFileSync } from 'node:fs';
 import { dirname, join } from 'node:path';
 import { Readable } from 'node:stream';
@@ -132,7 +132,7 @@ async function nodeStreams(module) {
   await endedAnywhere(module, readable, () => new Promise(process.nextTick));
 }
 
-/** Calls that fail before they read a stream destroy it. An error of it before the first read is thrown by that. */
+/** Calls that fail before they read a stream destroy it. They throw an error of it, also one before the first read. */
 async function unreadStreams({ Multihash, MultihashReader, hashers, sha256, verify }) {
   const claim = await sha256.digest(Uint8Array.of(1));
   const calls = [
@@ -155,8 +155,12 @@ async function unreadStreams({ Multihash, MultihashReader, hashers, sha256, veri
   await closed(early);
   same(early.listenerCount('error'), 2, 'listeners');
   says(await told(reader.read()), 'Error ENOENT', 'an error before the first read');
-  for (const call of [sha256.digest, (content) => verify(claim, content)])
-    says(await told(call(createReadStream('missing'))), 'Error ENOENT', 'an error while it is read');
+  const broken = async function* () {
+    yield Uint8Array.of(1);
+    throw new Error('broken');
+  };
+  for (const call of [sha256.digest, (content) => verify(claim, content), (from) => new MultihashReader(from).read()])
+    says(await told(call(Readable.from(broken()))), 'Error broken', 'an error in the middle');
 }
 
 /** The names and numbers that *.d.ts state, the version of package.json, and the entries that connect. */

@@ -1,4 +1,4 @@
--- Two parts, one after the other, of which one was not read: for `read` of `Both`, `Counted`, `OneOf`, `Tag` and `Block`.
+-- Two parts, one after the other, of which one was not read: for `read` of the parts, and for `Stream`.
 use Rattle.std.proofs.Common.{◌≡◌, ℕ, zero, suc, ◌<◌, inl, inr, List, [], ◌∷◌, ◌++◌, length, length-append, Option, Some, refl, sym, ap, subst, ◌∙◌, append_assoc, append-nil, arith}
 use Rattle.std.specs.Prelude.{None, IfSome}
 use Rattle.std.specs.Io.KnownBytes.{prepend_known}

@@ -1,5 +1,5 @@
--- For `read_within`, `head_of` and `decode_whole`: what they return if two varints are at the front of the input, and
--- if a varint is malformed.
+-- For the functions of `decode.rt` over the binary encoding: what they return if two varints are at the front of the
+-- input, and if a varint is malformed; what the first bytes of an input determine.
 use Rattle.std.proofs.Common.{◌≡◌, ◌<◌, ◌≤◌, ◌+◌, ◌*◌, ◌-◌, ◌⊎◌, ℕ, zero, suc, List, [], ◌++◌, Some, length, take, drop, refl, sym, ap, ◌∙◌, subst, inl, inr, arith, append_assoc, append-nil, take-append-drop, length-append, length-drop}
 use Rattle.std.proofs.lemmas.Bool.{cases_lt}
 use Rattle.std.proofs.lemmas.List.{drop-drop, length-take-le, take_all, drop-append-le, nil_from_length}
