@@ -148,22 +148,22 @@ nothing_to_read : (e : FormError) → ¬ (AppendsThenStops IsByte (λ f b. ⊥) 
 nothing_to_read e r = omega (arith, r.fewer)
 
 -- no byte shows the error, and a slice does not fail
-no_cause : (left : Option (List ℕ)) → ¬ (ReadStops IsByte (λ f b. ⊥) 0 0 (TooMany 7) (Some []) left)
-no_cause left (inl memory) = too_many_is_not_failed 7 (memory.0, memory.1, tt)
-no_cause left (inr s) = elim s.cause [
+no_cause : (input : List ℕ) (left : Option (List ℕ)) → ¬ (ReadStops IsByte (λ f b. ⊥) 0 0 (TooMany 7) (Some input) left)
+no_cause input left (inl memory) = too_many_is_not_failed 7 (memory.0, memory.1, tt)
+no_cause input left (inr s) = elim s.cause [
   | inl rejects ↦ rejects
   | inr (inl (failed, _)) ↦ omega (arith, failed)
   | inr (inr (ends, _)) ↦ too_many_is_not_failed 7 (ends.0, ends.1, tt)
 ]
 
 no_read_error : ¬ (IsReadError IsByte (λ f b. ⊥) (TooMany 7) [])
-no_read_error (left, stops) = no_cause left stops
+no_read_error (left, stops) = no_cause [] left stops
 
 no_reason : ¬ (AppendsThenStops IsByte (λ f b. ⊥) 1 [] [] 0 0 (Some []) (Some []) (TooMany 7))
 no_reason r =
     let (c, _, consumes) = r.reads.consumed in
     let (left, is_left, _) = Consumes-known [] c r.following consumes in
-    no_cause (Some []) (subst (λ o. ReadStops IsByte (λ f b. ⊥) 0 0 (TooMany 7) o (Some [])) is_left r.failed)
+    no_cause left (Some []) (subst (λ o. ReadStops IsByte (λ f b. ⊥) 0 0 (TooMany 7) o (Some [])) is_left r.failed)
 
 -- a writer whose count is 2 has counted two bytes, and no other number
 counts_two : (w : ByteCount) → w.count ≡ 2 → HasCounted w 2 × ((n : ℕ) → HasCounted w n → n ≡ 2)
