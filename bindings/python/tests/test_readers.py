@@ -1,4 +1,4 @@
-"""Readers over files and streams: bytes that come in parts, late, too many or with an error."""
+"""The readers of reader.c and __init__.py, over bytes that come in parts, late, too many or with an error."""
 
 import asyncio
 import functools

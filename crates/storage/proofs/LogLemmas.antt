@@ -1,4 +1,4 @@
--- An entry that comes next, and how reading one fails.
+-- For `log.rt`: an entry that comes next, how reading one fails, and the entries at the front of a log.
 use Rattle.std.proofs.Common.{◌≡◌, ◌≤◌, ℕ, List, ◌++◌, Option, Some, Err, IfSome, length, inl, inr, ap, ◌∙◌, append_assoc, sym, arith}
 use Rattle.std.proofs.lemmas.List.{append_cancel_right}
 use Rattle.std.proofs.lemmas.Bool.{cases_lt}

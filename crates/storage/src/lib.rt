@@ -1,4 +1,5 @@
-//! Callers that hash and keep content, and formats that name content.
+//! Callers that hash and verify content, in `content`, or store blocks with their multihashes, in `log`; and
+//! `formats` that name content.
 #![tactic(auto)]
 
 pub mod content;

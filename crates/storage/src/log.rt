@@ -1,4 +1,5 @@
-//! A log of blocks: each entry is a multihash, the varint of the block's length, and the block.
+//! A log of blocks: each entry is a multihash, the varint of the block's length, and the block. Only
+//! [`valid_prefix`] compares the blocks with their multihashes.
 ghost use Rattle.std.specs.Prelude.{◌≡◌, ◌≤◌, ℕ, List, ◌++◌, Some, length, IfOk, IfErr, OnOk, OnErr, MatchResult};
 ghost use Rattle.std.specs.Prelude.{IfSome, IfNone, IsSomeAnd};
 ghost use Rattle.multihash.specs.Pair.{Pair, FitsBuffer};
