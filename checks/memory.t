@@ -24,7 +24,7 @@ FORMS = (rf"(.*\n)?{re.escape(FAILED)}\n(.*\n)?101", r"(.*\n)?test result: ok\n(
 # how many allocations each test makes
 TESTS = {
     "allocating_forms_at_each_size": 48,
-    "allocating_read_of_lists": 16,
+    "allocating_read_of_lists": 14,
     # 2 for the binary form, 2 for SCALE, 3 for a list
     "allocating_writes": 7,
     "allocating_write_of_a_vector": 2,

@@ -2,12 +2,13 @@
 ghost use Rattle.std.specs.Prelude.{◌<◌};
 
 use crate::expect::{check, check_eq, expect_ok};
-use examples::std_reader::StdReader;
 use examples::loops;
+use examples::std_reader::StdReader;
 use fakes::{Cuts, FailAt};
 use form::{FormError, OneOf, Stream, all_from_bytes};
 use multihash::Multihash;
 use multihash::no_std_io::Read;
+use std::alloc::Global;
 use std::process::Abort;
 use storage::content::{UnknownCode, hash_of, is_damaged, verify};
 use storage::formats;
@@ -106,23 +107,27 @@ fn a_known_content_is_verified(rt: HostRuntime) {
     check!(&rt; is_damaged(&one, b"two") && !is_damaged(&one, b"one") && !is_damaged(&other, b"two"));
 }
 
+// Its digest comes after that many bytes.
+fn expect_identifier(rt: &impl Abort, alloc: Global, bytes: &[u8], at: usize) {
+    let id = expect_ok!(rt; formats::read_identifier(alloc, bytes));
+    let digest = match &id {
+        OneOf::First(case) => case.value.second.digest(),
+        OneOf::Second(case) => case.value.second.bytes.as_slice(),
+    };
+    check_eq!(rt; digest, bytes.get(at..).unwrap_or(&[]));
+    check_eq!(rt; expect_ok!(rt; form::to_bytes(alloc, &id)).as_slice(), bytes);
+    check_eq!(rt; form::encoded_len(&id), bytes.len() as u64);
+    for len in 0..bytes.len() {
+        let outcome = formats::read_identifier(alloc, bytes.get(..len).unwrap_or(&[]));
+        check!(rt; outcome.is_err_and(|e| e.is_incomplete()), len);
+    }
+}
+
 #[test]
 fn known_identifiers_are_read(rt: HostRuntime) {
     let alloc = rt.alloc();
-    let known: [&[u8]; 2] = [&IDENTIFIER, &LOG[..34]];
-    for bytes in known {
-        let id = expect_ok!(&rt; formats::read_identifier(alloc, bytes));
-        check!(&rt; match &id {
-            OneOf::First(case) => case.value.first.value == 0x55 && case.value.second.digest() == &bytes[4..],
-            OneOf::Second(case) => case.value.second.bytes.as_slice() == &bytes[2..],
-        });
-        check_eq!(&rt; expect_ok!(&rt; form::to_bytes(alloc, &id)).as_slice(), bytes);
-        check_eq!(&rt; form::encoded_len(&id), bytes.len() as u64);
-        for len in 0..bytes.len() {
-            let outcome = formats::read_identifier(alloc, &bytes[..len]);
-            check!(&rt; outcome.is_err_and(|e| e.is_incomplete()), len);
-        }
-    }
+    expect_identifier(&rt, alloc, &IDENTIFIER, 4);
+    expect_identifier(&rt, alloc, &LOG[..34], 2);
     let outcome = formats::read_identifier(alloc, &LOG);
     check!(&rt; matches!(outcome, Err(FormError::Trailing(39))));
     let outcome = formats::read_identifier(alloc, &[2]);

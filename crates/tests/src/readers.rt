@@ -45,26 +45,24 @@ fn expect_ends<const S: usize>(rt: &impl Abort, sample: &Sample<S>) {
     }
 }
 
-// Inputs with a size or a code that is rejected, and the calls to read each.
-const REJECTED: [(Form, &[u8], Calls); 5] = [
-    (Form::Binary, &[0, 5, 1, 2, 3], (2, 0, 0)),
-    (Form::Binary, &[0, 128, 0, 1], (3, 0, 0)),
-    (Form::Binary, &[255; 12], (9, 0, 0)),
-    (Form::Scale, &[44, 1, 0, 0, 0, 0, 0, 0, 2, 65], (0, 0, 2)),
-    (Form::Scale, &[255; 9], (0, 0, 1)),
-];
+// An input with a size or a code that is rejected, and the calls that read it.
+fn expect_rejected(rt: &impl Abort, is_scale: bool, input: &[u8], calls: Calls) {
+    let mut reader = Counts::new(input);
+    let is_read = if is_scale {
+        Multihash::<1>::scale_decode(&mut reader).is_ok()
+    } else {
+        Multihash::<1>::read(&mut reader).is_ok()
+    };
+    check_eq!(rt; (is_read, reader.asked()), (false, calls), is_scale);
+}
 
 #[test]
 fn a_rejected_size_or_code_is_the_last_that_is_read(rt: HostRuntime) {
-    for (form, input, calls) in &REJECTED {
-        let mut reader = Counts::new(input);
-        let is_read = match form {
-            Form::Scale => Multihash::<1>::scale_decode(&mut reader).is_ok(),
-            _ => Multihash::<1>::read(&mut reader).is_ok(),
-        };
-        check!(&rt; !is_read, form);
-        check_eq!(&rt; reader.asked(), *calls, form);
-    }
+    expect_rejected(&rt, false, &[0, 5, 1, 2, 3], (2, 0, 0));
+    expect_rejected(&rt, false, &[0, 128, 0, 1], (3, 0, 0));
+    expect_rejected(&rt, false, &[255; 12], (9, 0, 0));
+    expect_rejected(&rt, true, &[44, 1, 0, 0, 0, 0, 0, 0, 2, 65], (0, 0, 2));
+    expect_rejected(&rt, true, &[255; 9], (0, 0, 1));
 }
 
 fn expect_error<const S: usize>(rt: &impl Abort, sample: &Sample<S>, at: usize, why: &'static str) {
@@ -108,8 +106,7 @@ fn expect_each<const S: usize>(rt: &impl Abort, alloc: Global, from: usize)
 
 #[test]
 fn each_length_is_read_or_fails(rt: HostRuntime) {
-    expect_each::<32>(&rt, rt.alloc(), 20);
-    expect_each::<64>(&rt, rt.alloc(), 64);
+    expect_each::<64>(&rt, rt.alloc(), 20);
     expect_each::<255>(&rt, rt.alloc(), 0);
     expect_each::<300>(&rt, rt.alloc(), 255);
     expect_errors(&rt, &expect_ok!(&rt; long_list(rt.alloc())));

@@ -138,10 +138,7 @@ fn expect_each<const S: usize>(rt: &impl Abort, alloc: Global, from: usize)
 #[test]
 fn each_length_is_written_or_fails(rt: HostRuntime) {
     expect_each::<0>(&rt, rt.alloc(), 1);
-    expect_each::<32>(&rt, rt.alloc(), 20);
-    expect_each::<64>(&rt, rt.alloc(), 64);
-    expect_each::<127>(&rt, rt.alloc(), 128);
-    expect_each::<128>(&rt, rt.alloc(), 129);
+    expect_each::<64>(&rt, rt.alloc(), 20);
     expect_each::<255>(&rt, rt.alloc(), 0);
     expect_each::<300>(&rt, rt.alloc(), 255);
     expect_errors(&rt, rt.alloc(), &expect_ok!(&rt; long_list(rt.alloc())));
