@@ -167,10 +167,11 @@ async function givenUp(module, stream) {
       const source = byteStream(stream.subarray(0, 20), undefined, (reason) => (reasons += reason));
       let deliver;
       const chunk = new Promise((resolve) => (deliver = resolve));
-      const iterable = { destroy() {}, [Symbol.asyncIterator]: () => ({ next: () => chunk }) };
+      const iterable = { destroy() {}, [Symbol.asyncIterator]: () => ({ next: () => chunk, return: () => chunk }) };
       const readers = [source, iterable].map((each) => new module.MultihashReader(each));
       const calls = readers.flatMap((reader) => [told(reader.read()), told(reader.read())]);
-      for (const reader of readers) await reader[name]('why');
+      const [end] = readers.map((reader) => reader[name]('why')); // the other one waits for the chunk
+      await end;
       same(`${reasons} ${source.locked}`, `${name === 'release' ? '' : 'why'} false`, 'a stream');
       if (ending === 'null') same(`${await Promise.all(calls)}`, 'null,null,null,null', 'calls end at once');
       deliver({ done: false, value: part });
