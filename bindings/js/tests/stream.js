@@ -217,7 +217,7 @@ async function wrongSources(module, stream) {
       'a chunk that is text');
   const kinds = [[null, 'null'], [3, '3'], ['ab', 'string'], [[stream], 'Array'],
     [new Response(), 'Response body'], [new Blob([]), 'Blob stream'], [new File([], ''), 'File stream'],
-    [new (class Own {})(), 'Own'],
+    [new (class Own {})(), 'Own'], [new (class {})(), 'Object'],
     [{ [Symbol.asyncIterator]: () => null }, 'Object'], [{ [Symbol.asyncIterator]: () => ({}) }, 'Object']];
   for (const [source, kind] of kinds)
     fails(TypeError, () => new module.MultihashReader(source), 'a source', `source a ReadableStream iterable ${kind}`);
