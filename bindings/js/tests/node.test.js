@@ -104,7 +104,8 @@ async function largeContent({ Multihash, identity, sha256, verify }) {
   const larger = new Uint8Array(2 ** 29); // no memory is touched
   const start = process.cpuUsage();
   same(await verify(Multihash.of(0, Uint8Array.of(1)), larger), false, 'verify');
-  says(await told(identity.digest(larger)), 'MultihashError', 'digest');
+  for (const call of [identity.digest, (digest) => verify({ code: 0, digest }, larger)])
+    says(await told(call(larger)), 'MultihashError', 'too long');
   const { user, system } = process.cpuUsage(start);
   same(user + system < 3e5, true, `the time of identity: ${user + system}`);
 }

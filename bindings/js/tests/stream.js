@@ -170,8 +170,7 @@ async function givenUp(module, stream) {
       const iterable = { destroy() {}, [Symbol.asyncIterator]: () => ({ next: () => chunk, return: () => chunk }) };
       const readers = [source, iterable].map((each) => new module.MultihashReader(each));
       const calls = readers.flatMap((reader) => [told(reader.read()), told(reader.read())]);
-      const [end] = readers.map((reader) => reader[name]('why')); // the other one waits for the chunk
-      await end;
+      await readers.map((reader) => reader[name]('why'))[0]; // the other one waits for the chunk
       same(`${reasons} ${source.locked}`, `${name === 'release' ? '' : 'why'} false`, 'a stream');
       if (ending === 'null') same(`${await Promise.all(calls)}`, 'null,null,null,null', 'calls end at once');
       deliver({ done: false, value: part });
