@@ -54,8 +54,8 @@ export function numbers({ Multihash, MultihashError, encode, encodedLength, read
       fails(TypeError, () => call(wrong), kind, `${name} number bigint ${kind}`);
     if (name === 'code') fails(TypeError, () => call('sha1'), 'a name', 'code string CODES');
     for (const wrong of [-1, 1.5, NaN, Infinity, 2 ** 53])
-      fails(RangeError, () => call(wrong), `${wrong}`, `${name} 2^53 ${wrong}`);
-    const most = name === 'code' ? '2^63' : '2^64';
+      fails(RangeError, () => call(wrong), `${wrong}`, `${name} 2^53 - 1 or ${wrong}`);
+    const most = `2^${name === 'code' ? 63 : 64} - 1 got`;
     for (const wrong of [-1n, 1n << 64n]) fails(RangeError, () => call(wrong), `${wrong}`, `${name} ${most} ${wrong}`);
     for (const [digits, end] of [[40, ''], [41, '...'], [4000, '...']])
       fails(RangeError, () => call(10n ** BigInt(digits - 1)), `${digits}`, `${name} ${most} 1${'0'.repeat(39)}${end}`);
