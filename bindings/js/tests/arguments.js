@@ -142,7 +142,7 @@ export function multihashes(module) {
   same(`${shown}`, `${texts.map((text) => `Multihash(${text})`)}`, 'console.log');
   const narrow = [0, 2 ** 53 - 1].map((code) => Multihash.of(code, EXAMPLE));
   for (const each of narrow) same(each.narrow(), each, 'a code that is a number');
-  fails(RangeError, () => Multihash.of(2n ** 53n, EXAMPLE).narrow(), 'narrow', 'code 9007199254740992 bigint');
+  fails(RangeError, () => Multihash.of(2n ** 53n, EXAMPLE).narrow(), 'narrow', 'code 9007199254740992 2^53 bigint');
   fails(TypeError, () => new Multihash(Symbol('making'), 22, EXAMPLE), 'constructor', 'Multihash.of');
   same(Object.is(Multihash.of(-0, EXAMPLE).code, 0), true, 'code -0');
   const codes = [[22, '22'], [274, '274'], [2n ** 53n - 1n, '9007199254740991'], [2n ** 53n, '"9007199254740992"']];

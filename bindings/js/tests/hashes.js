@@ -84,7 +84,7 @@ export async function hashArguments({ Multihash, identity, sha256, verify }) {
   for (const truncate of ['20', 20n])
     says(await told(sha256.digest(ABC, { truncate })), `TypeError truncate number ${typeof truncate}`, 'truncate');
   for (const truncate of [33, -1, 1.5, NaN])
-    says(await told(sha256.digest(ABC, { truncate })), `RangeError truncate 32 ${truncate}`, 'truncate');
+    says(await told(sha256.digest(ABC, { truncate })), `RangeError truncate 0 32 ${truncate}`, 'truncate');
   says(await told(sha256.digest(ABC, 20)), 'TypeError options object 20', 'options');
   for (const call of [sha256.digest('abc'), identity.digest('abc'), verify(whole, 'abc')])
     says(await told(call), 'TypeError content Uint8Array ReadableStream string TextEncoder', 'a content');
