@@ -54,8 +54,8 @@ export function numbers({ Multihash, MultihashError, encode, encodedLength, read
       fails(TypeError, () => call(wrong), kind, `${name} number bigint ${kind}`);
     if (name === 'code') fails(TypeError, () => call('sha1'), 'a name', 'code string CODES');
     for (const wrong of [-1, 1.5, NaN, Infinity, 2 ** 53])
-      fails(RangeError, () => call(wrong), `${wrong}`, `${name} 2^53 ${wrong}`);
-    const most = name === 'code' ? '2^63' : '2^64';
+      fails(RangeError, () => call(wrong), `${wrong}`, `${name} 2^53 - 1 or ${wrong}`);
+    const most = `2^${name === 'code' ? 63 : 64} - 1 got`;
     for (const wrong of [-1n, 1n << 64n]) fails(RangeError, () => call(wrong), `${wrong}`, `${name} ${most} ${wrong}`);
     for (const [digits, end] of [[40, ''], [41, '...'], [4000, '...']])
       fails(RangeError, () => call(10n ** BigInt(digits - 1)), `${digits}`, `${name} ${most} 1${'0'.repeat(39)}${end}`);
@@ -127,7 +127,7 @@ export function multihashes(module) {
   same(`${multihash} ${new Map([[`${multihash}`, 1]]).get(hex(EXAMPLE))}`, `${hex(EXAMPLE)} 1`, 'as text');
   for (const text of [`${multihash}`, `${multihash}`.toUpperCase()])
     same(Multihash.fromHex(text).equals(multihash), true, 'from text');
-  const noDigits = [['162', '3'], ['1g01', 'g 1'], ['0x1600', 'x 1'], [' 160', '0'], ['1\u{1f600}', '\u{1f600} 1']];
+  const noDigits = [['162', '3'], ['1g01', 'g 1'], ['0x16', 'x 1'], ['\n160', '\\n 0'], ['1\u{1f600}', '\u{1f600} 1']];
   for (const [text, words] of noDigits) {
     const error = fails(MultihashError, () => Multihash.fromHex(text), text, words);
     same(`${error.status} ${error.isIncomplete}`, 'not_hexadecimal false', text);
@@ -142,7 +142,7 @@ export function multihashes(module) {
   same(`${shown}`, `${texts.map((text) => `Multihash(${text})`)}`, 'console.log');
   const narrow = [0, 2 ** 53 - 1].map((code) => Multihash.of(code, EXAMPLE));
   for (const each of narrow) same(each.narrow(), each, 'a code that is a number');
-  fails(RangeError, () => Multihash.of(2n ** 53n, EXAMPLE).narrow(), 'narrow', 'code 9007199254740992 bigint');
+  fails(RangeError, () => Multihash.of(2n ** 53n, EXAMPLE).narrow(), 'narrow', 'code 9007199254740992 2^53 bigint');
   fails(TypeError, () => new Multihash(Symbol('making'), 22, EXAMPLE), 'constructor', 'Multihash.of');
   same(Object.is(Multihash.of(-0, EXAMPLE).code, 0), true, 'code -0');
   const codes = [[22, '22'], [274, '274'], [2n ** 53n - 1n, '9007199254740991'], [2n ** 53n, '"9007199254740992"']];

@@ -19,12 +19,12 @@ const vectors = process.env.MULTIHASH_VERDICTS ??
 
 /**
  * Evaluates a program and then an entry in a context of its own, which compiles no WebAssembly, like hosts at the edge,
- * unless that is wanted. With a process it is loaded from a server, else from a file. Returns the entry's exports.
+ * unless that is wanted. With Node's process it is loaded from a server, else from a file. Returns the entry's exports.
  */
 async function inContext(name, program = '', globals = {}, wasm = false) {
   const context = createContext({ atob, TextDecoder, URL, ...globals }, { codeGeneration: { strings: false, wasm } });
   runInContext(program, context);
-  const initializeImportMeta = (meta) => (meta.url = `${globals.process ? 'https' : 'file'}://localhost/${name}`);
+  const initializeImportMeta = (to) => (to.url = `${globals.process?.versions ? 'https' : 'file'}://localhost/${name}`);
   const files = {};
   const parsed = (file) =>
     (files[file] ??= new SourceTextModule(bytesOf(file).toString(), { context, initializeImportMeta }));
@@ -48,7 +48,8 @@ async function unfit() {
     ['WebAssembly.validate = (bytes) => !bytes.includes(252)'], // the first byte of later instructions
   ];
   for (const [program, cause] of programs) {
-    for (const [name, globals] of [['inline.js', {}], ['index.js', found], ['index.js', { fetch: found.fetch }]]) {
+    const alone = [undefined, { env: {} }].map((process) => ['index.js', { ...found, process }]);
+    for (const [name, globals] of [['inline.js', {}], ['index.js', found], ...alone]) {
       const error = await inContext(name, program, globals).catch((error) => error);
       same(error.cause?.name, cause, `${name} ${program}`);
       says(error.message, `WebAssembly BigInt ${ofPage.join(' ')}`, `${name} ${program}`);
@@ -104,7 +105,8 @@ async function largeContent({ Multihash, identity, sha256, verify }) {
   const larger = new Uint8Array(2 ** 29); // no memory is touched
   const start = process.cpuUsage();
   same(await verify(Multihash.of(0, Uint8Array.of(1)), larger), false, 'verify');
-  says(await told(identity.digest(larger)), 'MultihashError', 'digest');
+  for (const call of [identity.digest, (digest) => verify({ code: 0, digest }, larger)])
+    says(await told(call(larger)), 'MultihashError', 'too long');
   const { user, system } = process.cpuUsage(start);
   same(user + system < 3e5, true, `the time of identity: ${user + system}`);
 }

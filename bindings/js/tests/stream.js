@@ -167,10 +167,10 @@ async function givenUp(module, stream) {
       const source = byteStream(stream.subarray(0, 20), undefined, (reason) => (reasons += reason));
       let deliver;
       const chunk = new Promise((resolve) => (deliver = resolve));
-      const iterable = { destroy() {}, [Symbol.asyncIterator]: () => ({ next: () => chunk }) };
+      const iterable = { destroy() {}, [Symbol.asyncIterator]: () => ({ next: () => chunk, return: () => chunk }) };
       const readers = [source, iterable].map((each) => new module.MultihashReader(each));
       const calls = readers.flatMap((reader) => [told(reader.read()), told(reader.read())]);
-      for (const reader of readers) await reader[name]('why');
+      await readers.map((reader) => reader[name]('why'))[0]; // the other one waits for the chunk
       same(`${reasons} ${source.locked}`, `${name === 'release' ? '' : 'why'} false`, 'a stream');
       if (ending === 'null') same(`${await Promise.all(calls)}`, 'null,null,null,null', 'calls end at once');
       deliver({ done: false, value: part });
@@ -216,7 +216,7 @@ async function wrongSources(module, stream) {
       'a chunk that is text');
   const kinds = [[null, 'null'], [3, '3'], ['ab', 'string'], [[stream], 'Array'],
     [new Response(), 'Response body'], [new Blob([]), 'Blob stream'], [new File([], ''), 'File stream'],
-    [new (class Own {})(), 'Own'],
+    [new (class Own {})(), 'Own'], [new (class {})(), 'Object'],
     [{ [Symbol.asyncIterator]: () => null }, 'Object'], [{ [Symbol.asyncIterator]: () => ({}) }, 'Object']];
   for (const [source, kind] of kinds)
     fails(TypeError, () => new module.MultihashReader(source), 'a source', `source a ReadableStream iterable ${kind}`);

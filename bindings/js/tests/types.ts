@@ -123,7 +123,10 @@ verify(theirs[0]!, stream);
 is<string | undefined>()(NAMES[18]);
 is<0x12>()(CODES['sha2-256']);
 is<number | undefined>()(CODES['blake2b-128']);
+isFixed({} as Pick<typeof CODES, 'sha2-256'> & Pick<typeof hashers, 'sha1' | 'sha2-384'>);
 // @ts-expect-error a list is not changed
-CODES['sha2-256'] = 3;
+CODES['blake2b-128'] = 3;
+// @ts-expect-error nor are the functions
+hashers['blake2b-512'] = sha256;
 // @ts-expect-error nor is the other one
 NAMES[18] = 'sha2-256';
