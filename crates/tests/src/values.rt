@@ -1,7 +1,10 @@
-//! Values: what `Debug` prints.
+//! Values: what `Debug` prints, and traits that callers need.
 use crate::expect::{check, check_eq, expect_ok};
-use multihash::{Head, Multihash, MultihashGeneric};
+use form::{Bytes, FormError, Number};
+use frame::FrameError;
+use multihash::{Head, Multihash, MultihashGeneric, no_std_io};
 use std::alloc::Global;
+use std::error::Error;
 use std::fmt::Debug;
 use std::process::Abort;
 
@@ -9,6 +12,8 @@ fn expect_shown<D: Debug>(rt: &impl Abort, alloc: Global, shown: &D, wanted: &st
     let found = expect_ok!(rt; format!(in alloc; "{shown:?}"));
     check_eq!(rt; found.as_str(), wanted);
 }
+
+fn have<A: Error, B: Error, C: Error, D: Copy + Eq, E: Copy, F: Copy>() {}
 
 // The bytes that `truncate` left in the buffer are not shown.
 #[test]
@@ -23,6 +28,7 @@ fn known_values_are_shown(rt: HostRuntime) {
     let lines = expect_ok!(rt; format!(in alloc; "{:#?}", cut.truncate(1)));
     let wanted = "Multihash {\n    code: 18,\n    size: 1,\n    digest: [\n        102,\n    ],\n}";
     check_eq!(rt; lines.as_str(), wanted);
+    have::<no_std_io::Error, FrameError, FormError, Head, Number, Bytes<1>>();
     let long = expect_ok!(rt; Multihash::<64>::wrap(18, &[65; 64]));
     let digest = expect_ok!(rt; format!(in alloc; "size: 64, digest: {:?} }}", [65; 64]));
     let shown = expect_ok!(rt; format!(in alloc; "{long:?}"));

@@ -8,7 +8,7 @@ type Value = Multihash<64>;
 
 // These bounds are part of the API.
 fn is_value<T: Copy + Default + Eq + Ord + std::hash::Hash + std::fmt::Debug + Send + Sync + Unpin>() {}
-fn is_error<T: std::fmt::Debug + std::fmt::Display + Send + Sync + 'static>() {}
+fn is_error<T: std::error::Error + Send + Sync + 'static>() {}
 
 #[test]
 fn implemented() {
