@@ -8,6 +8,8 @@ use std::io::{self, ErrorKind};
 use verified_multihash::{list, no_std_io, with_io, Error, Io, Multihash};
 
 type Value = Multihash<200>;
+type Once = Box<dyn FnOnce(&mut Io<io::Empty>) -> Result<Value, Error>>;
+const _: fn(io::Empty, Once) -> io::Result<Value> = with_io;
 
 /// Reads and writes two encodings, with an event before each byte of the second, and calls `check` with the result.
 fn each_byte(event: Event, is_failure: bool, check: impl Fn(io::Result<()>, usize, bool)) {
@@ -72,7 +74,7 @@ fn kinds() {
         let text = error.to_string();
         let io = io::Error::from(error);
         let source = io.get_ref().and_then(|source| source.downcast_ref::<Error>());
-        assert!(source.map_or(io.kind() == ErrorKind::OutOfMemory, |source| source.to_string() == text));
+        assert_eq!(source.map(Error::to_string), (io.kind() != ErrorKind::OutOfMemory).then_some(text));
         io.kind()
     };
     for bytes in [&b"\x12\xff\x01"[..], b"\x92\x00", &[0xff; 9], b"\x00\x00\x00"] {

@@ -2,17 +2,18 @@
 #![cfg(feature = "std")]
 use verified_multihash::no_std_io::{self, Read, SliceWriter, Write};
 use verified_multihash::varint::{self, MAX as CODE_MAX};
-use verified_multihash::{codes, Error, Head, Multihash};
+use verified_multihash::{codes, Error, Head, Multihash, MultihashGeneric};
 
 type Value = Multihash<64>;
 
 // These bounds are part of the API.
 fn is_value<T: Copy + Default + Eq + Ord + std::hash::Hash + std::fmt::Debug + Send + Sync + Unpin>() {}
-fn is_error<T: std::fmt::Debug + std::fmt::Display + Send + Sync + 'static>() {}
+fn is_error<T: std::error::Error + Send + Sync + 'static>() {}
 
 #[test]
 fn implemented() {
     is_value::<Value>();
+    let _: verified_multihash::Result<MultihashGeneric<3>> = Multihash::<3>::wrap(18, b"abc");
     is_error::<Error>();
     is_error::<no_std_io::Error>();
     let error: &dyn std::error::Error = &Value::from_bytes(b"").expect_err("an error");
