@@ -100,9 +100,8 @@ page_programs() {
     cc "${c_flags[@]}" "${sanitize[@]}" -I "$c/include" "$work/$name.c" "$source" -o "$work/$name"
   done
   prints "code 0, digest hello" "$work/hello"
-  { printf '\0\5hello%.0s' {1..1001}; printf '\343\347\2\1a\224\344\2\1a'; printf '\22\1a%.0s' {1..40000}; } |
-    "$work/lengths" | uniq -c |
-    diff <(printf '%7d %s\n' 1001 'identity 5' 1 'xxh3-64 1' 1 'unknown 1' 40000 'sha2-256 1') -
+  { printf '\0\5hello%.0s' {1..1001}; printf '\22\1a%.0s' {1..40000}; } | "$work/lengths" | uniq -c |
+    diff <(printf '%7d %s\n' 1001 'identity 5' 40000 'sha2-256 1') -
   rejects "2 of 3" "$work/lengths" < <(printf '\0\5hello\22\3ab')
 }
 

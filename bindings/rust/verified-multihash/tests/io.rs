@@ -8,8 +8,7 @@ use std::io::{self, ErrorKind};
 use verified_multihash::{list, no_std_io, with_io, Error, Io, Multihash};
 
 type Value = Multihash<200>;
-type Once = Box<dyn FnOnce(&mut Io<io::Empty>) -> Result<Value, Error>>;
-const _: fn(io::Empty, Once) -> io::Result<Value> = with_io;
+const _: fn(io::Empty, Box<dyn FnOnce(&mut Io<io::Empty>) -> Result<u8, Error>>) -> io::Result<u8> = with_io;
 
 /// Reads and writes two encodings, with an event before each byte of the second, and calls `check` with the result.
 fn each_byte(event: Event, is_failure: bool, check: impl Fn(io::Result<()>, usize, bool)) {
