@@ -8,11 +8,13 @@ type Value = Multihash<64>;
 
 // These bounds are part of the API.
 fn is_value<T: Copy + Default + Eq + Ord + std::hash::Hash + std::fmt::Debug + Send + Sync + Unpin>() {}
+fn is_head<T: Copy + Eq + std::fmt::Debug + Send + Sync>() {}
 fn is_error<T: std::error::Error + Send + Sync + 'static>() {}
 
 #[test]
 fn implemented() {
     is_value::<Value>();
+    is_head::<Head>();
     let _: verified_multihash::Result<MultihashGeneric<3>> = Multihash::<3>::wrap(18, b"abc");
     is_error::<Error>();
     is_error::<no_std_io::Error>();
@@ -36,15 +38,12 @@ fn limits() {
 fn names() {
     for (constant, code, name) in [
         (codes::IDENTITY, 0, "identity"),
-        (codes::SHA2_256, 0x12, "sha2-256"),
         (codes::BLAKE2B_8, 0xb201, "blake2b-8"),
-        (0xb214, 0xb214, "blake2b-160"),
         (codes::BLAKE2S_256, 0xb260, "blake2s-256"),
         (codes::SKEIN1024_1024, 0xb3e0, "skein1024-1024"),
         (codes::KANGAROOTWELVE, 0x1d01, "kangarootwelve"),
         (codes::KECCAK_224, 0x1a, "keccak-224"),
         (codes::KECCAK_384, 0x1c, "keccak-384"),
-        (codes::KECCAK_512, 0x1d, "keccak-512"),
         (codes::BLAKE3, 0x1e, "blake3"),
         (codes::RIPEMD_256, 0x1054, "ripemd-256"),
         (codes::XXH_64, 0xb3e2, "xxh-64"),
