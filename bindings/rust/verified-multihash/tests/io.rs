@@ -8,7 +8,6 @@ use std::io::{self, ErrorKind};
 use verified_multihash::{list, no_std_io, with_io, Error, Io, Multihash};
 
 type Value = Multihash<200>;
-const _: fn(io::Empty, Box<dyn FnOnce(&mut Io<io::Empty>) -> Result<u8, Error>>) -> io::Result<u8> = with_io;
 
 /// Reads and writes two encodings, with an event before each byte of the second, and calls `check` with the result.
 fn each_byte(event: Event, is_failure: bool, check: impl Fn(io::Result<()>, usize, bool)) {
@@ -64,7 +63,7 @@ fn ends() {
         };
         assert_eq!((error.kind(), error.to_string()), (kind, text.into()));
     });
-    assert_eq!(with_io(io::empty(), Value::read_next).expect("the end"), None);
+    assert_eq!(with_io(io::empty(), Box::new(Value::read_next) as Box<dyn FnOnce(&mut _) -> _>).expect("end"), None);
 }
 
 #[test]

@@ -44,6 +44,7 @@ fn names() {
         (codes::KANGAROOTWELVE, 0x1d01, "kangarootwelve"),
         (codes::KECCAK_224, 0x1a, "keccak-224"),
         (codes::KECCAK_384, 0x1c, "keccak-384"),
+        (codes::KECCAK_512, 0x1d, "keccak-512"),
         (codes::BLAKE3, 0x1e, "blake3"),
         (codes::RIPEMD_256, 0x1054, "ripemd-256"),
         (codes::XXH_64, 0xb3e2, "xxh-64"),
