@@ -58,6 +58,7 @@ packs() {
 man_pages() {
   local first=$prefix/share/man/man3/multihash.3
   mandoc -T lint "$first" "$prefix/share/man/man1/mh_show.1"
+  grep -x "\.Dd $(date -d "$(sed -n "s/^$version (\(.*\))/\1/p" CHANGES)" '+%B %-d, %Y')" "$first"
   cat "${first%.3}"_*.3 | sort -u | diff - <(echo .so man3/multihash.3)
   diff <(sed -n 's/^\.Nm \(\w*\).*/\1/p' "$first" | sort) <(basename -s .3 -a "${first%/*}"/* | sort)
   sed -nE 's/^\.(Sh|In) //p' "$first" | diff - <(printf '%s\n' NAME LIBRARY SYNOPSIS multihash{,_message,_names}.h \
@@ -80,7 +81,7 @@ for comment, of in re.findall(r"(?ms)^ */\*((?:(?!\*/).)*)\*/\n?(.*?)(?=;?\n\n|\
 END
 }
 
-# A system has a shared library or not. Without an operating system the library alone is built.
+# A system has a shared library or not, on Windows with a .lib of its own. Without an operating system the library alone is built.
 systems() {
   local system shares target
   while read -r system shares target; do
@@ -90,6 +91,7 @@ systems() {
     grep -x "MULTIHASH_C_SHARED:BOOL=$shares" "$work/$system/CMakeCache.txt"
     [ "$shares" = ON ] || cmake --build "$work/$system"
   done <<< $'Generic OFF x86_64-elf\nWindows ON x86_64-pc-windows-msvc\nDarwin ON arm64-apple-macos11'
+  grep implib:multihash_c_shared.lib "$work/Windows/CMakeFiles/multihash_c_shared.dir/link.txt"
 }
 
 # By the toolchain file.

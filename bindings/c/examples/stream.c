@@ -67,5 +67,6 @@ int main(void)
     if (result == STREAM_REJECTED || result == STREAM_CUT)
         multihash_print_message(stderr, from.bytes, from.have, from.limit);
     if (result == STREAM_FAILED) perror("read");
+    if (fflush(stdout) != 0 || ferror(stdout)) return fprintf(stderr, "the output cannot be written\n"), 1;
     return result != STREAM_END;
 }

@@ -74,5 +74,6 @@ for option in -O2 -static; do
   rejects "$work/long" ' 65 .* 64$' # a digest that is too long
   rejects "$work/cut" '1 of 64'
   rejects "$work" '^read: '         # a folder
+  run stream < "$work/bytes" 2>&1 >&- | grep 'the output cannot be written'
 done
 echo passed

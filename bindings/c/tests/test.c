@@ -5,6 +5,7 @@
  *   test VECTORS SEED COUNT CASE     runs one of them */
 #include "check.h"
 #include "multihash_message.h"
+#include "multihash_names.h"
 
 /* Encodings one after another, of codes and digests of several lengths: all prefixes, with room for each number. */
 static void check_streams(void)
@@ -63,6 +64,7 @@ static void check_version(void)
     snprintf(text, sizeof text, "%u.%u.%u", number / 10000, number / 100 % 100, number % 100);
     CHECK(number == MULTIHASH_VERSION_NUMBER);
     CHECK(strcmp(text, MULTIHASH_VERSION) == 0);
+    CHECK(strcmp(multihash_name(0xb3e3), "xxh3-64") == 0 && multihash_name(0xb214) == NULL);
 }
 
 static char message[MULTIHASH_MESSAGE_SIZE];

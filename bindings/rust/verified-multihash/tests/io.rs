@@ -63,7 +63,7 @@ fn ends() {
         };
         assert_eq!((error.kind(), error.to_string()), (kind, text.into()));
     });
-    assert_eq!(with_io(io::empty(), Value::read_next).expect("the end"), None);
+    assert_eq!(with_io(io::empty(), Box::new(Value::read_next) as Box<dyn FnOnce(&mut _) -> _>).expect("end"), None);
 }
 
 #[test]
@@ -72,7 +72,7 @@ fn kinds() {
         let text = error.to_string();
         let io = io::Error::from(error);
         let source = io.get_ref().and_then(|source| source.downcast_ref::<Error>());
-        assert!(source.map_or(io.kind() == ErrorKind::OutOfMemory, |source| source.to_string() == text));
+        assert_eq!(source.map(Error::to_string), (io.kind() != ErrorKind::OutOfMemory).then_some(text));
         io.kind()
     };
     for bytes in [&b"\x12\xff\x01"[..], b"\x92\x00", &[0xff; 9], b"\x00\x00\x00"] {

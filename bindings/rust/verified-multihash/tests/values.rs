@@ -2,17 +2,20 @@
 #![cfg(feature = "std")]
 use verified_multihash::no_std_io::{self, Read, SliceWriter, Write};
 use verified_multihash::varint::{self, MAX as CODE_MAX};
-use verified_multihash::{codes, Error, Head, Multihash};
+use verified_multihash::{codes, Error, Head, Multihash, MultihashGeneric};
 
 type Value = Multihash<64>;
 
 // These bounds are part of the API.
 fn is_value<T: Copy + Default + Eq + Ord + std::hash::Hash + std::fmt::Debug + Send + Sync + Unpin>() {}
+fn is_head<T: Copy + Eq + std::fmt::Debug + Send + Sync>() {}
 fn is_error<T: std::error::Error + Send + Sync + 'static>() {}
 
 #[test]
 fn implemented() {
     is_value::<Value>();
+    is_head::<Head>();
+    let _: verified_multihash::Result<MultihashGeneric<3>> = Multihash::<3>::wrap(18, b"abc");
     is_error::<Error>();
     is_error::<no_std_io::Error>();
     let error: &dyn std::error::Error = &Value::from_bytes(b"").expect_err("an error");
@@ -35,9 +38,7 @@ fn limits() {
 fn names() {
     for (constant, code, name) in [
         (codes::IDENTITY, 0, "identity"),
-        (codes::SHA2_256, 0x12, "sha2-256"),
         (codes::BLAKE2B_8, 0xb201, "blake2b-8"),
-        (0xb214, 0xb214, "blake2b-160"),
         (codes::BLAKE2S_256, 0xb260, "blake2s-256"),
         (codes::SKEIN1024_1024, 0xb3e0, "skein1024-1024"),
         (codes::KANGAROOTWELVE, 0x1d01, "kangarootwelve"),
