@@ -38,9 +38,9 @@ class Module(unittest.TestCase):
         program += "try: vm.decode(b'')\nexcept vm.MultihashError as error: assert error.is_incomplete\n"
         program += "import gc\ndel vm\n"
         program += "for name in [*sys.modules]: name.startswith('verified') and sys.modules.pop(name)\n"
-        program += "gc.collect()\nkept = [it for it in gc.get_objects() if type(it) is type]\n"
-        program += "names = {it.__name__ for it in kept} if sys.version_info > (3, 9) else ()\n"
-        program += "assert 'Multihash' not in names, 'a module that is not used is kept'\n"
+        program += "gc.collect()\nkept = [it for it in gc.get_objects() if isinstance(it, type)]\n"
+        program += "names = {it.__name__ for it in kept} if sys.version_info > (3, 9) else set()\n"
+        program += "assert not names & {'Multihash', 'MultihashError', 'Status'}, 'a module that is not used is kept'\n"
 
         def run(_):
             number = interpreters.create()

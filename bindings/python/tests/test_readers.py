@@ -53,7 +53,7 @@ class Readers(unittest.TestCase):
         for kind in self.readers:
             self.assertRaisesRegex(ValueError, "__init__", kind.__new__(kind).read)
             self.assertRaisesRegex(ValueError, "closed file", kind(closed).read)
-            self.assertRaisesRegex(ValueError, "returned 3", kind(turns(b"abc")).read)
+            self.assertRaisesRegex(ValueError, "returned 999", kind(turns(bytearray(999))).read)
             reading, writing = os.pipe()
             os.set_blocking(reading, False)
             with open(reading, "rb", 0) as source, open(writing, "wb", 0) as sink:
