@@ -116,8 +116,8 @@ class Module(unittest.TestCase):
             required = [name for name, it in parameters_of(call).items() if not it or it.default is it.empty]
             few = arguments[: len(required) - 1]
             for wrong, more in (([*arguments, 1], {}), (few, {}), (arguments, {"more": 1})):
-                with self.assertRaises(TypeError):  # by itself: assertRaises passes keywords on, if only {}
-                    call(*wrong, **more) if more else call(*wrong)
+                with self.assertRaisesRegex(TypeError, r"\b(__init__|%s)\(" % call.__name__):
+                    call(*wrong, **more) if more else call(*wrong)  # assertRaises passes keywords on, if only {}
 
     def test_tables(self):
         """The tables of README.md show the parameters of each function, with defaults."""

@@ -128,6 +128,7 @@ class Readers(unittest.TestCase):
         async def run():
             stream = asyncio.StreamReader()
             reader = vm.AsyncMultihashReader(stream)
+            next(reader.read().__await__())  # a call that is dropped
             first = asyncio.ensure_future(reader.read())
             await asyncio.sleep(0)
             for _ in range(2):
