@@ -35,10 +35,11 @@ unit_tests() {
   grep '^Ran [1-9]' "$work/tested"
 }
 
-# A wheel has the licence of the repository, and states it.
+# A wheel has the licence of the repository, and states it and the page.
 has_licence() {
   diff LICENSE "$(find "$1" -name LICENSE)"
   sed -nE 's/^License(-Expression)?: //p' "$1/METADATA" | diff - <(echo MIT)
+  sed '1,/^$/d' "$1/METADATA" | diff - "$here/README.md"
 }
 
 # All tests of the wheel. CPython's debug allocator sees a write after a block.
@@ -121,6 +122,7 @@ for example in doctest.DocTestParser().get_examples(open(sys.argv[1]).read()):
     print(example.source.rstrip() + "  # type: ignore" * is_wrong)
 END
   "${strict[@]}" -p verified_multihash
+  "${strict[@]}" --disallow-any-explicit -m verified_multihash -m verified_multihash._core
   PYTHONPATH=$("$python" -c 'import sysconfig; print(sysconfig.get_path("purelib"))') \
     stubtest verified_multihash._core
   "${strict[@]}" "$here/tests/typed.py"

@@ -129,12 +129,7 @@ int get_number(PyObject **argument, const char *name, uint64_t *number)
     long long value = PyLong_AsLongLongAndOverflow(index, &overflow);
     int is_wrong = overflow < 0 || (overflow == 0 && value < 0);
     if (is_wrong) raise_negative(name, index);
-    *number = (uint64_t)value;
-    if (overflow > 0) {
-        *number = PyLong_AsUnsignedLongLong(index);
-        if (PyErr_Occurred() != NULL && PyErr_ExceptionMatches(PyExc_OverflowError)) PyErr_Clear();
-        is_wrong = PyErr_Occurred() != NULL;
-    }
+    *number = (uint64_t)value; /* -1, the largest, for 2^63 and above */
     *argument = index;
     if (is_wrong) Py_DECREF(index);
     return is_wrong ? -1 : 0;

@@ -143,7 +143,7 @@ static PyObject *decode(PyObject *module, PyObject *arguments, PyObject *named)
     PyObject *data;
     input from;
     if (!get_arguments(arguments, named, "O:decode", names, &data, NULL)) return NULL;
-    if (get_input(data, "data", MULTIHASH_HEAD_MAX + MULTIHASH_DIGEST_MAX, &from) < 0) return NULL;
+    if (get_input(data, "data", MULTIHASH_LENGTH_MAX, &from) < 0) return NULL;
     return decoded_whole(module, &from);
 }
 
@@ -156,7 +156,7 @@ static PyObject *read_front(PyObject *module, PyObject *arguments, PyObject *nam
     if (!get_arguments(arguments, named, "O|O:read", names, &data, &most)) return NULL;
     if (most != NULL && get_size(&most, "limit", &limit) < 0) return NULL;
     Py_XDECREF(most);
-    if (get_input(data, "data", MULTIHASH_HEAD_MAX + MULTIHASH_DIGEST_MAX, &from) < 0) return NULL;
+    if (get_input(data, "data", MULTIHASH_LENGTH_MAX, &from) < 0) return NULL;
     return decoded_front(module, &from, multihash_read_limit(from.bytes, from.length, limit), &limit);
 }
 
@@ -255,8 +255,7 @@ static PyObject *status_text(PyObject *module, PyObject *status)
     (void)module;
     if (get_number(&status, "status", &number) < 0) return NULL;
     Py_DECREF(status);
-    multihash_status known = number > UINT32_MAX ? UINT32_MAX : (multihash_status)number;
-    multihash_encoded made = multihash_put_status_text(known, out, sizeof out);
+    multihash_encoded made = multihash_put_status_text((multihash_status)number, out, sizeof out);
     return PyUnicode_FromStringAndSize((const char *)out, (Py_ssize_t)made.length);
 }
 

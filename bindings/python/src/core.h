@@ -37,7 +37,7 @@ int get_input(PyObject *argument, const char *name, Py_ssize_t most, input *to);
 int get_arguments(PyObject *arguments, PyObject *named, const char *format, char **names, PyObject **first,
                   PyObject **second);
 
-/* A whole number that is not negative, and in place of the argument a new int. One of more than 64 bits is the
+/* A whole number that is not negative, and in place of the argument a new int. One of 2^63 or more is the
  * largest, which the library rejects too. */
 int get_number(PyObject **argument, const char *name, uint64_t *number);
 

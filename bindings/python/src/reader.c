@@ -10,7 +10,7 @@ typedef struct reader_object {
     unsigned long long taken; /* bytes of the multihashes that were returned */
     char has_lost;            /* whether the file may have lost bytes */
     size_t length; /* of the bytes that were read and belong to no multihash that was returned */
-    uint8_t rest[MULTIHASH_HEAD_MAX + MULTIHASH_DIGEST_MAX];
+    uint8_t rest[MULTIHASH_LENGTH_MAX];
 } reader_object;
 
 #define FILES "an object with a method read, such as open(path, 'rb'), io.BytesIO(data) or socket.makefile('rb')"
@@ -142,7 +142,7 @@ static int read_chunk(reader_object *reader)
         kept = end(reader, chunk);
     } else {
         reader->wanted = 0;
-        reader->has_lost = number != NULL && !PyErr_ExceptionMatches(PyExc_BlockingIOError);
+        reader->has_lost = !PyErr_ExceptionMatches(PyExc_BlockingIOError);
     }
     Py_XDECREF(chunk);
     Py_XDECREF(number);

@@ -162,7 +162,7 @@ static PyObject *multihash_fromhex(PyObject *type, PyObject *text)
     PyObject *function = attribute_of((PyObject *)&PyBytes_Type, "fromhex");
     PyObject *bytes = function == NULL ? NULL : PyObject_CallFunctionObjArgs(function, text, NULL);
     Py_XDECREF(function);
-    if (bytes == NULL && PyErr_ExceptionMatches(PyExc_ValueError)) rename_odd(text);
+    if (bytes == NULL) rename_odd(text);
     input from;
     PyObject *multihash = NULL;
     if (bytes != NULL && get_input(bytes, "text", 0, &from) == 0) multihash = decoded_whole(module, &from);

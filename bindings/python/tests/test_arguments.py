@@ -67,9 +67,9 @@ TEXTS = [
     (vm.encode, [10**39, b""], "code %d 2^63" % 10**39),
     (vm.encode, [10**40, b""], "code %s 2^63" % front_of(10**40)),
     (vm.decode, ["1220"], "data bytes Multihash.fromhex str"),
-    (vm.read, [3], "data bytes-like int"),
+    (vm.read, [COROUTINES.read()], "data bytes-like coroutine"),
     (Multihash.fromhex, [b"1220"], "text str decode bytes"),
-    (Multihash.fromhex, ["12 0"], "odd 3"),
+    (Multihash.fromhex, ["12\t0"], "odd 3"),
     (Multihash.fromhex, ["12 0x"], "position"),
     (VALUE.__replace__, {"name": 1}, "name code digest"),
     (Multihash, [18, "abc"], "digest bytes bytes.fromhex str"),
@@ -139,7 +139,7 @@ class Arguments(unittest.TestCase):
     def test_only_buffers(self):
         for call in BYTES_CALLS:
             for wrong in (2, 0, True, 2.0, "00", "", [0, 0], (0, 0), None, {}, object()):
-                self.assertRaises(TypeError, call, wrong)
+                self.assertRaisesRegex(TypeError, "^data " if call in BYTES_CALLS[:4] else "^digest ", call, wrong)
             view = memoryview(b"\0\0")
             view.release()
             self.assertRaises(ValueError, call, view)
@@ -184,7 +184,6 @@ class Arguments(unittest.TestCase):
             self.assertEqual(self.error_of(vm.encoded_len, 18, length)[:3], (Status.INVALID_SIZE, length, 0))
         for length in NEGATIVE:
             self.assertRaisesRegex(ValueError, "digest_length .* -", vm.encoded_len, 18, length)
-        self.assertRaises(TypeError, vm.encoded_len, 18, 2.0)
 
     def test_limits(self):
         """Each call that reads has a limit, which is the longest digest if none is given."""
@@ -234,9 +233,9 @@ class Arguments(unittest.TestCase):
         self.assertEqual(str(MultihashError(1).args), str((Status(1), 0, 0, 0, "")))
         for wrong in (0, len(Status), -1):
             self.assertRaises(ValueError, MultihashError, wrong)
-        large = MultihashError(5, 0, 10**4300)
+        large = type("Own", (MultihashError,), {})(5, 0, 10**4300)
         text = "%s (%s)" % (vm._core.status_text(5), shown(large.code))
-        self.assertEqual(repr(large), "MultihashError(%r, 0, %s, 0, %r)" % (large.status, shown(large.code), text))
+        self.assertEqual(repr(large), "Own(%r, 0, %s, 0, %r)" % (large.status, shown(large.code), text))
         made = [str(MultihashError(*numbers)) for numbers in ((1,), (4, 3), (4, 3, 0, 2, "own"))]
         self.assertEqual(made, [vm._core.status_text(1), vm._core.status_text(4) + " (3)", "own"])
 
@@ -275,6 +274,8 @@ class Values(unittest.TestCase):
             self.assertEqual("{:>12} {!s:.4}".format(value, value), "  0103616263 0103")
             self.assertRaises(TypeError, value.__format__, 2)
             self.assertRaises(ValueError, format, value, "x")
+            short = type("Short", (kind,), {"__str__": kind.hexdigest})(1, b"abc")
+            self.assertEqual((format(short), repr(short)), ("616263", "Short.fromhex('0103616263')"))
             source[0] = ord("a")
             value.__init__(2, b"")
             self.assertEqual((value, type(value.code)), (VALUE, int))

@@ -9,7 +9,7 @@ from unittest.mock import ANY
 
 import verified_multihash as vm
 from test_arguments import NAMED_CALLS, Named
-from verified_multihash import Multihash, MultihashError
+from verified_multihash import Multihash, MultihashError, Status
 
 try:
     from _testcapi import remove_mem_hooks, set_nomemory
@@ -18,7 +18,7 @@ except ImportError:
 
 VALUE = Multihash(0x810, b"abc")
 OTHER = Multihash(1 << 62, bytes(255))
-LONG = bytes(1 << 10)
+LONG = b"\xff" * (1 << 10)
 RUNS = 100
 # CPython's cache of attributes keeps each name, so one that a call makes anew is a block more.
 forget = getattr(sys, "_clear_type_cache", gc.collect)
@@ -46,11 +46,12 @@ CALLS["order"] = lambda: (VALUE == OTHER, VALUE < OTHER, VALUE == 1, VALUE == Na
 CALLS["a text"] = vm._core.status_text, [1 << 62]
 CALLS["pickle"] = VALUE.__reduce_ex__, [4]
 CALLS["reader"] = lambda data, limit: vm.read_from(io.BytesIO(data), limit), [bytes(OTHER), 1 << 62]
-CALLS["a code"] = vm.scale_decode, [bytes(7) + b"\x80\0"]
+CALLS["busy"] = lambda f: ((it := vm._core.Reader(f, 1)).__init__(f, 1), it._begin(), it.__init__(f, 1)), [io.BytesIO()]
 STEPS = vm._core.Reader(io.BytesIO(), 1)
 CALLS["steps"] = lambda: (STEPS._fail(None), STEPS._begin(), STEPS._end(b""), STEPS._take()), ()
 CALLS["too many"] = lambda data: (STEPS._fail(None), STEPS._begin(), STEPS._end(data)), [LONG]
-LASTING = [object.__reduce_ex__, vm._core, vm._core.Reader, MultihashError, Multihash, Named, VALUE, OTHER, *vm.Status]
+CALLS["set"] = vm._core.set_error, [MultihashError, tuple(Status), MultihashError.__slots__]
+LASTING = [object.__reduce_ex__, vm._core, vm._core.Reader, Multihash, Named, VALUE, OTHER, *CALLS["set"][1], *Status]
 if sys.version_info < (3, 12):  # which made these immortal
     LASTING += [None, False, True, NotImplemented, *range(2, 257)]
 
@@ -78,7 +79,7 @@ def result_of(call):
         if not str(error).startswith(("error return without exception set", "<function <lambda>")):
             raise
         return MemoryError  # CPython's, from 3.11 on, where it has no memory for a traceback
-    except (MultihashError, TypeError, ValueError) as error:
+    except (RuntimeError, TypeError, ValueError) as error:
         return type(error), error.args or ANY  # CPython up to 3.10 leaves the text out if it has no memory for it
 
 

@@ -38,9 +38,9 @@ class Module(unittest.TestCase):
         program += "try: vm.decode(b'')\nexcept vm.MultihashError as error: assert error.is_incomplete\n"
         program += "import gc\ndel vm\n"
         program += "for name in [*sys.modules]: name.startswith('verified') and sys.modules.pop(name)\n"
-        program += "gc.collect()\nkept = [it for it in gc.get_objects() if type(it) is type]\n"
-        program += "names = {it.__name__ for it in kept} if sys.version_info > (3, 9) else ()\n"
-        program += "assert 'Multihash' not in names, 'a module that is not used is kept'\n"
+        program += "gc.collect()\nkept = [it for it in gc.get_objects() if isinstance(it, type)]\n"
+        program += "names = {it.__name__ for it in kept} if sys.version_info > (3, 9) else set()\n"
+        program += "assert not names & {'Multihash', 'MultihashError', 'Status'}, 'a module that is not used is kept'\n"
 
         def run(_):
             number = interpreters.create()
@@ -116,8 +116,8 @@ class Module(unittest.TestCase):
             required = [name for name, it in parameters_of(call).items() if not it or it.default is it.empty]
             few = arguments[: len(required) - 1]
             for wrong, more in (([*arguments, 1], {}), (few, {}), (arguments, {"more": 1})):
-                with self.assertRaises(TypeError):  # by itself: assertRaises passes keywords on, if only {}
-                    call(*wrong, **more) if more else call(*wrong)
+                with self.assertRaisesRegex(TypeError, r"\b(__init__|%s)\(" % call.__name__):
+                    call(*wrong, **more) if more else call(*wrong)  # assertRaises passes keywords on, if only {}
 
     def test_tables(self):
         """The tables of README.md show the parameters of each function, with defaults."""

@@ -48,12 +48,10 @@ class Readers(unittest.TestCase):
     def test_files(self):
         closed = io.BytesIO(b"\0\0")
         closed.close()
-        for call in (vm.MultihashReader, vm.AsyncMultihashReader, vm.read_from):
-            self.assertRaises(TypeError, call, object())
         for kind in self.readers:
             self.assertRaisesRegex(ValueError, "__init__", kind.__new__(kind).read)
             self.assertRaisesRegex(ValueError, "closed file", kind(closed).read)
-            self.assertRaisesRegex(ValueError, "returned 3", kind(turns(b"abc")).read)
+            self.assertRaisesRegex(ValueError, "returned 999", kind(turns(bytearray(999))).read)
             reading, writing = os.pipe()
             os.set_blocking(reading, False)
             with open(reading, "rb", 0) as source, open(writing, "wb", 0) as sink:
@@ -128,6 +126,7 @@ class Readers(unittest.TestCase):
         async def run():
             stream = asyncio.StreamReader()
             reader = vm.AsyncMultihashReader(stream)
+            next(reader.read().__await__())  # a call that is dropped
             first = asyncio.ensure_future(reader.read())
             await asyncio.sleep(0)
             for _ in range(2):

@@ -24,7 +24,7 @@ class Counts:
 
     def read(self, size):
         self.reads += 1
-        return self.file.read(min(size, self.most))
+        return memoryview(self.file.read(min(size, self.most)))
 
 
 def shown(call, *arguments):

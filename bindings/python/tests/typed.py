@@ -95,4 +95,6 @@ assert_type(vm.hashes.NAMES, Mapping[int, str])
 vm.more  # type: ignore[attr-defined]
 hashes.digest("abc", "sha2-256")  # type: ignore[arg-type]
 hashes.verify("1200", DATA)  # type: ignore[arg-type]
+hashes.verify(multihash, "abc")  # type: ignore[arg-type]
+hashes.digest_file(io.StringIO("abc"), "sha1")  # type: ignore[arg-type]
 hashes.CODES["sha2-256"] = 3  # type: ignore[index]
