@@ -81,7 +81,8 @@ for comment, of in re.findall(r"(?ms)^ */\*((?:(?!\*/).)*)\*/\n?(.*?)(?=;?\n\n|\
 END
 }
 
-# A system has a shared library or not, on Windows with a .lib of its own. Without an operating system the library alone is built.
+# A system has a shared library or not, on Windows with a .lib of its own. Without an operating system the library
+# alone is built.
 systems() {
   local system shares target
   while read -r system shares target; do
