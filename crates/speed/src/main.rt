@@ -42,17 +42,14 @@ impl Input {
     fn new(alloc: Global, code: u64, len: usize) -> Result<Self> {
         let digest = vec![in alloc; 0xa5_u8; len]?;
         let left = Mh::wrap(code, &digest)?;
-        let mut scale = Vec::new(alloc);
-        left.scale_encode(&mut scale)?;
         let items = vec![in alloc; left; ROUND]?;
-        let mut stream = Vec::new(alloc);
-        list::write_list(&items, &mut stream)?;
+        let stream = stream_of(alloc, &items)?;
         Ok(Input {
             alloc,
             code,
             half: left.size() / 2,
             encoding: left.to_bytes(alloc)?,
-            scale,
+            scale: scale_of(alloc, &left)?,
             left,
             right: left,
             value: left.to_value(alloc)?,
@@ -65,27 +62,52 @@ impl Input {
     }
 }
 
+fn scale_of(alloc: Global, multihash: &Mh) -> Result<Vec<u8>> {
+    let mut scale = Vec::new(alloc);
+    multihash.scale_encode(&mut scale)?;
+    Ok(scale)
+}
+
+fn stream_of(alloc: Global, items: &[Mh]) -> Result<Vec<u8>> {
+    let mut stream = Vec::new(alloc);
+    list::write_list(items, &mut stream)?;
+    Ok(stream)
+}
+
+fn code_of(row: &str) -> u64 {
+    if row.ends_with("long code") {
+        LONG_CODE
+    } else {
+        CODE
+    }
+}
+
+// The length of the digests.
+fn len_of(row: &str) -> usize {
+    if row.ends_with("64 bytes") {
+        64
+    } else if row.ends_with("48 bytes") {
+        48
+    } else {
+        32
+    }
+}
+
+fn inputs_of(alloc: Global, row: &str) -> Result<Vec<Input>> {
+    let (code, len) = (code_of(row), len_of(row));
+    let mut inputs = Vec::new(alloc);
+    for _ in 0..ROUND {
+        inputs.push(Input::new(alloc, code, len)?)?;
+    }
+    Ok(inputs)
+}
+
 fn main(rt: HostRuntime) -> Result<()> {
     let words: Vec<String> = env::args(&rt)?.skip(1).collect(rt.alloc())?;
     let (count, rows) = words.split_first().context("expected COUNT ROW..")?;
     let count = count.parse::<u32>().context("a count")?;
     for row in rows {
-        let code = if row.ends_with("long code") {
-            LONG_CODE
-        } else {
-            CODE
-        };
-        let len = if row.ends_with("64 bytes") {
-            64
-        } else if row.ends_with("48 bytes") {
-            48
-        } else {
-            32
-        };
-        let mut inputs = Vec::new(rt.alloc());
-        for _ in 0..ROUND {
-            inputs.push(Input::new(rt.alloc(), code, len)?)?;
-        }
+        let inputs = inputs_of(rt.alloc(), row)?;
         let sum = making(&mut Calls { inputs, count }, row).context("the row is not measured")?;
         println!(rt; "{row}: {sum}")?;
     }
@@ -141,17 +163,27 @@ fn making(calls: &mut Calls, row: &str) -> Option<u64> {
         }
         "from_value" => calls.sum(|it| Mh::from_value(&it.value), ok),
         "read_list, 8 items" => calls.sum(read_list, ok),
-        _ => return using(calls, row),
+        _ => return writing(calls, row),
     })
 }
 
-// The other calls.
-fn using(calls: &mut Calls, row: &str) -> Option<u64> {
+// The calls that encode one.
+fn writing(calls: &mut Calls, row: &str) -> Option<u64> {
     Some(match row {
         "to_bytes" => calls.sum(|it| it.left.to_bytes(it.alloc), ok),
         "write, slice" => calls.sum(|it| it.left.write(&mut it.output.as_mut_slice()), ok),
         "write, vector" => calls.sum(write_cleared, ok),
         "encoded_len" => calls.sum(|it| it.left.encoded_len(), |len| *len as u64),
+        "scale_encode" => calls.sum(|it| it.left.scale_encode(&mut it.output.as_mut_slice()), ok),
+        "to_value" => calls.sum(|it| it.left.to_value(it.alloc), ok),
+        "write_list, 8 items" => calls.sum(write_list, ok),
+        _ => return comparing(calls, row),
+    })
+}
+
+// The other calls.
+fn comparing(calls: &mut Calls, row: &str) -> Option<u64> {
+    Some(match row {
         "==" | "==, 48 bytes" => calls.sum(|it| it.left == it.right, |equal| u64::from(*equal)),
         "same_as" => calls.sum(|it| it.left.same_as(&it.right), |same| u64::from(*same)),
         "cmp" | "cmp, 48 bytes" => calls.sum(
@@ -160,9 +192,6 @@ fn using(calls: &mut Calls, row: &str) -> Option<u64> {
         ),
         "hash" => calls.sum(hash, |hash| *hash),
         "into_inner" => calls.sum(|it| it.left.into_inner(), |inner| inner.0),
-        "scale_encode" => calls.sum(|it| it.left.scale_encode(&mut it.output.as_mut_slice()), ok),
-        "to_value" => calls.sum(|it| it.left.to_value(it.alloc), ok),
-        "write_list, 8 items" => calls.sum(write_list, ok),
         _ => return None,
     })
 }

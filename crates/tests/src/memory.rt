@@ -233,6 +233,15 @@ fn read_without_memory<const S: usize>(
     check!(rt; expect_ok!(rt; read_list::<S, _>(alloc, &mut left, 0)).is_empty());
 }
 
+fn use_without_memory<const S: usize>(rt: &impl Abort, m: &Multihash<S>, code: u64)
+    requires { S < 2 ^ 16 }
+{
+    check!(rt; expect_ok!(rt; m.resize::<32>()).truncate(4) < m.resize::<32>().unwrap_or_default());
+    check!(rt; m.code() == code && m.size() == 32 && m.digest().len() == 32);
+    check!(rt; *m != Multihash::default() && m.into_inner().2 == 32);
+    m.hash(&mut DefaultHasher::new());
+}
+
 // Calls over slices that no contract gives an allocator.
 fn expect_without_memory<const S: usize>(rt: &impl Abort, alloc: Global, code: u64)
     requires { S < 2 ^ 16 }
@@ -244,10 +253,7 @@ fn expect_without_memory<const S: usize>(rt: &impl Abort, alloc: Global, code: u
     check!(rt; write_list(&[m], &mut room).is_ok());
     check!(rt; m.scale_encode(&mut scale.as_mut_slice()).is_ok());
     read_without_memory(rt, alloc, &m, &bytes, &scale);
-    check!(rt; expect_ok!(rt; m.resize::<32>()).truncate(4) < m.resize::<32>().unwrap_or_default());
-    check!(rt; m.code() == code && m.size() == 32 && m.digest().len() == 32);
-    check!(rt; m != Multihash::default() && m.into_inner().2 == 32);
-    m.hash(&mut DefaultHasher::new());
+    use_without_memory(rt, &m, code);
 }
 
 #[test]
