@@ -1,5 +1,6 @@
 // The tests in Node.js: those of suite.js, how each entry loads, streams of Node.js, large content. MULTIHASH_VERDICTS
 // names the test vectors, if not those of the repository.
+import { getHashes } from 'node:crypto';
 import { createReadStream, readFileSync } from 'node:fs';
 import { dirname, join } from 'node:path';
 import { Readable } from 'node:stream';
@@ -76,11 +77,15 @@ async function compiledBefore() {
   }
 }
 
-/** Without node:crypto content is hashed by WebCrypto, which pages lack without HTTPS. */
+/** The functions are those of node:crypto. Without it WebCrypto hashes, which pages lack without HTTPS. */
 async function webCrypto(text) {
   const [without, entry] = [await connected(), await connected({ crypto, ArrayBuffer, Blob, process: {} })];
   says(await told(without.sha256.digest(new Uint8Array())), 'TypeError WebCrypto HTTPS', 'without HTTPS');
   same(`${Object.keys(entry.hashers)}`, 'identity,sha1,sha2-256,sha2-512,sha2-384,dbl-sha2-256', 'of WebCrypto');
+  const short = (name) => name.replace('sha2-', 'sha').replace(/-|(?<=sm3-)256/g, ''); // the same for both names
+  const theirNames = getHashes().map(short);
+  for (const name of Object.keys(entry.CODES).filter((each) => theirNames.includes(short(each))))
+    same(entries.index.hashers[name]?.name, name, 'of node:crypto');
   for (const check of [hashes, hashStreams]) await check(entry, '', text);
   const [ours, theirs] = [entries.index, entry].map(({ sha256 }) => sha256.digest(new Uint8Array(2 ** 21 + 1)));
   same(`${await theirs}`, `${await ours}`, 'more than Node.js hashes at once');
