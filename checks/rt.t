@@ -6,7 +6,7 @@
 
 passes() {
   local all
-  # Each proof has one job: a second one would read the libraries once more, and costs more CPU time than it saves.
+  # Each proof has one job: a second one reads the libraries once more, which costs CPU time and saves few minutes.
   RT_JOBS=$(nproc) rt ci < /dev/null 2>&1 | tee "$work/out"
   all=$(cat <(grep '^[a-z]' crates.txt) <(ls crates/*/must-fail/*.edit) | wc -l)
   tail -n 1 "$work/out" | diff - <(echo "$all passed, 0 failed")

@@ -255,7 +255,8 @@ static PyObject *status_text(PyObject *module, PyObject *status)
     (void)module;
     if (get_number(&status, "status", &number) < 0) return NULL;
     Py_DECREF(status);
-    multihash_encoded made = multihash_put_status_text((multihash_status)number, out, sizeof out);
+    multihash_status known = number > UINT32_MAX ? UINT32_MAX : (multihash_status)number;
+    multihash_encoded made = multihash_put_status_text(known, out, sizeof out);
     return PyUnicode_FromStringAndSize((const char *)out, (Py_ssize_t)made.length);
 }
 
