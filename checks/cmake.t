@@ -31,14 +31,11 @@ debug_build() {
     "$work/debug.prefix/$document/examples/test.sh"
 }
 
-# The package works where it was unpacked, also with other folders of each kind, another program, and the libraries of
-# an archive.
+# The package works where it was unpacked, also with other folders of each kind.
 packs() {
   local name packed
   packed=multihash_c-$version-$(uname -m).tar.gz
-  cp "$(type -P true)" "$work/program"
-  (cd "$work"; build other -DBUILD_SHARED_LIBS=ON -DMULTIHASH_C_PROGRAM=program \
-    -DMULTIHASH_C_ARCHIVE="$work/built/libmultihash_c.a" \
+  (cd "$work"; build other -DBUILD_SHARED_LIBS=ON \
     -DCMAKE_INSTALL_{LIBDIR="$libdir",INCLUDEDIR=headers/c,DOCDIR=pages/c,MANDIR=manual,BINDIR=other/bin})
   for name in built other; do
     mkdir "$work/un packed $name"
@@ -49,7 +46,6 @@ packs() {
   works "$work/un packed built" lib
   local bin=other/bin include=headers/c document=pages/c man=manual
   works "$work/un packed other" "$libdir"
-  "$work/un packed other/$bin/mh_show" < /dev/null # where mh_show itself fails
   mv "$work/moved" "$prefix"
 }
 
@@ -126,27 +122,6 @@ with_flags() {
     diff - <(grep dir= "$work/libraries/pkgconfig/multihash_c.pc")
 }
 
-# The variables that a project sets before it adds the repository count each time that it is configured, which it is when
-# the archive changes.
-has_options_of_project() {
-  local to="$work/its options"
-  mkdir "$to"
-  cc -c -xc /dev/null -o "$to/own.o"
-  ar rc "$to/own.a" "$to/own.o"
-  printf '%s\n' "$(grep ^cmake_minimum_required CMakeLists.txt)" 'project(project LANGUAGES C)' \
-    "set(MULTIHASH_C_ARCHIVE \"$to/own.a\")" 'set(MULTIHASH_C_SHARED OFF)' \
-    "add_subdirectory(\"$top\" multihash_c)" > "$to/CMakeLists.txt"
-  for _ in first second; do
-    cmake -S "$to" -B "$to/built"
-    cmake --build "$to/built"
-    cmp "$to"/{own.a,built/multihash_c/libmultihash_c.a}
-    [ ! -e "$to/built/multihash_c/libmultihash_c.so" ]
-  done
-  ar r "$to/own.a" LICENSE
-  cmake --build "$to/built"
-  cmp "$to"/{own.a,built/multihash_c/libmultihash_c.a}
-}
-
 # The example in a project of CMake, whose last lines are those of the standard input, with each library. Further words
 # are options.
 in_project() {
@@ -206,7 +181,6 @@ try "the installed test of nothing" rejects "no multihash_c.pc" bindings/c/examp
 try "a project of CMake" by_find_package
 try "a folder of a project of CMake" by_subdirectory
 needs=go try "Go" in_go
-needs="ar" try "options of a project" has_options_of_project
 needs=clang try "other systems" systems
 try "flags of a distribution" with_flags
 needs="aarch64-linux-gnu-gcc qemu-aarch64" try "building for aarch64" builds_for_aarch64
