@@ -4,8 +4,7 @@
     crates/speed/measure.py                        compares the page's counts of this library with new ones, each of
                                                    which may differ by 1, or by 2 %. Those of others, as of C by hand,
                                                    are not compared
-    crates/speed/measure.py --write [TUNED DEFAULT] writes the tables of the page. With two builds of rust/main.rs
-                                                   counts them too; else their columns stay
+    crates/speed/measure.py --write                writes the tables of the page; the columns of upstream's crate stay
     crates/speed/measure.py --rust UPSTREAM        prints the nanoseconds of comparisons by the package for Rust and by
                                                    upstream's, which is in this folder
     crates/speed/measure.py --rust-counts UPSTREAM prints the shares of that package in upstream's instructions
@@ -32,11 +31,11 @@ sys.path.append(str(ROOT / "checks" / "lib"))
 import tap
 
 C, PAGE = ROOT / "bindings/c", ROOT / "docs/SPEED.md"
-C_BUILDS = [C / "src/multihash.c", HOME / "from_c/plain.c", HOME / "from_c/fast.c"]
+C_BUILDS = [C / "src/multihash.c", HOME / "from_c/plain.c"]
 # the heads of the tables: this library's counts, and others, before the shares in them
 OTHERS = "| Other call | instructions |"
 RUST = "| Call | instructions | tuned Rust | share | default Rust | share |"
-FROM_C = "| Call from C | this library | plain C | share | fast C | share | archive |"
+FROM_C = "| Call from C | this library | plain C | share | archive |"
 CAUSES = "| Call | Cause |"
 FEWER, MORE, JOBS = 1000, 3000, 2
 # the turns of the programs in Rust, and of those that time two libraries
@@ -166,11 +165,12 @@ def rows_of(page: str, head: str) -> Counts:
 
 
 def table(head: str, rows: Counts) -> str:
-    """Returns a table: each of the second and third counts has after it the share of the first in it."""
+    """Returns a table: after each count whose column a column `share` follows, the share of the first count in it."""
     lines = [head, "|---" + (head.count("|") - 2) * "|---:" + "|"]
     for name, (own, *others) in rows.items():
-        shares = [f"{other} | {own / other:.2f}" for other in others[:2]]
-        lines.append(f"| {' | '.join([name, str(own), *shares, *map(str, others[2:])])} |")
+        many = head.count("share")
+        shares = [f"{other} | {own / other:.2f}" for other in others[:many]]
+        lines.append(f"| {' | '.join([name, str(own), *shares, *map(str, others[many:])])} |")
     return "\n".join([*lines, ""])
 
 
@@ -218,19 +218,17 @@ def results(program: str, names: list[str]) -> Iterator[tap.Result]:
     yield "the calls", differences(counted | count_c(C_BUILDS[:1]), stored)
 
 
-def write(programs: list[str], names: list[str]) -> None:
+def write(program: str, names: list[str]) -> None:
     """Writes the tables of the page."""
     page = PAGE.read_text("utf-8")
-    before, in_others = rows_of(page, RUST), [*rows_of(page, OTHERS)]
-    of_others = {name: [number] for name, number in count(programs[0], in_others).items()}
-    names = [name for name in names if name not in in_others]
-    columns = [count(program, names) for program in programs]
-    counts = {name: [found[name] for found in columns] for name in names}
-    if len(programs) == 1:
-        counts = {name: [*found, *before[name][1:]] for name, found in counts.items()}
+    counted = count(program, names)
+    tables = {
+        head: {name: [counted[name], *counts[1:]] for name, counts in rows_of(page, head).items()}
+        for head in (RUST, OTHERS)
+    }
     with tempfile.TemporaryDirectory() as folder:
-        from_c = count_c([*C_BUILDS, make_archive(folder)])
-    PAGE.write_text(with_tables(page, {RUST: counts, OTHERS: of_others, FROM_C: from_c}), "utf-8")
+        tables[FROM_C] = count_c([*C_BUILDS, make_archive(folder)])
+    PAGE.write_text(with_tables(page, tables), "utf-8")
 
 
 def main() -> int:
@@ -238,8 +236,8 @@ def main() -> int:
     match sys.argv[1:]:
         case []:
             return tap.report(results(tap.program("speed"), names))
-        case ["--write", *builds]:
-            write([tap.program("speed"), *builds], names)
+        case ["--write"]:
+            write(tap.program("speed"), names)
         case ["--rust", upstream]:
             print_rust(Path(upstream))
         case ["--rust-counts", upstream]:
