@@ -22,14 +22,6 @@ drawn() {
   npm_test --test-name-pattern=vectors
 }
 
-# The module has the instructions of WebAssembly's first version and bulk memory operations, and no others.
-# shellcheck disable=SC2086 # words
-old_module() {
-  local later
-  later=$(wasm-validate --help | sed -n 's/.* \(--disable-[a-z-]*\) .*/\1/p')
-  wasm-validate ${later/--disable-bulk-memory/} "$here/multihash.wasm"
-}
-
 # The command of README.md installs the package in a folder of a user's own.
 page_install() {
   mkdir "$work/own"
@@ -49,14 +41,10 @@ packed_script() {
   cmp "$top/LICENSE" node_modules/verified-multihash/LICENSE
   node --no-warnings --input-type=commonjs -e "
     require('verified-multihash/package.json');
-    if (process.features.require_module) require('verified-multihash/inline').decode(Uint8Array.of(1, 0));
-    const compiled = new \
-      WebAssembly.Module(require('fs').readFileSync(require.resolve('verified-multihash/multihash.wasm')));
-    import('verified-multihash/module').then((found) => console.log(found.connect(compiled), \
-      found.decode(Uint8Array.of(2, 0)).code));
-    for (const name of ['', '/inline', '/hashes'])
+    if (process.features.require_module) require('verified-multihash').decode(Uint8Array.of(1, 0));
+    for (const name of ['', '/hashes'])
       import('verified-multihash' + name).then((found) => console.log(found.decode(Uint8Array.of(1, 0)).code));" |
-    sort | paste -sd ' ' | grep -x '1 1 1 undefined 2'
+    paste -sd ' ' | grep -x '1 1'
 }
 
 # The types of what is packed, which need none of pages.
@@ -67,10 +55,10 @@ packed_types() {
   cp "$here/tests/types.ts" .
   echo '{ "type": "module" }' > package.json
   "${strict[@]}" --lib es2022,dom,dom.iterable types.ts
-  printf '%s\n' "export * from 'verified-multihash/module';" "// @ts-expect-error no types of pages are there" \
-    "export type Compiled = WebAssembly.Module;" > no_page.ts
+  printf '%s\n' "export * from 'verified-multihash';" "// @ts-expect-error no types of pages are there" \
+    "export type Page = HTMLElement;" > no_page.ts
   "${strict[@]}" --lib es2022 no_page.ts
-  printf "export * from 'verified-multihash%s';\n" '' /inline /module /hashes > entries.ts
+  printf "export * from 'verified-multihash%s';\n" '' /hashes > entries.ts
   tsc --noEmit --strict --target es2022 --module es2022 --moduleResolution node entries.ts
 }
 
@@ -85,7 +73,6 @@ test_browser() {
   needs=$tools try "the packed package's page in $name" packed_page "$name"
 }
 
-needs=wasm-validate try "the WebAssembly for old engines" old_module
 needs="$node npm" try "in Node.js" npm_test
 needs="$node npm" try "drawn inputs" drawn
 needs="$node npm" try "the page's installation" page_install

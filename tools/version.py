@@ -81,7 +81,7 @@ def write(old: str, new: str, day: datetime.date) -> None:
     texts[DEBIAN] = NEW.format(new, ENTRY.findall(texts[DEBIAN])[0][1], day) + texts[DEBIAN]
     for path, text in texts.items():
         (TOP / path).write_text(text, "utf-8")
-    print("now run: tools/generate c, tools/generate wasm")
+    print("now run: tools/generate c, tools/generate js")
 
 
 def main() -> None:

@@ -75,15 +75,12 @@ export function checkedOptions(options) {
   return options;
 }
 
-// The first numbers as BigInts: to make one is slower than a call. They are made when core.js is connected.
-export const NUMBERS = [];
-
-/** A whole number of 64 bits, not negative, as a BigInt. */
-export function bits64(number, name) {
+/** A whole number of 64 bits, not negative: a safe integer or a bigint. */
+export function checkedWide(number, name) {
   if (typeof number === 'number') {
     if (!Number.isSafeInteger(number) || number < 0)
       throw new RangeError(`${name} must be a whole number from 0 to 2^53 - 1, or a bigint, got ${number}`);
-    return number < NUMBERS.length ? NUMBERS[number] : BigInt(number);
+    return number;
   }
   if (typeof number !== 'bigint') throw wrongType(name, 'a number or a bigint', number);
   if (BigInt.asUintN(64, number) !== number)

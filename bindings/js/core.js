@@ -1,7 +1,7 @@
-// Multihashes over a proved library, compiled to WebAssembly. A program imports index.js, inline.js or
-// module.js, which connect the functions here to an instance of the module.
-import { NUMBERS, bits64, checkedLength, isBytes, viewOf, wrongType } from './arguments.js';
+// Multihashes over the functions of library.js, which is translated from a proved library.
+import { checkedLength, checkedWide, isBytes, viewOf, wrongType } from './arguments.js';
 import { MultihashError, encodingError, forJSON, reasonOf, scaleReasonOf } from './errors.js';
+import * as library from './library.js';
 import { INCOMPLETE, STATUSES } from './statuses.js';
 
 /** The maximum length of a digest, in bytes. */
@@ -12,95 +12,39 @@ export const HEAD_MAX = 18;
 export const LENGTH_MAX = 266;
 /** The maximum length of a SCALE encoding, in bytes. */
 export const SCALE_LENGTH_MAX = 264;
+/** The version of the library. */
+export const version = '1.0.0';
 
 // The longest prefix of an input that a result depends on, except for the number of trailing bytes.
 const PREFIX_MAX = HEAD_MAX + DIGEST_MAX;
 
-// The module's functions; its memory, which no function grows or frees, so it stays as long as this file is loaded; the
-// words of a result and the first of an input in it; and the addresses of that result, an input and an output, after
-// what the module uses of the memory. Lengths, most codes and addresses are passed as BigInts of NUMBERS: 32-bit
-// addresses suffice.
-const unconnected = new Proxy({}, { get: askConnection });
-let [library, memory, words] = [unconnected, unconnected, unconnected]; // a field of a result has two words
-let first, output;
-let resultAt, firstAt, outputAt;
+// The memory of the library, which no function grows or frees; the addresses of a result, an input and an output in it,
+// after what the library uses; and the words of the result and the first of the input: a number of 64 bits has two.
+const memory = new Uint8Array(library.memory.buffer);
+const result = library.__heap_base.value;
+const [first, output] = [result + 64, result + 352]; // 288 bytes for PREFIX_MAX
 const FIRST_WORD = 16; // the index in `words` of the first input
+const words = new Uint32Array(memory.buffer, result, FIRST_WORD + 1);
+if (new Uint8Array(Uint32Array.of(1).buffer)[0] !== 1) throw new Error('verified-multihash needs a little-endian machine');
 
 // Views of the memory by address and length: to make one is as slow as to copy from it.
 const views = [];
 
-/** The version of the library. */
-export const version = '1.0.0';
-
-// A module that uses memory.fill. Ours uses memory.copy: an engine has both bulk memory operations, or neither.
-const PROBE = Uint8Array.of(
-  ...[0, 97, 115, 109, 1, 0, 0, 0, 1, 4, 1, 96, 0, 0, 3, 2, 1, 0, 5, 3, 1, 0, 1],
-  ...[10, 13, 1, 11, 0, 65, 0, 65, 0, 65, 0, 252, 11, 0, 11],
-);
-
-/** Throws the error of each call before the functions are connected, as they may be after module.js was imported. */
-function askConnection() {
-  throw new TypeError("verified-multihash is not connected: import 'verified-multihash', or call connect(module)");
-}
-
-/** Throws an error that lists engines. */
-function unfit(cause) {
-  throw new Error(
-    'verified-multihash needs WebAssembly with bulk memory operations, and BigInt, ' +
-      'which this engine lacks or forbids. ' +
-      'Node.js 20.16, Chrome 89, Edge 89, Firefox 90 and Safari 15 have them.',
-    { cause },
-  );
-}
-
-function checkEngine() {
-  if (typeof WebAssembly !== 'object' || typeof BigInt !== 'function' || !WebAssembly.validate(PROBE)) unfit();
-}
-
-/** Connects the functions to the module's bytes. Throws if the engine lacks or forbids what it needs. */
-export function connect(bytes) {
-  checkEngine();
-  if (library !== unconnected) return;
-  let instance;
-  try {
-    instance = new WebAssembly.Instance(new WebAssembly.Module(bytes));
-  } catch (cause) {
-    unfit(cause);
-  }
-  connectTo(instance.exports);
-}
-
-/** Does what `connect` does, later: in pages Chrome before 115 compiles at once no more than 4 kB. */
-export async function connectLater(bytes) {
-  checkEngine();
-  if (library !== unconnected) return;
-  const { instance } = await WebAssembly.instantiate(bytes).catch(unfit);
-  connectTo(instance.exports);
-}
-
-/** Connects the functions once: all entries have the same module, so the first of them serves all. */
-export function connectTo(functions) {
-  if (library !== unconnected) return;
-  const wanted = version.split('.').reduce((sum, part) => 100 * sum + Number(part), 0);
-  if (functions.multihash_version?.() !== wanted)
-    throw new TypeError(`the module is not multihash.wasm of version ${version}`);
-  for (let number = 0; number <= PREFIX_MAX; number++) NUMBERS[number] = BigInt(number);
-  memory = new Uint8Array(functions.memory.buffer);
-  const free = Number(functions.__heap_base.value);
-  [first, output] = [free + 64, free + 352]; // 288 bytes for PREFIX_MAX
-  words = new Uint32Array(memory.buffer, free, FIRST_WORD + 1);
-  [resultAt, firstAt, outputAt] = [free, first, output].map(BigInt);
-  library = functions;
-}
-
 // ---- arguments
 
-/** Copies at most PREFIX_MAX bytes into the module's memory, and returns the length of the whole input. */
+/** Copies at most PREFIX_MAX bytes into the library's memory, and returns the length of the whole input. */
 function put(data, name) {
   const length = checkedLength(data, name);
   memory.set(length <= PREFIX_MAX ? data : viewOf(data, 0, PREFIX_MAX), first);
   return length;
 }
+
+/** The low and the high half of a number that `checkedWide` accepts. */
+const lowOf = (number) => (typeof number === 'number' ? number : Number(number & 0xffffffffn)) | 0;
+const highOf = (number) => (typeof number === 'number' ? number / 0x100000000 : Number(number >> 32n)) | 0;
+
+/** A length in the library, in which the largest stands for all above it: a call rejects it too. */
+export const lengthOf = (number) => Math.min(Number(number), 0xffffffff);
 
 /** The value of a hexadecimal digit: 0x30 is the code of 0, 0x41 of A, 0x61 of a. */
 function digitAt(text, index) {
@@ -136,7 +80,7 @@ function wide(at) {
 /** A code as results have it: a bigint only where a number would not be exact. */
 const resultOf = (code) => (code > Number.MAX_SAFE_INTEGER ? code : Number(code) + 0); // -0 is 0
 
-/** Copies bytes of the module's memory. */
+/** Copies bytes of the library's memory. */
 function copied(at, length) {
   const row = (views[at - first] ??= []);
   return new Uint8Array((row[length] ??= memory.subarray(at, at + length)));
@@ -226,7 +170,7 @@ export class Multihash {
 
 /** What a decoding of the first input found: the fields of `multihash_decoded`, in the order of multihash.h. */
 function found() {
-  return new Multihash(MAKING, wide(4), copied(first + words[6], words[8]));
+  return new Multihash(MAKING, wide(4), copied(first + words[6], words[7]));
 }
 
 // ---- decoding
@@ -238,37 +182,39 @@ const detailsOf = (taken) =>
 /** The error in the result of a decoding that consumed `taken` bytes of an input of that length. */
 function rejected(length, taken, limit = DIGEST_MAX) {
   const details = detailsOf(taken);
-  library.multihash_head(resultAt, firstAt, NUMBERS[Math.min(length, PREFIX_MAX)]);
+  library.multihash_head(result, first, Math.min(length, PREFIX_MAX));
   const head = { taken: words[6], digestLength: wide(4) };
+  // the library got no more than the prefix
+  if (details.status === 'invalid_size' && head.digestLength <= limit)
+    details.size = length - head.taken - head.digestLength;
   return new MultihashError(reasonOf(details.status, limit, memory.subarray(first), length, head), details);
 }
 
 /** Decodes the multihash whose encoding is the whole of the bytes. */
 export function decode(bytes) {
   const length = put(bytes, 'bytes');
-  if (length <= PREFIX_MAX) library.multihash_from_bytes(resultAt, firstAt, NUMBERS[length]);
-  else library.multihash_from_prefix(resultAt, firstAt, NUMBERS[PREFIX_MAX], BigInt(length));
+  library.multihash_from_bytes(result, first, Math.min(length, PREFIX_MAX));
   if (words[0] !== 0) throw rejected(length, length);
   return found();
 }
 
 /** Decodes the multihash whose encoding is a prefix of the bytes, with a digest of at most `limit` bytes. */
 export function read(bytes, limit = DIGEST_MAX) {
-  const most = bits64(limit, 'limit');
+  const most = lengthOf(checkedWide(limit, 'limit'));
   const length = put(bytes, 'bytes');
-  library.multihash_read_limit(resultAt, firstAt, NUMBERS[Math.min(length, PREFIX_MAX)], most);
-  if (words[0] !== 0) throw rejected(length, words[10], Math.min(Number(most), DIGEST_MAX));
-  return { multihash: found(), taken: words[10] };
+  library.multihash_read_limit(result, first, Math.min(length, PREFIX_MAX), most);
+  if (words[0] !== 0) throw rejected(length, words[8], Math.min(most, DIGEST_MAX));
+  return { multihash: found(), taken: words[8] };
 }
 
 /** The same for a plain Uint8Array from an index on; undefined if it ends inside the encoding, and more can follow. */
 export function readAt(bytes, at, limit, isLast) {
   const length = Math.min(bytes.length - at, PREFIX_MAX);
   memory.set(length === bytes.length ? bytes : bytes.subarray(at, at + length), first);
-  library.multihash_read_limit(resultAt, firstAt, NUMBERS[length], limit);
+  library.multihash_read_limit(result, first, length, limit);
   if (!isLast && INCOMPLETE.includes(STATUSES[words[0]])) return undefined;
-  if (words[0] !== 0) throw rejected(length, words[10], Math.min(Number(limit), DIGEST_MAX));
-  return { multihash: found(), taken: words[10] };
+  if (words[0] !== 0) throw rejected(length, words[8], Math.min(limit, DIGEST_MAX));
+  return { multihash: found(), taken: words[8] };
 }
 
 /** Decodes the two varints before a digest. */
@@ -276,10 +222,10 @@ export function head(bytes) {
   const length = checkedLength(bytes, 'bytes');
   // four bytes, which suffice for most heads, are copied faster so than by `set`
   words[FIRST_WORD] = bytes[0] | (bytes[1] << 8) | (bytes[2] << 16) | (bytes[3] << 24);
-  library.multihash_head(resultAt, firstAt, NUMBERS[Math.min(length, 4)]);
+  library.multihash_head(result, first, Math.min(length, 4));
   if (STATUSES[words[0]] === 'insufficient') {
     put(bytes, 'bytes');
-    library.multihash_head(resultAt, firstAt, NUMBERS[Math.min(length, PREFIX_MAX)]);
+    library.multihash_head(result, first, Math.min(length, PREFIX_MAX));
   }
   if (words[0] !== 0) throw rejected(length, words[6]);
   return { code: wide(2), digestLength: wide(4), taken: words[6] };
@@ -288,8 +234,8 @@ export function head(bytes) {
 /** Decodes the multihash whose SCALE encoding is a prefix of the bytes. */
 export function scaleDecode(bytes) {
   const length = put(bytes, 'bytes');
-  library.multihash_scale_decode(resultAt, firstAt, NUMBERS[Math.min(length, PREFIX_MAX)]);
-  const taken = words[10];
+  library.multihash_scale_decode(result, first, Math.min(length, PREFIX_MAX));
+  const taken = words[8];
   if (words[0] === 0) return { multihash: found(), taken };
   const details = detailsOf(taken);
   throw new MultihashError(scaleReasonOf(details, memory.subarray(first), length), details);
@@ -298,37 +244,31 @@ export function scaleDecode(bytes) {
 // ---- encoding
 
 /** The length in the result of an encoding. */
-function made(code) {
+function made(code, length) {
   if (words[0] === 0) return words[4];
-  throw encodingError(STATUSES[words[0]], wide(2), resultOf(code), DIGEST_MAX);
+  throw encodingError(STATUSES[words[0]], resultOf(length), resultOf(code), DIGEST_MAX);
 }
 
-/** Copies a digest to the first input and returns its length as a BigInt. Throws if it is too long. */
-function putDigest(code, digest) {
+function encoded(encoder, code, digest) {
+  checkedWide(code, 'code');
   const length = put(digest, 'digest');
-  if (length > DIGEST_MAX) encodedLength(code, length);
-  return NUMBERS[length];
+  if (length > DIGEST_MAX) encodedLength(code, length); // throws
+  encoder(result, lowOf(code), highOf(code), first, length, output, LENGTH_MAX);
+  return copied(output, made(code, length));
 }
 
 /** Returns the encoding of a code and a digest. */
-export function encode(code, digest) {
-  const number = bits64(code, 'code');
-  library.multihash_encode(resultAt, number, firstAt, putDigest(number, digest), outputAt, NUMBERS[LENGTH_MAX]);
-  return copied(output, made(number));
-}
+export const encode = (code, digest) => encoded(library.multihash_encode, code, digest);
 
 /** Returns the SCALE encoding of a code and a digest. */
-export function scaleEncode(code, digest) {
-  const number = bits64(code, 'code');
-  library.multihash_scale_encode(resultAt, number, firstAt, putDigest(number, digest), outputAt, NUMBERS[LENGTH_MAX]);
-  return copied(output, made(number));
-}
+export const scaleEncode = (code, digest) => encoded(library.multihash_scale_encode, code, digest);
 
 /** Returns the length of the encoding of a code and a digest of that length. */
 export function encodedLength(code, digestLength) {
-  const number = bits64(code, 'code');
-  library.multihash_encoded_len(resultAt, number, bits64(digestLength, 'digestLength'));
-  return made(number);
+  checkedWide(code, 'code');
+  const length = lengthOf(checkedWide(digestLength, 'digestLength'));
+  library.multihash_encoded_len(result, lowOf(code), highOf(code), length);
+  return made(code, digestLength);
 }
 
 // ---- comparing

@@ -1,4 +1,4 @@
-// What all three entries of the package declare.
+// What the package declares.
 import type { STATUSES } from './statuses.js';
 
 export * from './hashes.js';

@@ -1,6 +1,6 @@
 // MultihashReader, which decodes the multihashes of a stream one after the other.
-import { bits64, checkedLength, checkedOptions } from './arguments.js';
-import { DIGEST_MAX, readAt } from './core.js';
+import { checkedLength, checkedOptions, checkedWide } from './arguments.js';
+import { DIGEST_MAX, lengthOf, readAt } from './core.js';
 import { sourceOf } from './sources.js';
 
 /** Reads concatenated encodings from a `ReadableStream` or an async iterable of `Uint8Array`. */
@@ -19,7 +19,7 @@ export class MultihashReader {
   /** `limit` is the maximum length of a digest; `rest` holds bytes that precede those of the source. */
   constructor(source, options = {}) {
     const { limit = DIGEST_MAX, rest = new Uint8Array() } = checkedOptions(options);
-    this.#limit = bits64(limit, 'limit');
+    this.#limit = lengthOf(checkedWide(limit, 'limit'));
     this.#bytes = joined(new Uint8Array(), 0, rest, 'rest');
     this.#source = sourceOf(source, 'source');
   }

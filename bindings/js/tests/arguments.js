@@ -1,9 +1,7 @@
 // Arguments of wrong types and ranges, and what results and errors are.
-import base64 from '../bytes.js';
 import { fails, hex, same, says, unhex, withoutMemory } from './check.js';
 import { Lying, rowsOf } from './vectors.js';
 
-let turn = 0; // a module is imported anew each time
 const EXAMPLE = unhex('1620644bcc7e564373040999aac89e7622f3ca71fba1d972fd94a31c3bfbf24e3938');
 
 const INSPECT = Symbol.for('nodejs.util.inspect.custom');
@@ -206,25 +204,4 @@ export function errors(module, _verdicts, _hashes, _values, messages) {
   const causes = [undefined, { status: 'ok' }, { status: 404 }].map((cause) => new Error('text', { cause }));
   const others = [null, undefined, 3, {}, ...causes];
   for (const value of others) same(MultihashError.from(value), undefined, `from ${kindOf(value)}`);
-}
-
-/** Where both entries connect at once, the first of them serves both; a module of another version serves none. */
-export async function both() {
-  const bytes = Uint8Array.from(atob(base64), (letter) => letter.charCodeAt(0));
-  const core = await import(`../core.js?${turn++}`);
-  const { exports } = new WebAssembly.Instance(new WebAssembly.Module(bytes));
-  const own = exports.multihash_version();
-  for (const number of [undefined, own + 1])
-    fails(TypeError, () => core.connectTo({ ...exports, multihash_version: () => number }), `version ${number}`,
-      `version ${core.version}`);
-  fails(RangeError, () => core.connectTo({ ...exports, memory: {} }), 'no memory');
-  const later = core.connectLater(bytes);
-  core.connect(bytes);
-  for (const byte of [1, 2]) {
-    const multihash = core.Multihash.of(18, new Uint8Array(4).fill(byte));
-    same(hex(multihash.bytes), hex(Uint8Array.of(18, 4, byte, byte, byte, byte)), 'connected twice');
-    await later;
-  }
-  core.connect(); // nothing is compiled once more
-  await core.connectLater();
 }

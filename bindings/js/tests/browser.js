@@ -8,7 +8,7 @@ import { tmpdir } from 'node:os';
 import { extname, join, normalize } from 'node:path';
 
 const [, , name, path, ...folders] = process.argv;
-const types = { '.html': 'text/html; charset=utf-8', '.js': 'text/javascript', '.wasm': 'application/wasm' };
+const types = { '.html': 'text/html; charset=utf-8', '.js': 'text/javascript' };
 
 const commands = {
   chromium: (profile, url) => ['chromium', '--headless', '--no-sandbox', '--disable-gpu', '--disable-dev-shm-usage',

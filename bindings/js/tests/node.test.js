@@ -1,5 +1,5 @@
-// The tests in Node.js: those of suite.js, how each entry loads, streams of Node.js, large content. MULTIHASH_VERDICTS
-// names the test vectors, if not those of the repository.
+// The tests in Node.js: those of suite.js, hosts that lack something, streams of Node.js, large content.
+// MULTIHASH_VERDICTS names the test vectors, if not those of the repository.
 import { getHashes } from 'node:crypto';
 import { createReadStream, readFileSync } from 'node:fs';
 import { dirname, join } from 'node:path';
@@ -8,86 +8,40 @@ import { test } from 'node:test';
 import { clearImmediate, setImmediate } from 'node:timers';
 import { fileURLToPath } from 'node:url';
 import { SourceTextModule, createContext, runInContext } from 'node:vm';
-import { fails, hex, same, says, told, unhex } from './check.js';
+import * as index from '../index.js';
+import { multihash_version } from '../library.js';
+import { hex, same, says, told } from './check.js';
 import { hashStreams, hashes } from './hashes.js';
 import { endedAnywhere } from './stream.js';
-import { testsOf } from './suite.js';
+import { tests } from './suite.js';
 
-const { Module } = WebAssembly;
 const bytesOf = (name) => readFileSync(new URL(`../${name}`, import.meta.url));
 const vectors = process.env.MULTIHASH_VERDICTS ??
   fileURLToPath(new URL('../../../crates/vectors/data/verdicts.tsv', import.meta.url));
 
-/**
- * Evaluates a program and then an entry in a context of its own, which compiles no WebAssembly, like hosts at the edge,
- * unless that is wanted. With Node's process it is loaded from a server, else from a file. Returns the entry's exports.
- */
-async function inContext(name, program = '', globals = {}, wasm = false) {
-  const context = createContext({ atob, TextDecoder, URL, ...globals }, { codeGeneration: { strings: false, wasm } });
-  runInContext(program, context);
-  const initializeImportMeta = (to) => (to.url = `${globals.process?.versions ? 'https' : 'file'}://localhost/${name}`);
+/** Evaluates the package in a context of its own, which has neither WebAssembly nor what else is not passed. */
+async function inContext(globals = {}) {
+  const context = createContext({ TextDecoder, ...globals }, { codeGeneration: { strings: false, wasm: false } });
+  runInContext('delete globalThis.WebAssembly', context);
   const files = {};
-  const parsed = (file) =>
-    (files[file] ??= new SourceTextModule(bytesOf(file).toString(), { context, initializeImportMeta }));
-  const entry = parsed(name);
+  const parsed = (file) => (files[file] ??= new SourceTextModule(bytesOf(file).toString(), { context }));
+  const entry = parsed('index.js');
   await entry.link((specifier) => parsed(specifier.slice(2)));
   await entry.evaluate();
   return entry.namespace;
 }
 
-/** Where an engine lacks something, or forbids to compile, the error lists engines. */
-async function unfit() {
-  const responding = (response) => ({ fetch: async () => response, process }); // as pages have one by some bundlers
-  const found = responding({ ok: true, arrayBuffer: async () => bytesOf('multihash.wasm') });
-  const ofPage = bytesOf('README.md').toString().match(/\b[A-Z][a-z.]+\s\d[\d.]*/g).slice(0, 5);
-  const { engines } = JSON.parse(bytesOf('package.json'));
-  same(ofPage[0], `Node.js ${engines.node.slice(2)}`, 'the first version of README.md');
-  const programs = [
-    ['', 'CompileError'],
-    ['delete globalThis.WebAssembly'],
-    ['delete globalThis.BigInt'],
-    ['WebAssembly.validate = (bytes) => !bytes.includes(252)'], // the first byte of later instructions
-  ];
-  for (const [program, cause] of programs) {
-    const alone = [undefined, { env: {} }].map((process) => ['index.js', { ...found, process }]);
-    for (const [name, globals] of [['inline.js', {}], ['index.js', found], ...alone]) {
-      const error = await inContext(name, program, globals).catch((error) => error);
-      same(error.cause?.name, cause, `${name} ${program}`);
-      says(error.message, `WebAssembly BigInt ${ofPage.join(' ')}`, `${name} ${program}`);
-    }
-  }
-  const error = await inContext('index.js', '', responding({ ok: false, status: 500 })).catch((error) => error);
-  says(error.message, 'https://localhost/multihash.wasm 500', 'a module that is missing');
-}
-
-/** There module.js works with what was compiled elsewhere. */
-async function compiledBefore() {
-  const entry = await inContext('module.js');
-  const { decode, read, head, scaleDecode, encode, scaleEncode, encodedLength, Multihash } = entry;
-  for (const [call, ...words] of [[decode], [read], [head], [scaleDecode], [encode, 1], [scaleEncode, 1],
-    [Multihash.of, 1], [encodedLength, 1, 2]])
-    fails(TypeError, () => call(...words, Uint8Array.of(1, 0)), `${call.name} before connect`, 'connect module');
-  const empty = new Module(Uint8Array.of(0, 97, 115, 109, 1, 0, 0, 0));
-  for (const wrong of [undefined, {}, bytesOf('multihash.wasm'), empty])
-    fails(TypeError, () => entry.connect(wrong), 'another module', 'module');
-  for (const encoding of ['1202abab', '1202cdcd']) {
-    entry.connect(new Module(bytesOf('multihash.wasm'))); // the second one changes nothing
-    const { code, digest } = entry.decode(unhex(encoding));
-    same(hex(entry.encode(code, digest)), encoding, 'connected');
-  }
-}
-
 /** The functions are those of node:crypto. Without it WebCrypto hashes, which pages lack without HTTPS. */
 async function webCrypto(text) {
-  const [without, entry] = [await connected(), await connected({ crypto, ArrayBuffer, Blob, process: {} })];
+  const [without, entry] = [await inContext(), await inContext({ crypto, ArrayBuffer, Blob, process: {} })];
   says(await told(without.sha256.digest(new Uint8Array())), 'TypeError WebCrypto HTTPS', 'without HTTPS');
   same(`${Object.keys(entry.hashers)}`, 'identity,sha1,sha2-256,sha2-512,sha2-384,dbl-sha2-256', 'of WebCrypto');
   const short = (name) => name.replace('sha2-', 'sha').replace(/-|(?<=sm3-)256/g, ''); // the same for both names
   const theirNames = getHashes().map(short);
   for (const name of Object.keys(entry.CODES).filter((each) => theirNames.includes(short(each))))
-    same(entries.index.hashers[name]?.name, name, 'of node:crypto');
+    same(index.hashers[name]?.name, name, 'of node:crypto');
   for (const check of [hashes, hashStreams]) await check(entry, '', text);
-  const [ours, theirs] = [entries.index, entry].map(({ sha256 }) => sha256.digest(new Uint8Array(2 ** 21 + 1)));
+  const [ours, theirs] = [index, entry].map(({ sha256 }) => sha256.digest(new Uint8Array(2 ** 21 + 1)));
   same(`${await theirs}`, `${await ours}`, 'more than Node.js hashes at once');
 }
 
@@ -170,51 +124,24 @@ async function unreadStreams({ Multihash, MultihashReader, hashers, sha256, veri
     says(await told(call(Readable.from(broken()))), 'Error broken', 'an error in the middle');
 }
 
-/** The names and numbers that *.d.ts state, the version of package.json, and the entries that connect. */
-function declared(module, which) {
+/** The names and numbers that *.d.ts state, and what package.json does. */
+function declared(module) {
   const texts = ['index.d.ts', 'hashes.d.ts', 'codes.d.ts'].map((file) => bytesOf(file).toString()).join('');
   const stated = [...texts.matchAll(/^export (?:const|class|function) (\w+)(?:: (\d+);)?/gm)];
-  const own = which === 'module' ? ['connect'] : [];
-  const names = stated.map(([, name]) => name);
-  same(`${Object.keys(module).sort()}`, `${[...names, ...own].sort()}`, 'the names that *.d.ts have');
+  same(`${Object.keys(module).sort()}`, `${stated.map(([, name]) => name).sort()}`, 'the names that *.d.ts have');
   for (const [, name, value] of stated) if (value) same(module[name], Number(value), name);
-  const { type, version, sideEffects, exports } = JSON.parse(bytesOf('package.json'));
-  same(exports[`./${which}`.replace('/index', '')].default, `./${which}.js`, 'an entry in package.json');
+  const { type, version, exports } = JSON.parse(bytesOf('package.json'));
   const listed = Object.fromEntries([...texts.matchAll(/^  readonly '(.+)': (0x\w+);/gm)].map(([, ...pair]) => pair));
   const alone = Object.keys(module.CODES).filter((name) => !/^(blake2|skein)/.test(name)); // not of a family
   for (const name of [...alone, ...Object.keys(listed)]) same(module.CODES[name], Number(listed[name]), name);
   for (const { types, default: code } of Object.values(exports))
     same(types, code?.replace(/js$/, 'd.ts'), 'types in package.json');
   same(`${type} ${module.version}`, `module ${version}`, 'the type and version');
-  same(sideEffects.includes(`./${which}.js`), which !== 'module', `sideEffects: ${which}.js`);
-}
-
-/** index.js, in an engine that compiles nothing at once, as pages of Chrome before 115. */
-async function index() {
-  WebAssembly.Module = function TooLarge() {
-    throw new RangeError('the module is too large to be compiled at once');
-  };
-  const entry = await import('../index.js');
-  WebAssembly.Module = Module;
-  return entry;
-}
-
-/** inline.js, which awaits nothing. */
-const inline = () => inContext('inline.js', 'delete WebAssembly.instantiate', {}, true);
-
-/** module.js, where nothing is compiled. */
-async function connected(globals) {
-  const entry = await inContext('module.js', '', globals);
-  entry.connect(new Module(bytesOf('multihash.wasm')));
-  return entry;
+  same(multihash_version(), version.split('.').reduce((sum, part) => 100 * sum + Number(part), 0), 'that of library.js');
 }
 
 const beside = ['hashes.tsv', 'values.tsv', 'messages.tsv'].map((name) => join(dirname(vectors), name));
 const texts = [vectors, ...beside].map((path) => readFileSync(path, 'utf8'));
-const entries = { index: await index(), inline: await inline(), module: await connected() };
-for (const check of [compiledBefore, unfit, webCrypto]) test(check.name, () => check(texts[1]));
-for (const check of [largeContent, nodeStreams, unreadStreams]) test(check.name, () => check(entries.index));
-for (const [which, module] of Object.entries(entries)) {
-  test(`declared, ${which}`, () => declared(module, which));
-  for (const [name, check] of testsOf(which)) test(`${name}, ${which}`, () => check(module, ...texts));
-}
+test(webCrypto.name, () => webCrypto(texts[1]));
+for (const check of [declared, largeContent, nodeStreams, unreadStreams]) test(check.name, () => check(index));
+for (const [name, check] of Object.entries(tests)) test(name, () => check(index, ...texts));

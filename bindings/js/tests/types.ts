@@ -6,8 +6,6 @@ import type { ByteStream, Status, Wide } from 'verified-multihash';
 import { CODES, NAMES, hashers, identity, sha256, sha384, sha512, verify } from 'verified-multihash';
 import type { Content } from 'verified-multihash';
 import * as hashes from 'verified-multihash/hashes';
-import * as inline from 'verified-multihash/inline';
-import * as module from 'verified-multihash/module';
 
 type Same<A, B> = (<T>() => T extends A ? 1 : 2) extends <T>() => T extends B ? 1 : 2 ? true : false;
 /** The value has this type and no other, such as `any` or a union with more. */
@@ -86,9 +84,8 @@ is<(reason?: unknown) => Promise<void>>()(reader.cancel);
 is<() => void>()(reader.release);
 is<() => Promise<void>>()(reader[Symbol.asyncDispose]);
 
-is<(module: object) => void>()(module.connect);
 is<string>()(index.version);
-export const entries: (typeof index)[] = [inline, module, hashes];
+export const entries: (typeof index)[] = [hashes];
 
 /** As in js-multiformats, whose `CID.create` takes it. */
 interface MultihashDigest<Code extends number = number> {

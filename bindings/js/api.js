@@ -1,8 +1,0 @@
-// What all three entries of the package export: index.js, inline.js and module.js.
-export {
-  DIGEST_MAX, HEAD_MAX, LENGTH_MAX, SCALE_LENGTH_MAX, Multihash, compare, decode, encode, encodedLength, head, read,
-  scaleDecode, scaleEncode, version,
-} from './core.js';
-export { MultihashError } from './errors.js';
-export * from './hashes.js';
-export { MultihashReader } from './reader.js';
