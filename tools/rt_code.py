@@ -84,7 +84,7 @@ class Parser:
         found: list[Node] = []
         while not self.accept(end):
             found.append(read())
-            if not self.accept(","):
+            if not self.accept(",") and (found[-1].kind != "arm" or found[-1].kids[1].kind != "block"):
                 self.need(end)
                 break
         return found

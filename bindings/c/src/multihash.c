@@ -146,21 +146,6 @@ typedef struct mh_head {
     size_t digest_offset;
 } mh_head;
 
-typedef struct mh_maybe_head {
-    bool is_some;
-    mh_head some;
-} mh_maybe_head;
-
-typedef struct mh_varint {
-    uint64_t number;
-    size_t length;
-} mh_varint;
-
-typedef struct mh_maybe_varint {
-    bool is_some;
-    mh_varint some;
-} mh_maybe_varint;
-
 enum { MH_KIND_OVERFLOW, MH_KIND_INSUFFICIENT, MH_KIND_NOT_MINIMAL, MH_KIND_INVALID_CODE };
 
 typedef struct mh_kind {
@@ -178,6 +163,19 @@ typedef struct mh_error_at {
     size_t taken;
 } mh_error_at;
 
+typedef struct mh_head_or_error_at {
+    bool is_ok;
+    union {
+        mh_head ok;
+        mh_error_at err;
+    };
+} mh_head_or_error_at;
+
+typedef struct mh_varint {
+    uint64_t number;
+    size_t length;
+} mh_varint;
+
 typedef struct mh_varint_or_error_at {
     bool is_ok;
     union {
@@ -189,20 +187,6 @@ typedef struct mh_varint_or_error_at {
 typedef struct mh_bytes_16 {
     uint8_t bytes[16];
 } mh_bytes_16;
-
-typedef struct mh_head_or_error_at {
-    bool is_ok;
-    union {
-        mh_head ok;
-        mh_error_at err;
-    };
-} mh_head_or_error_at;
-
-/* The error of an input with a malformed varint: its status, and the bytes that reading it consumes. */
-typedef struct mh_front_error {
-    uint32_t status;
-    size_t taken;
-} mh_front_error;
 
 typedef struct mh_usize_or_error {
     bool is_ok;
@@ -327,7 +311,7 @@ MH_INLINE mh_varint_or_error_at mh_read_high(mh_u128 word, size_t present)
         .ok = {mh_join_digits(low) | (last << (7 * MH_MAX_CONTINUATION)), MH_MAX_LEN}};
 }
 
-/* Does what `mh_word_read_counted` does, of bytes whose first are in the word. */
+/* Does what `mh_word_read_front` does, of bytes whose first are in the word. */
 MH_INLINE mh_varint_or_error_at mh_read_word(mh_u128 word, size_t present)
 {
     const uint64_t low = word.low;
@@ -350,102 +334,44 @@ MH_INLINE mh_varint_or_error_at mh_read_word(mh_u128 word, size_t present)
     return (mh_varint_or_error_at){.is_ok = true, .ok = {mh_join_digits(varint), continuation_bytes + 1}};
 }
 
-/* Does what `mh_front_by_word` does, of bytes whose first are in the word. */
-MH_INLINE mh_varint mh_front_in_word(mh_u128 word, size_t present)
-{
-    const mh_varint_or_error_at found_result = mh_read_word(word, present);
-    if (found_result.is_ok) {
-        const mh_varint found = found_result.ok;
-        return found;
-    }
-    return (mh_varint){0, 0};
-}
-
-/* The word of at most sixteen bytes, lowest first, with zeros for those that are missing.
+/* Does what `mh_front_word` does, if fewer bytes are there.
  * Proved: length bytes <= 16. */
-MH_INLINE mh_u128 mh_padded_word(const uint8_t *bytes, size_t bytes_length)
+MH_COLD mh_u128 mh_padded_word(const uint8_t *bytes, size_t bytes_length)
 {
     mh_bytes_16 front = {{0}};
     mh_copy(front.bytes, bytes, bytes_length);
     return mh_u128_from_le_bytes(front.bytes);
 }
 
-/* Does what `mh_front_by_word` does, if fewer bytes remain than a word has.
- * Proved: length bytes < 16. */
-MH_NOT_INLINE mh_varint mh_front_by_short_word(const uint8_t *bytes, size_t bytes_length)
+/* The word of the first sixteen bytes, lowest first, with zeros for those that are missing. */
+MH_INLINE mh_u128 mh_front_word(const uint8_t *bytes, size_t bytes_length)
 {
-    return mh_front_in_word(mh_padded_word(bytes, bytes_length), bytes_length);
+    if (bytes_length >= MH_WORD_LEN) return mh_u128_from_le_bytes(bytes);
+    return mh_padded_word(bytes, bytes_length);
 }
 
-/* The number and the length of the varint at the front of the bytes. The length is 0 if it is malformed. */
-MH_NOT_INLINE mh_varint mh_front_by_word(const uint8_t *bytes, size_t bytes_length)
+/* Reads the varint at the front of the bytes: its number and its length. An error comes with the number of bytes
+ * up to and including the one that determines it: all, if they are insufficient. */
+MH_INLINE mh_varint_or_error_at mh_word_read_front(const uint8_t *bytes, size_t bytes_length)
 {
-    if (bytes_length >= MH_WORD_LEN) return mh_front_in_word(mh_u128_from_le_bytes(bytes), MH_WORD_LEN);
-    return mh_front_by_short_word(bytes, bytes_length);
-}
-
-/* The number and the length of the varint at the front of the bytes, or nothing if it is malformed;
- * `mh_word_read_counted` then returns why. */
-MH_INLINE mh_maybe_varint mh_word_read_front(const uint8_t *bytes, size_t bytes_length)
-{
-    /* Most varints have one byte, which needs no word. */
-    if (bytes_length >= 1 && bytes[0] < 128) {
-        return (mh_maybe_varint){.is_some = true, .some = {(uint64_t)bytes[0], 1}};
-    }
-    const mh_varint number_and_len = mh_front_by_word(bytes, bytes_length);
-    const uint64_t number = number_and_len.number;
-    const size_t len = number_and_len.length;
-    if (len == 0) return (mh_maybe_varint){.is_some = false};
-    return (mh_maybe_varint){.is_some = true, .some = {number, len}};
-}
-
-/* Reads the varint at the front as `mh_word_read_front` does. An error comes with the number of bytes up to and
- * including the one that determines it: all, if they are insufficient. */
-MH_COLD mh_varint_or_error_at mh_word_read_counted(const uint8_t *bytes, size_t bytes_length)
-{
-    /* Mostly a code, before a malformed size. */
+    /* Most varints have one byte. */
     if (bytes_length >= 1 && bytes[0] < 128) {
         return (mh_varint_or_error_at){.is_ok = true, .ok = {(uint64_t)bytes[0], 1}};
     }
-    const uint8_t *const front = bytes;
-    const size_t front_length = mh_usize_min(bytes_length, MH_WORD_LEN);
-    return mh_read_word(mh_padded_word(front, front_length), front_length);
+    return mh_read_word(mh_front_word(bytes, bytes_length), mh_usize_min(bytes_length, MH_WORD_LEN));
 }
 
 /* ---- multihash/src/head.rt
  * The two varints at the front of an encoding, for callers that keep the digest where it is. */
 
-/* Finds the two varints at the front of `bytes`. Returns nothing if one of them is malformed. */
-MH_INLINE mh_maybe_head mh_head_find_front(const uint8_t *bytes, size_t bytes_length)
+/* Does what `mh_head_read_counted` does, for all bytes. */
+MH_COLD mh_head_or_error_at mh_read_longer(const uint8_t *bytes, size_t bytes_length)
 {
-    /* Mostly each varint has one byte. */
-    if (bytes_length >= 2 && bytes[0] < 128 && bytes[1] < 128) {
-        return (mh_maybe_head){.is_some = true,
-            .some = {.code = (uint64_t)bytes[0], .digest_len = (uint64_t)bytes[1], .digest_offset = 2}};
-    }
-    const mh_maybe_varint maybe_code = mh_word_read_front(bytes, bytes_length);
-    if (!maybe_code.is_some) return (mh_maybe_head){.is_some = false};
-    const uint64_t code = maybe_code.some.number;
-    const size_t code_len = maybe_code.some.length;
-    const mh_maybe_varint maybe_digest_len = mh_word_read_front(bytes + code_len, bytes_length - code_len);
-    if (!maybe_digest_len.is_some) return (mh_maybe_head){.is_some = false};
-    const uint64_t digest_len = maybe_digest_len.some.number;
-    const size_t size_len = maybe_digest_len.some.length;
-    /* The sum is at most the number of bytes. */
-    return (mh_maybe_head){.is_some = true,
-        .some = {.code = code, .digest_len = digest_len, .digest_offset = code_len + size_len}};
-}
-
-/* Reads the two varints at the front of `bytes`. An error comes with the number of bytes that reading
- * consumes: all of an insufficient input, otherwise those up to and including the byte that determines
- * the error. */
-MH_COLD mh_head_or_error_at mh_head_read_counted(const uint8_t *bytes, size_t bytes_length)
-{
-    const mh_varint_or_error_at code_result = mh_word_read_counted(bytes, bytes_length);
+    const mh_varint_or_error_at code_result = mh_word_read_front(bytes, bytes_length);
     if (!code_result.is_ok) return (mh_head_or_error_at){.is_ok = false, .err = code_result.err};
     const uint64_t code = code_result.ok.number;
     const size_t code_len = code_result.ok.length;
-    const mh_varint_or_error_at digest_len_result = mh_word_read_counted(bytes + code_len,
+    const mh_varint_or_error_at digest_len_result = mh_word_read_front(bytes + code_len,
         bytes_length - code_len);
     if (digest_len_result.is_ok) {
         const uint64_t digest_len = digest_len_result.ok.number;
@@ -458,6 +384,19 @@ MH_COLD mh_head_or_error_at mh_head_read_counted(const uint8_t *bytes, size_t by
     const size_t taken = digest_len_result.err.taken;
     /* The sum is at most the number of bytes. */
     return (mh_head_or_error_at){.is_ok = false, .err = {error, code_len + taken}};
+}
+
+/* Reads the two varints at the front of `bytes`. An error comes with the number of bytes that reading
+ * consumes: all of an insufficient input, otherwise those up to and including the byte that determines
+ * the error. */
+MH_INLINE mh_head_or_error_at mh_head_read_counted(const uint8_t *bytes, size_t bytes_length)
+{
+    /* Mostly each varint has one byte. */
+    if (bytes_length >= 2 && bytes[0] < 128 && bytes[1] < 128) {
+        return (mh_head_or_error_at){.is_ok = true,
+            .ok = {.code = (uint64_t)bytes[0], .digest_len = (uint64_t)bytes[1], .digest_offset = 2}};
+    }
+    return mh_read_longer(bytes, bytes_length);
 }
 
 /* ---- multihash_c/src/lib.rt
@@ -488,65 +427,6 @@ static inline int32_t mh_sign(mh_ordering order)
     }
 }
 
-/* The eight bytes from that index on as a number.
- * Proved: at + 8 <= length bytes. */
-MH_INLINE uint64_t mh_word_at(const uint8_t *bytes, size_t at)
-{
-    return mh_u64_from_le_bytes(bytes + at);
-}
-
-/* Whether the eight bytes from that index on are equal too, if those before it are.
- * Proved: at + 8 <= length a; at + 8 <= length b. */
-MH_INLINE bool mh_same_word(const uint8_t *a, const uint8_t *b, size_t at)
-{
-    return mh_word_at(a, at) == mh_word_at(b, at);
-}
-
-/* How two words compare that differ, from their lowest byte on. In line the compiler would swap the bytes
- * of equal words too. */
-MH_NOT_INLINE int32_t mh_sign_of_words(uint64_t a, uint64_t b)
-{
-    if (mh_u64_swap_bytes(a) < mh_u64_swap_bytes(b)) return -1;
-    return 1;
-}
-
-/* How bytes compare that are equal before an index, and differ in the word there.
- * Proved: at + 8 <= length a; at + 8 <= length b. */
-MH_INLINE int32_t mh_sign_at(const uint8_t *a, const uint8_t *b, size_t at)
-{
-    return mh_sign_of_words(mh_word_at(a, at), mh_word_at(b, at));
-}
-
-/* How bytes compare that are equal before an index, with 8 to 16 from there on: by the word there and by
- * the last one, which may overlap.
- * Proved: at + 8 <= length a; length a <= at + 16; length a == length b. */
-MH_INLINE int32_t mh_compare_last(const uint8_t *a, size_t a_length, const uint8_t *b, size_t at)
-{
-    if (!mh_same_word(a, b, at)) return mh_sign_at(a, b, at);
-    const size_t last = a_length - 8;
-    if (!mh_same_word(a, b, last)) return mh_sign_at(a, b, last);
-    return 0;
-}
-
-/* How 16 to 32 bytes compare, by four words; the last two may overlap those before.
- * Proved: 16 <= length a; length a <= 32; length a == length b. */
-MH_INLINE int32_t mh_compare_usual(const uint8_t *a, size_t a_length, const uint8_t *b)
-{
-    if (!mh_same_word(a, b, 0)) return mh_sign_at(a, b, 0);
-    if (!mh_same_word(a, b, 8)) return mh_sign_at(a, b, 8);
-    return mh_compare_last(a, a_length, b, a_length - 16);
-}
-
-/* How bytes of the same length compare. For 8 to 32 words need fewer instructions than `cmp`, in C `memcmp`.
- * Proved: length a == length b. */
-MH_INLINE int32_t mh_compare_bytes(const uint8_t *a, size_t a_length, const uint8_t *b, size_t b_length)
-{
-    if (16 <= a_length && a_length <= 32) return mh_compare_usual(a, a_length, b);
-    if (a_length > 32) return mh_sign(mh_slice_cmp(a, a_length, b, b_length));
-    if (a_length >= 8) return mh_compare_last(a, a_length, b, 0);
-    return mh_sign(mh_slice_cmp(a, a_length, b, b_length));
-}
-
 /* Compares two codes and digests by code, then by digest length, then by the first digest byte that
  * differs. */
 int32_t multihash_compare(uint64_t left_code, const uint8_t *left_digest, size_t left_digest_length,
@@ -556,42 +436,17 @@ int32_t multihash_compare(uint64_t left_code, const uint8_t *left_digest, size_t
     if (left_digest_length != right_digest_length) {
         return mh_sign(mh_usize_cmp(left_digest_length, right_digest_length));
     }
-    return mh_compare_bytes(left_digest, left_digest_length, right_digest, right_digest_length);
+    return mh_sign(mh_slice_cmp(left_digest, left_digest_length, right_digest, right_digest_length));
 }
 
 /* ---- multihash_c/src/decode.rt
  * Decoding, for C. */
-
-/* Whether both varints have one byte, as mostly. That case is compiled in line, where the compiler leaves out
- * tests of the same bytes. The other is compiled once, out of line, from the same function. */
-MH_INLINE bool mh_is_short(const uint8_t *bytes, size_t bytes_length)
-{
-    return bytes_length >= 2 && bytes[0] < 128 && bytes[1] < 128;
-}
 
 /* The result with that status, which has no digest. */
 static inline multihash_decoded mh_rejected(uint32_t status, uint64_t size, uint64_t code, size_t taken)
 {
     return (multihash_decoded){.status = status, .size = size, .code = code, .digest_offset = 0,
         .digest_length = 0, .taken = taken};
-}
-
-/* The status of the error of a malformed varint. */
-static inline uint32_t mh_varint_status(mh_error error)
-{
-    if (mh_error_is_insufficient(error)) return MULTIHASH_INSUFFICIENT;
-    if (mh_error_is_overflow(error)) return MULTIHASH_OVERFLOW;
-    return MULTIHASH_NOT_MINIMAL;
-}
-
-/* Returns the error of an input with a malformed varint. */
-MH_COLD mh_front_error mh_error_of(const uint8_t *bytes, size_t bytes_length)
-{
-    const mh_head_or_error_at error_result = mh_head_read_counted(bytes, bytes_length);
-    /* Proved: !error_result.is_ok. */
-    const mh_error error = error_result.err.error;
-    const size_t taken = error_result.err.taken;
-    return (mh_front_error){.status = mh_varint_status(error), .taken = taken};
 }
 
 /* The result for an invalid size: of a digest that is too long, or the number of trailing bytes. */
@@ -614,38 +469,40 @@ static inline multihash_decoded mh_rejected_end(size_t taken)
     return mh_rejected(MULTIHASH_UNEXPECTED_EOF, 0, 0, taken);
 }
 
+/* The status of the error of a malformed varint. */
+static inline uint32_t mh_varint_status(mh_error error)
+{
+    if (mh_error_is_insufficient(error)) return MULTIHASH_INSUFFICIENT;
+    if (mh_error_is_overflow(error)) return MULTIHASH_OVERFLOW;
+    return MULTIHASH_NOT_MINIMAL;
+}
+
 /* Decodes each input of that many bytes that begins with the front. No digest is read, so only the two
  * varints have to be there.
  * Proved: length front <= whole_length. */
 MH_INLINE multihash_decoded mh_decode_whole(const uint8_t *front, size_t front_length, size_t whole_length)
 {
-    const mh_maybe_head maybe_head = mh_head_find_front(front, front_length);
-    if (!maybe_head.is_some) {
-        return mh_rejected(mh_error_of(front, front_length).status, 0, 0, whole_length);
+    const mh_head_or_error_at head_result = mh_head_read_counted(front, front_length);
+    if (head_result.is_ok) {
+        const mh_head head = head_result.ok;
+        if (head.digest_len > (uint64_t)MH_DIGEST_MAX) {
+            return mh_decode_rejected_size(head.digest_len, whole_length);
+        }
+        /* This is at most 255. */
+        const size_t size = (size_t)head.digest_len;
+        const size_t left = whole_length - head.digest_offset;
+        if (left == size) return mh_accept(head.code, size, whole_length);
+        if (left < size) return mh_rejected_end(whole_length);
+        return mh_decode_rejected_size((uint64_t)(left - size), whole_length);
     }
-    const mh_head head = maybe_head.some;
-    if (head.digest_len > (uint64_t)MH_DIGEST_MAX) {
-        return mh_decode_rejected_size(head.digest_len, whole_length);
-    }
-    /* This is at most 255. */
-    const size_t size = (size_t)head.digest_len;
-    const size_t left = whole_length - head.digest_offset;
-    if (left == size) return mh_accept(head.code, size, whole_length);
-    if (left < size) return mh_rejected_end(whole_length);
-    return mh_decode_rejected_size((uint64_t)(left - size), whole_length);
-}
-
-/* Does what `multihash_from_bytes` does, for an input that is not short. */
-MH_COLD multihash_decoded mh_decode_longer(const uint8_t *bytes, size_t bytes_length)
-{
-    return mh_decode_whole(bytes, bytes_length, bytes_length);
+    const mh_error error = head_result.err.error;
+    return mh_rejected(mh_varint_status(error), 0, 0, whole_length);
 }
 
 /* Decodes the multihash whose encoding is the whole of `bytes`. */
 multihash_decoded multihash_from_bytes(const uint8_t *bytes, size_t bytes_length)
 {
-    if (mh_is_short(bytes, bytes_length)) return mh_decode_whole(bytes, bytes_length, bytes_length);
-    return mh_decode_longer(bytes, bytes_length);
+    return mh_decode_whole(bytes, bytes_length, bytes_length);
 }
 
 /* Decodes an input of `whole_length` bytes as `multihash_from_bytes` does, by its first bytes. `prefix` has
@@ -660,41 +517,27 @@ multihash_decoded multihash_from_prefix(const uint8_t *prefix, size_t prefix_len
  * and at most 255. `multihash_read`, `multihash_read_limit` and `multihash_read_many` call it. */
 MH_INLINE multihash_decoded mh_decode_read_within(const uint8_t *bytes, size_t bytes_length, size_t limit)
 {
-    const mh_maybe_head maybe_head = mh_head_find_front(bytes, bytes_length);
-    if (!maybe_head.is_some) {
-        const mh_front_error error = mh_error_of(bytes, bytes_length);
-        return mh_rejected(error.status, 0, 0, error.taken);
+    const mh_head_or_error_at head_result = mh_head_read_counted(bytes, bytes_length);
+    if (head_result.is_ok) {
+        const mh_head head = head_result.ok;
+        if (head.digest_len > (uint64_t)limit || head.digest_len > (uint64_t)MH_DIGEST_MAX) {
+            return mh_decode_rejected_size(head.digest_len, head.digest_offset);
+        }
+        /* This is at most 255. */
+        const size_t size = (size_t)head.digest_len;
+        if (bytes_length - head.digest_offset < size) return mh_rejected_end(head.digest_offset);
+        /* The digest is in `bytes`, so the sum is at most their number. */
+        return mh_accept(head.code, size, head.digest_offset + size);
     }
-    const mh_head head = maybe_head.some;
-    if (head.digest_len > (uint64_t)limit || head.digest_len > (uint64_t)MH_DIGEST_MAX) {
-        return mh_decode_rejected_size(head.digest_len, head.digest_offset);
-    }
-    /* This is at most 255. */
-    const size_t size = (size_t)head.digest_len;
-    if (bytes_length - head.digest_offset < size) return mh_rejected_end(head.digest_offset);
-    /* The digest is in `bytes`, so the sum is at most their number. */
-    return mh_accept(head.code, size, head.digest_offset + size);
-}
-
-/* Does what `mh_decode_read_first` does, for an input that is not short. */
-MH_COLD multihash_decoded mh_read_longer(const uint8_t *bytes, size_t bytes_length)
-{
-    return mh_decode_read_within(bytes, bytes_length, MH_DIGEST_MAX);
-}
-
-/* What `multihash_read` returns. */
-MH_INLINE multihash_decoded mh_decode_read_first(const uint8_t *bytes, size_t bytes_length)
-{
-    if (mh_is_short(bytes, bytes_length)) {
-        return mh_decode_read_within(bytes, bytes_length, MH_DIGEST_MAX);
-    }
-    return mh_read_longer(bytes, bytes_length);
+    const mh_error error = head_result.err.error;
+    const size_t taken = head_result.err.taken;
+    return mh_rejected(mh_varint_status(error), 0, 0, taken);
 }
 
 /* Decodes the multihash whose encoding is at the front of `bytes`. */
 multihash_decoded multihash_read(const uint8_t *bytes, size_t bytes_length)
 {
-    return mh_decode_read_first(bytes, bytes_length);
+    return mh_decode_read_within(bytes, bytes_length, MH_DIGEST_MAX);
 }
 
 /* Decodes the multihash whose encoding is at the front of `bytes`, with a digest of at most `limit`
@@ -704,31 +547,20 @@ multihash_decoded multihash_read_limit(const uint8_t *bytes, size_t bytes_length
     return mh_decode_read_within(bytes, bytes_length, limit);
 }
 
-/* What `multihash_head` returns. */
-MH_INLINE multihash_front mh_head_of(const uint8_t *bytes, size_t bytes_length)
-{
-    const mh_maybe_head maybe_head = mh_head_find_front(bytes, bytes_length);
-    if (!maybe_head.is_some) {
-        const mh_front_error error = mh_error_of(bytes, bytes_length);
-        return (multihash_front){.status = error.status, .code = 0, .digest_length = 0, .taken = error.taken};
-    }
-    const mh_head head = maybe_head.some;
-    return (multihash_front){.status = MULTIHASH_OK, .code = head.code, .digest_length = head.digest_len,
-        .taken = head.digest_offset};
-}
-
-/* Does what `multihash_head` does, for an input that is not short. */
-MH_COLD multihash_front mh_head_of_longer(const uint8_t *bytes, size_t bytes_length)
-{
-    return mh_head_of(bytes, bytes_length);
-}
-
 /* Decodes the two varints at the front of `bytes`, the code and the digest's length. It does not check
  * the digest. */
 multihash_front multihash_head(const uint8_t *bytes, size_t bytes_length)
 {
-    if (mh_is_short(bytes, bytes_length)) return mh_head_of(bytes, bytes_length);
-    return mh_head_of_longer(bytes, bytes_length);
+    const mh_head_or_error_at head_result = mh_head_read_counted(bytes, bytes_length);
+    if (head_result.is_ok) {
+        const mh_head head = head_result.ok;
+        return (multihash_front){.status = MULTIHASH_OK, .code = head.code, .digest_length = head.digest_len,
+            .taken = head.digest_offset};
+    }
+    const mh_error error = head_result.err.error;
+    const size_t taken = head_result.err.taken;
+    return (multihash_front){.status = mh_varint_status(error), .code = 0, .digest_length = 0,
+        .taken = taken};
 }
 
 /* The result for a code that is out of range. */
@@ -1000,7 +832,8 @@ multihash_batch multihash_read_many(const uint8_t *bytes, size_t bytes_length, m
     size_t count = 0;
     size_t taken = 0;
     while (count < out_length && taken < bytes_length) {
-        const multihash_decoded found = mh_decode_read_first(bytes + taken, bytes_length - taken);
+        const multihash_decoded found = mh_decode_read_within(bytes + taken, bytes_length - taken,
+            MH_DIGEST_MAX);
         if (found.status != MULTIHASH_OK) return mh_stopped(found, count, taken);
         /* The sum is at most the number of bytes. */
         out[count] = (multihash_item){.code = found.code, .digest_offset = taken + found.digest_offset,

@@ -39,6 +39,10 @@ static PyObject *multihash_new(PyTypeObject *type, PyObject *arguments, PyObject
     }
     PyObject *module = module_of_type(type);
     Py_DECREF(digest.owner);
+    if (module == NULL) {
+        Py_DECREF(code);
+        return NULL;
+    }
     return encoding_error(module, length.status, PyLong_FromSize_t(digest.whole), code);
 }
 

@@ -49,27 +49,8 @@ pub bytes_of : (xs : List ℕ) → ((i : ℕ) → get_or xs i 0 < 256) → IsByt
 bytes_of xs each = All-from_get_or (λ b. b < 256) xs 0 (λ i _. each i)
 
 -- the word of a slice's first sixteen bytes
-pub full_front_word : (xs front : List ℕ) (word : ℕ) → word ≡ from_le_bytes w128 front → front ≡ take 16 xs → 16 ≤ length xs
-    → IsFrontWord xs word 16
-full_front_word xs front word is same enough = record {
-  word_is = is ∙ (le_word front (ap length same ∙ length-take-le 16 xs enough) ∙ ap (place_value 256) same);
-  present_is = omega arith;
-}
-
--- the word of all bytes of a slice that has fewer
-pub padded_front_word : (xs : List ℕ) (word : ℕ) → length xs < 16 → word ≡ place_value 256 xs → IsFrontWord xs word (length xs)
-padded_front_word xs word few is = record {
-  word_is = is ∙ ap (place_value 256) (sym (take_all 16 xs (omega arith)));
-  present_is = omega arith;
-}
-
--- the word of as many bytes as there are, at most sixteen
-pub cut_front : (xs : List ℕ) (n word : ℕ) → n ≡ min 16 (length xs) → word ≡ place_value 256 (take n xs)
-    → IsFrontWord xs word (length (take n xs))
-cut_front xs n word few is = record {
-  word_is = is ∙ ap (place_value 256) (ap (λ (k : ℕ). take k xs) few ∙ take_min 16 xs);
-  present_is = omega (arith, length-take n xs);
-}
+pub full_word : (xs front : List ℕ) → front ≡ take 16 xs → 16 ≤ length xs → from_le_bytes w128 front ≡ place_value 256 (take 16 xs)
+full_word xs front same enough = le_word front (ap length same ∙ length-take-le 16 xs enough) ∙ ap (place_value 256) same
 
 -- ---- the end of the continuation bytes at the front of an input
 
@@ -239,6 +220,3 @@ module _ (xs : List ℕ) (word present : ℕ) (bytes : IsBytes xs) (f : IsFrontW
           ap (digits_low 8) low_is ∙ digits_low_of 8 front (first_bytes 8) (omega (arith, length-take 8 xs)) in
           let high : ninth ≡ place_value 128 (low_digits (ninth ∷ [])) = omega (arith, small, place_value-cons 128 (ninth % 128) [], place_value-nil 128) in
           rw (low, high, or_digits front (ninth ∷ []) 8 (length-take-le 8 xs begins.enough) (omega (arith, rw cut at number.in_range)), ← cut) number
-
--- fewer bytes than a word has, for the tactics
-pub ruleset short_front = (bytes_of, padded_front_word)

@@ -5,7 +5,7 @@ use Rattle.std.proofs.Common.{sym, ap, ◌∙◌, append_assoc, append-nil}
 use Rattle.std.proofs.lemmas.List.{map-append}
 use Rattle.std.proofs.lemmas.List.Elements.{All-nil, All-append}
 use Rattle.multihash.specs.Bytes.{place_value, IsBytes}
-use Rattle.multihash.specs.Varint.{IsContinuation, IsVarint, IsMalformed}
+use Rattle.multihash.specs.Varint.{IsContinuation}
 use Rattle.serde_json.specs.Data.{Num, unsigned, negative, float, Data, null, boolean, number, string, array, object}
 use Rattle.serde_json.specs.View.{view}
 use Rattle.serde_json.specs.declared.value.Value.{Value}
@@ -22,12 +22,6 @@ pub record IsFrontWord (bytes : List ℕ) (word present : ℕ) : Type 0 where
 pub record BeginsWithContinuation (count : ℕ) (bytes : List ℕ) : Type 0 where
   pub enough : count ≤ length bytes
   pub all_continuation : All IsContinuation (take count bytes)
-
--- the number and the length of the varint at the front of the bytes, or no length if it is malformed
-pub record IsFoundFront (bytes : List ℕ) (number consumed : ℕ) : Type 0 where
-  pub some : 0 < consumed → IsVarint number (take consumed bytes)
-  pub within : consumed ≤ length bytes
-  pub none : consumed ≡ 0 → IsMalformed bytes
 
 -- the low seven bits of each of the lowest n bytes, seven bits apart
 unfoldable pub digits_low : ℕ → ℕ → ℕ

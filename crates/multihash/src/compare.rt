@@ -1,85 +1,22 @@
 //! Comparison and hashing.
-ghost use Rattle.std.specs.Prelude.{◌≡◌, ◌==◌, ◌<◌, ◌≤◌, ◌+◌, ◌↔◌, length, take, drop, Some, IsTrue};
+ghost use Rattle.std.specs.Prelude.{◌≡◌, ◌==◌, ◌↔◌, Some, IsTrue};
 ghost use Rattle.std.proofs.Common.{rules};
 ghost use Rattle.std.specs.Cmp.{partial_order_from_own_ties};
-ghost use Rattle.std.specs.Cmp.Lexicographic.{pointwise, slice_cmp};
 ghost use Rattle.std.specs.Cmp.Rules.{comparing, hashing};
-ghost use Rattle.std.specs.Int.{from_be_bytes, w64};
-ghost use Rattle.std.specs.Ordering.{nat_cmp, on, eq_of_both, then_cmp, as_partial_cmp};
+ghost use Rattle.std.specs.Ordering.{on, as_partial_cmp};
 ghost use Rattle.multihash.specs.Comparing.{equal_pairs, compare_pairs, hashed_pair};
 ghost use Rattle.multihash.specs.Multihash.{pair_of};
 
 use crate::Multihash;
 use std::cmp::Ordering;
 use std::hash::{Hash, Hasher};
-use std::simd::prelude::*;
 
 impl<const S: usize> Multihash<S> {
     /// Returns whether both have the same code and the same digest, whatever their capacities.
     pub fn same_as<const B: usize>(&self, other: &Multihash<B>) -> bool
         ensures { IsTrue result ↔ (pair_of self.now ≡ pair_of other.now) }
     {
-        self.code == other.code && self.same_digest(other)
-    }
-
-    // Whether the digests are equal: by a call, so that callers compare the codes in line. Those of 16 to 64
-    // bytes are compared as vectors. Tests that `S` decides are not compiled.
-    #[inline(never)]
-    fn same_digest<const B: usize>(&self, other: &Multihash<B>) -> bool
-        ensures { result ≡ eq_of_both (on length ◌==◌) (pointwise ◌==◌) (pair_of self.now).digest
-            (pair_of other.now).digest }
-    {
-        if self.size != other.size {
-            return false;
-        }
-        if S > 64 && self.size > 64 {
-            return self.digest() == other.digest();
-        }
-        if S > 32 && self.size > 32 {
-            return same_ends_of_32(self.digest(), other.digest());
-        }
-        if S >= 16 && self.size >= 16 {
-            return same_ends_of_16(self.digest(), other.digest());
-        }
-        self.size == 0 || self.order_of_few(other).is_eq()
-    }
-
-    // How the digests compare, by their lengths first: by a call, as `same_digest`. Those of 8 to 64 bytes are
-    // compared by words.
-    #[inline(never)]
-    fn order_of_digest(&self, other: &Self) -> Ordering
-        ensures { result ≡ then_cmp (on length nat_cmp) (slice_cmp nat_cmp) (pair_of self.now).digest
-            (pair_of other.now).digest }
-    {
-        if self.size != other.size {
-            return self.size.cmp(&other.size);
-        }
-        if S > 64 && self.size > 64 {
-            return self.digest().cmp(other.digest());
-        }
-        if S > 32 && self.size > 32 {
-            return order_of_many(self.digest(), other.digest());
-        }
-        if S >= 16 && self.size >= 16 {
-            return order_from(self.digest(), other.digest(), 0);
-        }
-        self.order_of_few(other)
-    }
-
-    // How digests of fewer than 16 bytes compare.
-    #[inline(always)]
-    fn order_of_few<const B: usize>(&self, other: &Multihash<B>) -> Ordering
-        requires few { length (pair_of self.now).digest < 16 }
-        requires same { length (pair_of self.now).digest ≡ length (pair_of other.now).digest }
-        ensures { result ≡ slice_cmp nat_cmp (pair_of self.now).digest (pair_of other.now).digest }
-    {
-        if S < 8 || B < 8 {
-            return self.digest().cmp(other.digest());
-        }
-        if self.size >= 8 {
-            return order_last(self.digest(), other.digest(), 0);
-        }
-        order_of_first(&self.digest, &other.digest, self.size)
+        self.code == other.code && self.digest() == other.digest()
     }
 }
 
@@ -117,7 +54,10 @@ impl<const S: usize> Ord for Multihash<S> {
         if self.code != other.code {
             return self.code.cmp(&other.code);
         }
-        self.order_of_digest(other)
+        if self.size != other.size {
+            return self.size.cmp(&other.size);
+        }
+        self.digest().cmp(other.digest())
     }
 }
 
@@ -142,148 +82,4 @@ impl<const S: usize> Hash for Multihash<S> {
         self.code.hash(state);
         self.digest().hash(state);
     }
-}
-
-// Whether 16 to 32 bytes are equal, by their first and their last sixteen, which may overlap. Both
-// are compared, so that one branch decides.
-#[inline(always)]
-fn same_ends_of_16(a: &[u8], b: &[u8]) -> bool
-    requires least { 16 ≤ length a.now }
-    requires most { length a.now ≤ 32 }
-    requires same { length a.now ≡ length b.now }
-    ensures { result ≡ pointwise ◌==◌ a.now b.now }
-{
-    let last = a.len() - 16;
-    let front = u8x16::from_slice(a).simd_eq(u8x16::from_slice(b));
-    let back = u8x16::from_slice(&a[last..]).simd_eq(u8x16::from_slice(&b[last..]));
-    (front & back).all()
-}
-
-// Whether 32 to 64 bytes are equal, by their first and their last 32.
-#[inline(always)]
-fn same_ends_of_32(a: &[u8], b: &[u8]) -> bool
-    requires least { 32 ≤ length a.now }
-    requires most { length a.now ≤ 64 }
-    requires same { length a.now ≡ length b.now }
-    ensures { result ≡ pointwise ◌==◌ a.now b.now }
-{
-    let last = a.len() - 32;
-    let front = u8x32::from_slice(a).simd_eq(u8x32::from_slice(b));
-    let back = u8x32::from_slice(&a[last..]).simd_eq(u8x32::from_slice(&b[last..]));
-    (front & back).all()
-}
-
-// How 33 to 64 bytes compare: by the first word, by which random ones differ, and then by whether the first 32
-// are equal as vectors, as those are which differ only near the end.
-#[inline(always)]
-#[tactic(auto, using(crate::proofs::WordOrderLemmas::shorter_front))]
-fn order_of_many(a: &[u8], b: &[u8]) -> Ordering
-    requires least { 32 ≤ length a.now }
-    requires most { length a.now ≤ 64 }
-    requires same { length a.now ≡ length b.now }
-    ensures { result ≡ slice_cmp nat_cmp a.now b.now }
-{
-    if !same_word(a, b, 0) {
-        return order_at(a, b, 0);
-    }
-    if same_ends_of_16(&a[..32], &b[..32]) {
-        return order_from(a, b, a.len() - 32);
-    }
-    if !same_word(a, b, 8) {
-        return order_at(a, b, 8);
-    }
-    if !same_word(a, b, 16) {
-        return order_at(a, b, 16);
-    }
-    order_at(a, b, 24)
-}
-
-// How bytes compare that are equal before an index, with 16 to 32 from there on.
-#[inline(always)]
-#[tactic(auto, using(crate::proofs::WordOrderLemmas::shorter_front))]
-fn order_from(a: &[u8], b: &[u8], at: usize) -> Ordering
-    requires least { at + 16 ≤ length a.now }
-    requires most { length a.now ≤ at + 32 }
-    requires same { length a.now ≡ length b.now }
-    requires front { take at a.now ≡ take at b.now }
-    ensures { result ≡ slice_cmp nat_cmp a.now b.now }
-{
-    if !same_word(a, b, at) {
-        return order_at(a, b, at);
-    }
-    if !same_word(a, b, at + 8) {
-        return order_at(a, b, at + 8);
-    }
-    order_last(a, b, a.len() - 16)
-}
-
-// How bytes compare that are equal before an index, with 8 to 16 from there on: by the word there and by
-// the last one, which may overlap.
-#[inline(always)]
-#[tactic(auto, using(crate::proofs::WordOrderLemmas::shorter_front, crate::proofs::WordOrderLemmas::whole_front))]
-fn order_last(a: &[u8], b: &[u8], at: usize) -> Ordering
-    requires least { at + 8 ≤ length a.now }
-    requires most { length a.now ≤ at + 16 }
-    requires same { length a.now ≡ length b.now }
-    requires front { take at a.now ≡ take at b.now }
-    ensures { result ≡ slice_cmp nat_cmp a.now b.now }
-{
-    if !same_word(a, b, at) {
-        return order_at(a, b, at);
-    }
-    order_at(a, b, a.len() - 8)
-}
-
-// How bytes compare that are equal before an index, and differ in the word there if they differ.
-#[inline(always)]
-fn order_at(a: &[u8], b: &[u8], at: usize) -> Ordering
-    requires a { at + 8 ≤ length a.now }
-    requires b { at + 8 ≤ length b.now }
-    requires front { take at a.now ≡ take at b.now }
-    requires decides { take (at + 8) a.now ≡ take (at + 8) b.now → a.now ≡ b.now }
-    ensures { result ≡ slice_cmp nat_cmp a.now b.now }
-{
-    word_at(a, at).cmp(&word_at(b, at))
-}
-
-// How the first bytes compare, of which there are fewer than 8: as numbers, which are the high parts of words.
-#[inline(always)]
-fn order_of_first(a: &[u8], b: &[u8], count: usize) -> Ordering
-    requires a { 8 ≤ length a.now }
-    requires b { 8 ≤ length b.now }
-    requires few { count < 8 }
-    ensures { result ≡ slice_cmp nat_cmp (take count a.now) (take count b.now) }
-{
-    // Of no byte, one shift would be by all 64 bits.
-    let unused = 56 - 8 * count;
-    (word_at(a, 0) >> 8 >> unused).cmp(&(word_at(b, 0) >> 8 >> unused))
-}
-
-// Whether the eight bytes from that index on are equal too, if those before it are.
-#[inline(always)]
-fn same_word(a: &[u8], b: &[u8], at: usize) -> bool
-    requires a { at + 8 ≤ length a.now }
-    requires b { at + 8 ≤ length b.now }
-    requires front { take at a.now ≡ take at b.now }
-    ensures { IsTrue result ↔ (take (at + 8) a.now ≡ take (at + 8) b.now) }
-{
-    word_at(a, at) == word_at(b, at)
-}
-
-// The eight bytes from that index on as a number, the first as the highest.
-#[inline(always)]
-fn word_at(bytes: &[u8], at: usize) -> u64
-    requires { at + 8 ≤ length bytes.now }
-    ensures { result ≡ from_be_bytes w64 (take 8 (drop at bytes.now)) }
-{
-    u64::from_be_bytes([
-        bytes[at],
-        bytes[at + 1],
-        bytes[at + 2],
-        bytes[at + 3],
-        bytes[at + 4],
-        bytes[at + 5],
-        bytes[at + 6],
-        bytes[at + 7],
-    ])
 }

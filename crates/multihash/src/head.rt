@@ -1,5 +1,5 @@
 //! The two varints at the front of an encoding, for callers that keep the digest where it is.
-ghost use Rattle.std.specs.Prelude.{ℕ, IfOk, IfErr, IfSome, IfNone};
+ghost use Rattle.std.specs.Prelude.{ℕ, IfOk, IfErr};
 ghost use Rattle.multihash.specs.Varint.{VarintError};
 ghost use Rattle.multihash.specs.Verdict.{malformed, HasVerdict, HasHead};
 ghost use Rattle.multihash.specs.Refusal.{IsVarintError};
@@ -37,51 +37,40 @@ impl Head {
         ensures err { IfErr result (λ e. (error : VarintError) × IsVarintError error e
             × ((S : ℕ) → HasVerdict S bytes.now (malformed error))) }
     {
-        if let Some(head) = Self::find_front(bytes) {
-            return Ok(head);
-        }
         match Self::read_counted(bytes) {
             Ok(head) => Ok(head),
             Err((error, _)) => Err(error),
         }
     }
 
-    /// Finds the two varints at the front of `bytes`. Returns nothing if one of them is malformed.
+    /// Reads the two varints at the front of `bytes`. An error comes with the number of bytes that reading
+    /// consumes: all of an insufficient input, otherwise those up to and including the byte that determines
+    /// the error.
     #[inline(always)]
-    pub fn find_front(bytes: &[u8]) -> Option<Self>
-        ensures some { IfSome result (λ h. HasHead h.code h.digest_len h.digest_offset bytes.now) }
-        ensures none { IfNone result ((error : VarintError)
-            × ((S : ℕ) → HasVerdict S bytes.now (malformed error))) }
+    pub fn read_counted(bytes: &[u8]) -> Result<Self, (Error, usize)>
+        ensures ok { IfOk result (λ h. HasHead h.code h.digest_len h.digest_offset bytes.now) }
+        ensures err { IfErr result (λ e. IsHeadError bytes.now e.0 e.1) }
     {
         // Mostly each varint has one byte.
         if bytes.len() >= 2 && bytes[0] < 128 && bytes[1] < 128 {
-            return Some(Head {
+            return Ok(Head {
                 code: u64::from(bytes[0]),
                 digest_len: u64::from(bytes[1]),
                 digest_offset: 2,
             });
         }
-        let (code, code_len) = word::read_front(bytes)?;
-        let (digest_len, size_len) = word::read_front(&bytes[code_len..])?;
-        // The sum is at most the number of bytes.
-        Some(Head {
-            code,
-            digest_len,
-            digest_offset: code_len + size_len,
-        })
+        Self::read_longer(bytes)
     }
 
-    /// Reads the two varints at the front of `bytes`. An error comes with the number of bytes that reading
-    /// consumes: all of an insufficient input, otherwise those up to and including the byte that determines
-    /// the error.
+    // Does what `read_counted` does, for all bytes.
     #[cold]
     #[inline(never)]
-    pub fn read_counted(bytes: &[u8]) -> Result<Self, (Error, usize)>
+    fn read_longer(bytes: &[u8]) -> Result<Self, (Error, usize)>
         ensures ok { IfOk result (λ h. HasHead h.code h.digest_len h.digest_offset bytes.now) }
         ensures err { IfErr result (λ e. IsHeadError bytes.now e.0 e.1) }
     {
-        let (code, code_len) = word::read_counted(bytes)?;
-        match word::read_counted(&bytes[code_len..]) {
+        let (code, code_len) = word::read_front(bytes)?;
+        match word::read_front(&bytes[code_len..]) {
             // The sum is at most the number of bytes.
             Ok((digest_len, size_len)) => Ok(Head {
                 code,

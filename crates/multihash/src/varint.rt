@@ -112,10 +112,7 @@ pub fn read_front(bytes: &[u8]) -> Result<(u64, &[u8]), Error>
     ensures found { (n : ℕ) (varint rest : List ℕ) → IsVarint n varint → bytes.now ≡ varint ++ rest →
         IsOkAnd result (λ found. (found.0 ≡ n) × (found.1.now ≡ rest)) }
 {
-    if let Some((n, len)) = word::read_front(bytes) {
-        return Ok((n, &bytes[len..]));
-    }
-    match word::read_counted(bytes) {
+    match word::read_front(bytes) {
         Ok((n, len)) => Ok((n, &bytes[len..])),
         Err((error, _)) => Err(error),
     }

@@ -8,9 +8,16 @@ use Rattle.multihash.specs.Scale.{IsScaleCode, IsScale, HasScaleSize, HasScaleVe
 use Rattle.multihash.specs.Varint.{varint_limit}
 use Rattle.multihash.specs.Verdict.{accepted, invalid_code, unexpected_eof}
 use Rattle.multihash.proofs.ScaleLemmas.{code_read, scale_of, scale_length}
-use Rattle.multihash.proofs.WordOrderLemmas.{take_bytes}
 use Rattle.multihash_c.specs.declared.decode.Decoded.{Decoded}
 use Rattle.multihash_c.specs.Decoded.{ReportsPair, ConsumesForm}
+use Rattle.std.proofs.lemmas.Bool.{cases_lt}
+use Rattle.std.proofs.lemmas.List.{get_or-take, get_or_past, length-take}
+
+take_bytes : (n : ℕ) (l : List ℕ) → ((i : ℕ) → get_or l i 0 < 256) → (i : ℕ) → get_or (take n l) i 0 < 256
+take_bytes n l each i = elim (cases_lt i n) [
+  | inl below ↦ rw (get_or-take n l i 0 below) (each i)
+  | inr past ↦ rw (get_or_past (take n l) i 0 (omega (arith, length-take n l, past))) (omega arith)
+]
 
 -- what was consumed is the front
 pub taken_front : (input front left : List ℕ) (taken : ℕ) → input ≡ front ++ left → taken ≡ length front → take taken input ≡ front

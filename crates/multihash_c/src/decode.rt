@@ -5,8 +5,7 @@ ghost use Rattle.multihash.specs.Pair.{Pair};
 ghost use Rattle.multihash.specs.Varint.{VarintError, insufficient};
 ghost use Rattle.multihash.specs.Verdict.{Verdict, accepted, invalid_size, invalid_code, malformed, unexpected_eof, HasVerdict, HasWholeVerdict};
 ghost use Rattle.multihash.specs.Scale.{HasScaleVerdict};
-ghost use Rattle.multihash.specs.Refusal.{Refusal, IsVarintError};
-ghost use Rattle.multihash.specs.Consuming.{IsHeadError};
+ghost use Rattle.multihash.specs.Refusal.{IsVarintError};
 ghost use Rattle.multihash_c.specs.Status.{status_of_error};
 ghost use Rattle.multihash_c.specs.Decoded.{Reports, ReportsError, ReportsPrefix, ConsumesForm, ReadsWithin, ReadsFront};
 
@@ -51,19 +50,6 @@ pub extern "C" fn multihash_from_bytes(bytes: &[u8]) -> Decoded
     ensures verdict { (v : Verdict) × HasWholeVerdict 255 bytes.now v × Reports bytes.now result v }
     ensures taken { result.taken ≡ length bytes.now }
 {
-    if is_short(bytes) {
-        return decode_whole(bytes, bytes.len());
-    }
-    decode_longer(bytes)
-}
-
-// Does what `multihash_from_bytes` does, for an input that is not short.
-#[cold]
-#[inline(never)]
-fn decode_longer(bytes: &[u8]) -> Decoded
-    ensures verdict { (v : Verdict) × HasWholeVerdict 255 bytes.now v × Reports bytes.now result v }
-    ensures taken { result.taken ≡ length bytes.now }
-{
     decode_whole(bytes, bytes.len())
 }
 
@@ -80,26 +66,6 @@ pub extern "C" fn multihash_from_prefix(prefix: &[u8], whole_length: usize) -> D
 /// Decodes the multihash whose encoding is at the front of `bytes`.
 #[unsafe(no_mangle)]
 pub extern "C" fn multihash_read(bytes: &[u8]) -> Decoded
-    ensures { ReadsWithin 255 bytes.now result }
-{
-    read_first(bytes)
-}
-
-// What `multihash_read` returns.
-#[inline(always)]
-pub(crate) fn read_first(bytes: &[u8]) -> Decoded
-    ensures { ReadsWithin 255 bytes.now result }
-{
-    if is_short(bytes) {
-        return read_within(bytes, DIGEST_MAX);
-    }
-    read_longer(bytes)
-}
-
-// Does what `read_first` does, for an input that is not short.
-#[cold]
-#[inline(never)]
-fn read_longer(bytes: &[u8]) -> Decoded
     ensures { ReadsWithin 255 bytes.now result }
 {
     read_within(bytes, DIGEST_MAX)
@@ -120,40 +86,19 @@ pub extern "C" fn multihash_read_limit(bytes: &[u8], limit: usize) -> Decoded
 pub extern "C" fn multihash_head(bytes: &[u8]) -> Front
     ensures { ReadsFront bytes.now result }
 {
-    if is_short(bytes) {
-        return head_of(bytes);
-    }
-    head_of_longer(bytes)
-}
-
-// Does what `multihash_head` does, for an input that is not short.
-#[cold]
-#[inline(never)]
-fn head_of_longer(bytes: &[u8]) -> Front
-    ensures { ReadsFront bytes.now result }
-{
-    head_of(bytes)
-}
-
-// What `multihash_head` returns.
-#[inline(always)]
-fn head_of(bytes: &[u8]) -> Front
-    ensures { ReadsFront bytes.now result }
-{
-    let Some(head) = Head::find_front(bytes) else {
-        let error = error_of(bytes);
-        return Front {
-            status: error.status,
+    match Head::read_counted(bytes) {
+        Ok(head) => Front {
+            status: status::OK,
+            code: head.code,
+            digest_length: head.digest_len,
+            taken: head.digest_offset,
+        },
+        Err((error, taken)) => Front {
+            status: varint_status(&error),
             code: 0,
             digest_length: 0,
-            taken: error.taken,
-        };
-    };
-    Front {
-        status: status::OK,
-        code: head.code,
-        digest_length: head.digest_len,
-        taken: head.digest_offset,
+            taken,
+        },
     }
 }
 
@@ -183,13 +128,6 @@ pub extern "C" fn multihash_scale_decode(bytes: &[u8]) -> Decoded
     accept(code, size, taken)
 }
 
-// Whether both varints have one byte, as mostly. That case is compiled in line, where the compiler leaves out
-// tests of the same bytes. The other is compiled once, out of line, from the same function.
-#[inline(always)]
-fn is_short(bytes: &[u8]) -> bool {
-    bytes.len() >= 2 && bytes[0] < 128 && bytes[1] < 128
-}
-
 // Decodes each input of that many bytes that begins with the front. No digest is read, so only the two
 // varints have to be there.
 #[inline(always)]
@@ -202,22 +140,24 @@ fn decode_whole(front: &[u8], whole_length: usize) -> Decoded
         ReportsError result (status_of_error insufficient) 0 0 }
     ensures taken { result.taken ≡ whole_length }
 {
-    let Some(head) = Head::find_front(front) else {
-        return rejected(error_of(front).status, 0, 0, whole_length);
-    };
-    if head.digest_len > DIGEST_MAX as u64 {
-        return rejected_size(head.digest_len, whole_length);
+    match Head::read_counted(front) {
+        Ok(head) => {
+            if head.digest_len > DIGEST_MAX as u64 {
+                return rejected_size(head.digest_len, whole_length);
+            }
+            // This is at most 255.
+            let size = head.digest_len as usize;
+            let left = whole_length - head.digest_offset;
+            if left == size {
+                return accept(head.code, size, whole_length);
+            }
+            if left < size {
+                return rejected_end(whole_length);
+            }
+            rejected_size((left - size) as u64, whole_length)
+        }
+        Err((error, _)) => rejected(varint_status(&error), 0, 0, whole_length),
     }
-    // This is at most 255.
-    let size = head.digest_len as usize;
-    let left = whole_length - head.digest_offset;
-    if left == size {
-        return accept(head.code, size, whole_length);
-    }
-    if left < size {
-        return rejected_end(whole_length);
-    }
-    rejected_size((left - size) as u64, whole_length)
 }
 
 // Decodes the multihash whose encoding is at the front of `bytes`, with a digest of at most `limit` bytes,
@@ -226,43 +166,20 @@ fn decode_whole(front: &[u8], whole_length: usize) -> Decoded
 pub(crate) fn read_within(bytes: &[u8], limit: usize) -> Decoded
     ensures { ReadsWithin limit bytes.now result }
 {
-    let Some(head) = Head::find_front(bytes) else {
-        let error = error_of(bytes);
-        return rejected(error.status, 0, 0, error.taken);
-    };
-    if head.digest_len > limit as u64 || head.digest_len > DIGEST_MAX as u64 {
-        return rejected_size(head.digest_len, head.digest_offset);
-    }
-    // This is at most 255.
-    let size = head.digest_len as usize;
-    if bytes.len() - head.digest_offset < size {
-        return rejected_end(head.digest_offset);
-    }
-    // The digest is in `bytes`, so the sum is at most their number.
-    accept(head.code, size, head.digest_offset + size)
-}
-
-// The error of an input with a malformed varint: its status, and the bytes that reading it consumes.
-#[derive(Clone, Copy)]
-struct FrontError {
-    status: u32,
-    taken: usize,
-}
-
-// Returns the error of an input with a malformed varint.
-#[cold]
-#[inline(never)]
-fn error_of(bytes: &[u8]) -> FrontError
-    requires { (error : VarintError) × ((S : ℕ) → HasVerdict S bytes.now (malformed error)) }
-    ensures { (e : Refusal) × (h : IsHeadError bytes.now e result.taken)
-        × (result.status ≡ status_of_error h.error) }
-{
     match Head::read_counted(bytes) {
-        Ok(_) => unreachable!(),
-        Err((error, taken)) => FrontError {
-            status: varint_status(&error),
-            taken,
-        },
+        Ok(head) => {
+            if head.digest_len > limit as u64 || head.digest_len > DIGEST_MAX as u64 {
+                return rejected_size(head.digest_len, head.digest_offset);
+            }
+            // This is at most 255.
+            let size = head.digest_len as usize;
+            if bytes.len() - head.digest_offset < size {
+                return rejected_end(head.digest_offset);
+            }
+            // The digest is in `bytes`, so the sum is at most their number.
+            accept(head.code, size, head.digest_offset + size)
+        }
+        Err((error, taken)) => rejected(varint_status(&error), 0, 0, taken),
     }
 }
 

@@ -3,7 +3,7 @@ ghost use Rattle.std.specs.Prelude.{◌≡◌, ◌<◌, ◌≤◌, ◌⊎◌, le
 ghost use Rattle.multihash_c.specs.Status.{status_ok};
 ghost use Rattle.multihash_c.specs.Many.{AreEncodedFrom, FailsAt};
 
-use crate::decode::{Decoded, read_first, read_within};
+use crate::decode::{Decoded, read_within};
 use crate::{DIGEST_MAX, status};
 
 /// A multihash in a buffer.
@@ -48,7 +48,7 @@ pub extern "C" fn multihash_read_many(bytes: &[u8], out: &mut [Item]) -> Batch
     let mut count: usize = 0;
     let mut taken: usize = 0;
     while count < out.len() && taken < bytes.len() {
-        let found = read_first(&bytes[taken..]);
+        let found = read_within(&bytes[taken..], DIGEST_MAX);
         if found.status != status::OK {
             return stopped(found, count, taken);
         }

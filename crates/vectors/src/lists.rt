@@ -191,14 +191,15 @@ fn print_verdict(page: &mut Page, line: &str) {
     page.end_if_other(line);
 }
 
-// Through each two forms, read last by capacity 128.
-fn put_through<const S: usize>(page: &mut Page, m: &Multihash<S>)
-    requires { S < 2 ^ 16 }
+// Through each two forms, read last by this capacity.
+fn put_through<const S: usize, const T: usize>(page: &mut Page, m: &Multihash<S>)
+    requires source { S < 2 ^ 16 }
+    requires last { T < 2 ^ 16 }
 {
     for form in &FORMS {
         for last in &FORMS {
             match form.through::<S, S>(page.alloc, m) {
-                Ok(again) => put_verdict(page, &last.through::<S, 128>(page.alloc, &again)),
+                Ok(again) => put_verdict(page, &last.through::<S, T>(page.alloc, &again)),
                 Err(e) => page.put(e),
             }
             page.answer(" or by two forms ");
@@ -238,7 +239,10 @@ fn put_value<const S: usize>(page: &mut Page, code: u64, digest: &[u8])
                 put_pair(page, code, digest);
             }
             page.expect();
-            put_through(page, &m);
+            put_through::<S, 128>(page, &m);
+            put_pair(page, code, digest);
+            page.expect();
+            put_through::<S, 255>(page, &m);
         }
         Err(e) => {
             put_error(page, &e);
@@ -265,14 +269,16 @@ fn put_value_of(page: &mut Page, limit: &str, code: &str, digest: &str) {
     }
 }
 
-fn value_of(alloc: Global, code: &str, digest: &str) -> Multihash<255> {
+fn value_of<const S: usize>(alloc: Global, code: &str, digest: &str) -> Multihash<S>
+    requires { S < 2 ^ 16 }
+{
     Multihash::wrap(code.parse().unwrap_or(0), &bytes_of(alloc, digest)).unwrap_or_default()
 }
 
-fn put_order(page: &mut Page, left: (&str, &str), right: (&str, &str)) {
-    page.put(format_args!("order\t{}\t{}\t{}\t{}", left.0, left.1, right.0, right.1));
-    page.column();
-    let left = value_of(page.alloc, left.0, left.1);
+fn put_compared<const S: usize>(page: &mut Page, left: (&str, &str), right: (&str, &str))
+    requires { S < 2 ^ 16 }
+{
+    let left = value_of::<S>(page.alloc, left.0, left.1);
     let right = value_of(page.alloc, right.0, right.1);
     page.put(match compared(left, right) {
         "Less" => "-1",
@@ -280,6 +286,20 @@ fn put_order(page: &mut Page, left: (&str, &str), right: (&str, &str)) {
         "Equal, ==, same hash" => "0",
         other => other,
     });
+}
+
+// Other code compares values of a small capacity.
+fn put_order(page: &mut Page, left: (&str, &str), right: (&str, &str)) {
+    page.put(format_args!("order\t{}\t{}\t{}\t{}", left.0, left.1, right.0, right.1));
+    page.column();
+    put_compared::<255>(page, left, right);
+    page.answer("");
+    if left.1.len() < 9 && right.1.len() < 9 {
+        put_compared::<4>(page, left, right);
+        page.answer(" or of capacity 4 ");
+        put_compared::<12>(page, left, right);
+        page.answer(" or of capacity 12 ");
+    }
 }
 
 fn print_line(page: &mut Page, line: &str) {

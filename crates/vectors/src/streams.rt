@@ -105,8 +105,10 @@ fn print_slice_reads(page: &mut Page) {
 
 fn print_cut_reads(page: &mut Page) {
     let mut cuts = Cuts::new(&[1, 2, 3], 2);
-    let outcome = Outcome(cuts.read_exact(&mut [0; 4]));
-    page.row("[01 02 03] by 2 bytes a call, read_exact of 4", outcome);
+    page.call("[01 02 03] by 2 bytes a call, read_exact of 4");
+    page.put(Outcome(cuts.read_exact(&mut [0; 4])));
+    page.put_left(cuts.left);
+    page.end();
     let (mut cuts, mut three) = (Cuts::new(&[1, 2, 3], 2), [0; 3]);
     let outcome = Outcome(cuts.read_exact(&mut three));
     page.written(
@@ -160,10 +162,13 @@ fn print_places<const S: usize>(page: &mut Page, digest: &[u8], room: usize)
 
 fn print_slice_writes(page: &mut Page) {
     let mut places = [0; 2];
-    let short = Outcome(places.as_mut_slice().write_all(&[7, 8, 9]));
+    let mut left = places.as_mut_slice();
+    let short = Outcome(left.write_all(&[7, 8, 9]));
+    let room = left.len();
     let none = Outcome([].as_mut_slice().write_all(&[]));
     rows!(page;
         written "2 places, write_all([07 08 09])" => short, &places;
+        row "  and the places left" => room;
         written "0 places, write_all([])" => none, &[];
     );
 }

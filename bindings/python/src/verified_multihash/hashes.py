@@ -116,9 +116,10 @@ def _parts(file: _Readable) -> Iterator[Buffer]:
         part = file.read(1 << 18)
         if part is None:
             raise BlockingIOError("the file has no bytes now")
-        if not part:
+        part = _bytes_like(part, "the result of read", _CHUNK_HINTS)
+        if memoryview(part).nbytes == 0:
             return
-        yield _bytes_like(part, "the result of read", _CHUNK_HINTS)
+        yield part
 
 
 def _digest(parts: Iterable[Buffer], name: str) -> Multihash:

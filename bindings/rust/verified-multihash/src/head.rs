@@ -30,44 +30,34 @@ impl Head {
     /// `from_bytes` and `read` return the same error for every capacity.
     #[inline(always)]
     pub fn read_front(bytes: &[u8]) -> Result<Self, Error> {
-        if let Some(head) = Self::find_front(bytes) {
-            return Ok(head);
-        }
         match Self::read_counted(bytes) {
             Ok(head) => Ok(head),
             Err((error, _)) => Err(error),
         }
     }
 
-    /// Finds the two varints at the front of `bytes`. Returns nothing if one of them is malformed.
+    /// Reads the two varints at the front of `bytes`. An error comes with the number of bytes that reading
+    /// consumes: all of an insufficient input, otherwise those up to and including the byte that determines
+    /// the error.
     #[inline(always)]
-    pub fn find_front(bytes: &[u8]) -> Option<Self> {
+    pub fn read_counted(bytes: &[u8]) -> Result<Self, (Error, usize)> {
         // Mostly each varint has one byte.
         if bytes.len() >= 2 && bytes[0] < 128 && bytes[1] < 128 {
-            return Some(Head {
+            return Ok(Head {
                 code: u64::from(bytes[0]),
                 digest_len: u64::from(bytes[1]),
                 digest_offset: 2,
             });
         }
-        let (code, code_len) = word::read_front(bytes)?;
-        let (digest_len, size_len) = word::read_front(&bytes[code_len..])?;
-        // The sum is at most the number of bytes.
-        Some(Head {
-            code,
-            digest_len,
-            digest_offset: code_len + size_len,
-        })
+        Self::read_longer(bytes)
     }
 
-    /// Reads the two varints at the front of `bytes`. An error comes with the number of bytes that reading
-    /// consumes: all of an insufficient input, otherwise those up to and including the byte that determines
-    /// the error.
+    // Does what `read_counted` does, for all bytes.
     #[cold]
     #[inline(never)]
-    pub fn read_counted(bytes: &[u8]) -> Result<Self, (Error, usize)> {
-        let (code, code_len) = word::read_counted(bytes)?;
-        match word::read_counted(&bytes[code_len..]) {
+    fn read_longer(bytes: &[u8]) -> Result<Self, (Error, usize)> {
+        let (code, code_len) = word::read_front(bytes)?;
+        match word::read_front(&bytes[code_len..]) {
             // The sum is at most the number of bytes.
             Ok((digest_len, size_len)) => Ok(Head {
                 code,

@@ -71,7 +71,10 @@ impl<W: io::Write> no_std_io::Write for Io<W> {
 /// ```
 pub fn with_io<T, V>(stream: T, call: impl FnOnce(&mut Io<T>) -> Result<V, Error>) -> io::Result<V> {
     let mut io = Io { stream, error: None };
-    call(&mut io).map_err(|error| io.error.unwrap_or_else(|| error.into()))
+    call(&mut io).map_err(|error| match (error.io(), io.error) {
+        (Some(of_stream), Some(own)) if of_stream.is_other() => own,
+        _ => error.into(),
+    })
 }
 
 /// The kind is

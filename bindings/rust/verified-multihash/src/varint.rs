@@ -84,10 +84,7 @@ pub fn write<W: Write>(n: u64, w: &mut W) -> Result<usize, Error> {
 /// - [`Error::is_overflow`] if the varint has more than nine bytes, as every number of 2^63 or more needs.
 /// - [`Error::is_not_minimal`] if a varint of more than one byte ends in a zero byte.
 pub fn read_front(bytes: &[u8]) -> Result<(u64, &[u8]), Error> {
-    if let Some((n, len)) = word::read_front(bytes) {
-        return Ok((n, &bytes[len..]));
-    }
-    match word::read_counted(bytes) {
+    match word::read_front(bytes) {
         Ok((n, len)) => Ok((n, &bytes[len..])),
         Err((error, _)) => Err(error),
     }

@@ -1,8 +1,8 @@
 //! Reads the varint at the front of a slice from one word of 128 bits, with its first bytes.
-ghost use Rattle.std.specs.Prelude.{◌≡◌, ◌<◌, ◌≤◌, ◌+◌, ℕ, List, length, take, drop, Some, IfSome, IfNone, IfOk, IfErr};
+ghost use Rattle.std.specs.Prelude.{◌≡◌, ◌<◌, ◌≤◌, ◌+◌, ℕ, List, length, take, drop, Some, IfOk, IfErr};
 ghost use Rattle.multihash.specs.Bytes.{IsBytes, place_value};
-ghost use Rattle.multihash.specs.Varint.{IsVarint, IsMalformed};
-ghost use Rattle.multihash.specs.Private.{IsFrontWord, BeginsWithContinuation, IsFoundFront, digits_low};
+ghost use Rattle.multihash.specs.Varint.{IsVarint};
+ghost use Rattle.multihash.specs.Private.{IsFrontWord, BeginsWithContinuation, digits_low};
 ghost use Rattle.multihash.specs.Consuming.{IsFrontErrorAt, ConsumesVarint};
 
 use super::{LAST_BYTE_LIMIT, MAX_CONTINUATION, MAX_LEN};
@@ -20,64 +20,36 @@ const FIRST_OF_TWO: u64 = 0x007f_007f_007f_007f;
 // The low fourteen bits of the first two bytes of each four.
 const FIRST_OF_FOUR: u64 = 0x3fff_0000_3fff;
 
-// The number and the length of the varint at the front of the bytes, or nothing if it is malformed;
-// `read_counted` then returns why.
+// Reads the varint at the front of the bytes: its number and its length. An error comes with the number of bytes
+// up to and including the one that determines it: all, if they are insufficient.
 #[inline(always)]
-pub(crate) fn read_front(bytes: &[u8]) -> Option<(u64, usize)>
-    ensures some { IfSome result (λ found.
-        ConsumesVarint found.0 (Some bytes.now) (Some (drop found.1 bytes.now))) }
-    ensures within { IfSome result (λ found. found.1 ≤ length bytes.now) }
-    ensures none { IfNone result (IsMalformed bytes.now) }
-{
-    // Most varints have one byte, which needs no word.
-    if bytes.len() >= 1 && bytes[0] < 128 {
-        return Some((u64::from(bytes[0]), 1));
-    }
-    let (number, len) = front_by_word(bytes);
-    if len == 0 { None } else { Some((number, len)) }
-}
-
-// Reads the varint at the front as `read_front` does. An error comes with the number of bytes up to and
-// including the one that determines it: all, if they are insufficient.
-#[cold]
-#[inline(never)]
-pub(crate) fn read_counted(bytes: &[u8]) -> Result<(u64, usize), (Error, usize)>
+pub(crate) fn read_front(bytes: &[u8]) -> Result<(u64, usize), (Error, usize)>
     ensures ok { IfOk result (λ found.
         ConsumesVarint found.0 (Some bytes.now) (Some (drop found.1 bytes.now))) }
     ensures within { IfOk result (λ found. found.1 ≤ length bytes.now) }
     ensures err { IfErr result (λ e. IsFrontErrorAt bytes.now e.0 e.1) }
 {
-    // Mostly a code, before a malformed size.
+    // Most varints have one byte.
     if bytes.len() >= 1 && bytes[0] < 128 {
         return Ok((u64::from(bytes[0]), 1));
     }
-    let front = &bytes[..bytes.len().min(WORD_LEN)];
-    read_word(padded_word(front), front.len())
+    read_word(front_word(bytes), bytes.len().min(WORD_LEN))
 }
 
-// The number and the length of the varint at the front of the bytes. The length is 0 if it is malformed.
-#[inline(never)]
-fn front_by_word(bytes: &[u8]) -> (u64, usize)
-    ensures { IsFoundFront bytes.now result.0 result.1 }
+// The word of the first sixteen bytes, lowest first, with zeros for those that are missing.
+#[inline(always)]
+fn front_word(bytes: &[u8]) -> u128
+    ensures { result ≡ place_value 256 (take 16 bytes.now) }
 {
     match bytes.first_chunk::<WORD_LEN>() {
-        Some(front) => front_in_word(u128::from_le_bytes(*front), WORD_LEN),
-        None => front_by_short_word(bytes),
+        Some(front) => u128::from_le_bytes(*front),
+        None => padded_word(bytes),
     }
 }
 
-// Does what `front_by_word` does, if fewer bytes remain than a word has.
+// Does what `front_word` does, if fewer bytes are there.
+#[cold]
 #[inline(never)]
-#[tactic(auto, using(crate::proofs::WordFrontLemmas::short_front))]
-fn front_by_short_word(bytes: &[u8]) -> (u64, usize)
-    requires { length bytes.now < 16 }
-    ensures { IsFoundFront bytes.now result.0 result.1 }
-{
-    front_in_word(padded_word(bytes), bytes.len())
-}
-
-// The word of at most sixteen bytes, lowest first, with zeros for those that are missing.
-#[inline(always)]
 fn padded_word(bytes: &[u8]) -> u128
     requires { length bytes.now ≤ 16 }
     ensures { result ≡ place_value 256 bytes.now }
@@ -87,19 +59,7 @@ fn padded_word(bytes: &[u8]) -> u128
     u128::from_le_bytes(front)
 }
 
-// Does what `front_by_word` does, of bytes whose first are in the word.
-#[inline(always)]
-fn front_in_word(word: u128, present: usize) -> (u64, usize)
-    ensures { (bytes : List ℕ) → IsBytes bytes → IsFrontWord bytes word present →
-        IsFoundFront bytes result.0 result.1 }
-{
-    match read_word(word, present) {
-        Ok(found) => found,
-        Err(_) => (0, 0),
-    }
-}
-
-// Does what `read_counted` does, of bytes whose first are in the word.
+// Does what `read_front` does, of bytes whose first are in the word.
 #[inline(always)]
 fn read_word(word: u128, present: usize) -> Result<(u64, usize), (Error, usize)>
     ensures ok { IfOk result (λ found. (bytes : List ℕ) → IsBytes bytes →

@@ -17,64 +17,36 @@ const FIRST_OF_TWO: u64 = 0x007f_007f_007f_007f;
 // The low fourteen bits of the first two bytes of each four.
 const FIRST_OF_FOUR: u64 = 0x3fff_0000_3fff;
 
-// The number and the length of the varint at the front of the bytes, or nothing if it is malformed;
-// `read_counted` then returns why.
+// Reads the varint at the front of the bytes: its number and its length. An error comes with the number of bytes
+// up to and including the one that determines it: all, if they are insufficient.
 #[inline(always)]
-pub(crate) fn read_front(bytes: &[u8]) -> Option<(u64, usize)> {
-    // Most varints have one byte, which needs no word.
-    if bytes.len() >= 1 && bytes[0] < 128 {
-        return Some((u64::from(bytes[0]), 1));
-    }
-    let (number, len) = front_by_word(bytes);
-    if len == 0 { None } else { Some((number, len)) }
-}
-
-// Reads the varint at the front as `read_front` does. An error comes with the number of bytes up to and
-// including the one that determines it: all, if they are insufficient.
-#[cold]
-#[inline(never)]
-pub(crate) fn read_counted(bytes: &[u8]) -> Result<(u64, usize), (Error, usize)> {
-    // Mostly a code, before a malformed size.
+pub(crate) fn read_front(bytes: &[u8]) -> Result<(u64, usize), (Error, usize)> {
+    // Most varints have one byte.
     if bytes.len() >= 1 && bytes[0] < 128 {
         return Ok((u64::from(bytes[0]), 1));
     }
-    let front = &bytes[..bytes.len().min(WORD_LEN)];
-    read_word(padded_word(front), front.len())
+    read_word(front_word(bytes), bytes.len().min(WORD_LEN))
 }
 
-// The number and the length of the varint at the front of the bytes. The length is 0 if it is malformed.
-#[inline(never)]
-fn front_by_word(bytes: &[u8]) -> (u64, usize) {
+// The word of the first sixteen bytes, lowest first, with zeros for those that are missing.
+#[inline(always)]
+fn front_word(bytes: &[u8]) -> u128 {
     match bytes.first_chunk::<WORD_LEN>() {
-        Some(front) => front_in_word(u128::from_le_bytes(*front), WORD_LEN),
-        None => front_by_short_word(bytes),
+        Some(front) => u128::from_le_bytes(*front),
+        None => padded_word(bytes),
     }
 }
 
-// Does what `front_by_word` does, if fewer bytes remain than a word has.
+// Does what `front_word` does, if fewer bytes are there.
+#[cold]
 #[inline(never)]
-fn front_by_short_word(bytes: &[u8]) -> (u64, usize) {
-    front_in_word(padded_word(bytes), bytes.len())
-}
-
-// The word of at most sixteen bytes, lowest first, with zeros for those that are missing.
-#[inline(always)]
 fn padded_word(bytes: &[u8]) -> u128 {
     let mut front = [0; WORD_LEN];
     front[..bytes.len()].copy_from_slice(bytes);
     u128::from_le_bytes(front)
 }
 
-// Does what `front_by_word` does, of bytes whose first are in the word.
-#[inline(always)]
-fn front_in_word(word: u128, present: usize) -> (u64, usize) {
-    match read_word(word, present) {
-        Ok(found) => found,
-        Err(_) => (0, 0),
-    }
-}
-
-// Does what `read_counted` does, of bytes whose first are in the word.
+// Does what `read_front` does, of bytes whose first are in the word.
 #[inline(always)]
 fn read_word(word: u128, present: usize) -> Result<(u64, usize), (Error, usize)> {
     let low = (word & 0xffff_ffff_ffff_ffff) as u64;

@@ -4,17 +4,6 @@ use Rattle.multihash.proofs.ReadingLemmas.{Consumes-cut}
 use Rattle.multihash.proofs.VarintLemmas.{number_unique, number_no_error}
 use Rattle.multihash.proofs.varint.read_front.Goals as goal
 
-pub returns-in-Some-clause-ok : goal.returns-in-Some-clause-ok
-returns-in-Some-clause-ok c =
-    let (bytes, is_found, consumes) = c.in-Some.ensures.some in
-    (bytes, is_found, Consumes-cut _ bytes _ consumes ∙ ap (λ l. bytes ++ l) (sym (take_rest c.args.bytes.now c.in-Some.len)))
-
-pub returns-in-Some-clause-found : goal.returns-in-Some-clause-found
-returns-in-Some-clause-found c n varint rest is cut =
-    let (bytes, is_found, consumes) = c.in-Some.ensures.some in
-    let same = number_unique c.args.bytes.now c.in-Some.n n _ rest (bytes, is_found, Consumes-cut _ bytes _ consumes) (varint, is, cut) in
-    (same.0, take_rest c.args.bytes.now c.in-Some.len ∙ same.1)
-
 pub returns-in-Ok-clause-ok : goal.returns-in-Ok-clause-ok
 returns-in-Ok-clause-ok c =
     let (bytes, is_found, consumes) = c.in-Ok.ensures.ok in
@@ -22,12 +11,13 @@ returns-in-Ok-clause-ok c =
 
 pub returns-in-Ok-clause-found : goal.returns-in-Ok-clause-found
 returns-in-Ok-clause-found c n varint rest is cut =
-    let (error, malformed) = c.in_default.ensures.none in
-    absurd (number_no_error c.args.bytes.now n rest error (varint, is, cut) malformed)
+    let (bytes, is_found, consumes) = c.in-Ok.ensures.ok in
+    let same = number_unique c.args.bytes.now c.in-Ok.n n _ rest (bytes, is_found, Consumes-cut _ bytes _ consumes) (varint, is, cut) in
+    (same.0, take_rest c.args.bytes.now c.in-Ok.len ∙ same.1)
 
 pub returns-in-Err-clause-found : goal.returns-in-Err-clause-found
 returns-in-Err-clause-found c n varint rest is cut =
-    let (error, malformed) = c.in_default.ensures.none in
+    let (error, named, malformed) = c.in-Err.ensures.err.0 in
     absurd (number_no_error c.args.bytes.now n rest error (varint, is, cut) malformed)
 
 pub returns-in-Err-clause-err : goal.returns-in-Err-clause-err

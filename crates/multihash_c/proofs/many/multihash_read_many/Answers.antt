@@ -5,8 +5,8 @@ use Rattle.multihash_c.proofs.many.multihash_read_many.Goals as goal
 
 pub loop-count-2-init : goal.loop-count-2-init
 loop-count-2-init c = record {
-  holds = holds_more c.args.bytes.now c.args.out.now c.loop-count.out c.loop-count.count c.loop-count.taken c.read_first-found.result c.loop-count.invariant
-      c.loop-count.auto.out c.loop-count-test.true c.read_first-found.ensures c.if-found-ne-OK.false;
+  holds = holds_more c.args.bytes.now c.args.out.now c.loop-count.out c.loop-count.count c.loop-count.taken c.read_within-found.result c.loop-count.invariant
+      c.loop-count.auto.out c.loop-count-test.true c.read_within-found.ensures c.if-found-ne-OK.false;
   more = omega arith;
 }
 
