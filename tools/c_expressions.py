@@ -9,7 +9,7 @@ from rt_code import Node
 
 PRELUDE = (TOP / "tools/prelude.c").read_text("utf-8")
 ONES = {"u8": "{}", "u32": "UINT32_C({})", "u64": "UINT64_C({})", "usize": "((size_t){})"}
-METHODS = {"leading_zeros": "u32", "trailing_zeros": "u32", "swap_bytes": "u64", "wrapping_sub": "u64", "min": "usize"}
+METHODS = {"leading_zeros": "u32", "trailing_zeros": "u32", "wrapping_sub": "u64", "min": "usize"}
 METHODS |= {"cmp": "Ordering"}
 CHUNKS = {"first_chunk": ">=", "first_chunk_mut": ">=", "as_array": "==", "split_first_chunk": ">="}
 COMPARE = {"==", "!=", "<", ">", "<=", ">="}

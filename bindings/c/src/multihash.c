@@ -70,13 +70,6 @@ static inline void mh_u64_to_le_bytes(uint8_t *to, uint64_t n)
     to[7] = (uint8_t)(n >> 56);
 }
 
-static inline uint64_t mh_u64_swap_bytes(uint64_t n)
-{
-    n = (n & 0x00ff00ff00ff00ff) << 8 | (n >> 8 & 0x00ff00ff00ff00ff);
-    n = (n & 0x0000ffff0000ffff) << 16 | (n >> 16 & 0x0000ffff0000ffff);
-    return n << 32 | n >> 32;
-}
-
 static inline uint32_t mh_u64_leading_zeros(uint64_t n)
 {
 #if defined(__GNUC__)

@@ -11,9 +11,6 @@ pub mod std {
     pub mod alloc {
         pub use crate::rattle::{AllocError, AllocFailed};
     }
-    pub mod simd {
-        pub use crate::rattle::simd as prelude;
-    }
 }
 
 /// Out of memory.
@@ -68,37 +65,6 @@ impl Write for Vec<u8> {
         self.extend_from_slice(buf);
         Ok(())
     }
-}
-
-// Vectors of bytes are arrays: the compiler compares these with the machine's vectors.
-#[allow(non_camel_case_types)]
-pub mod simd {
-    pub type u8x16<'a> = Vector<'a, 16>;
-    pub type u8x32<'a> = Vector<'a, 32>;
-
-    pub struct Vector<'a, const N: usize>(&'a [u8; N]);
-
-    impl<'a, const N: usize> Vector<'a, N> {
-        #[inline(always)]
-        pub fn from_slice(bytes: &'a [u8]) -> Self {
-            Self(super::Arrays::first_chunk(bytes).unwrap())
-        }
-
-        #[inline(always)]
-        pub fn simd_eq(self, other: Self) -> bool {
-            self.0 == other.0
-        }
-    }
-
-    /// Whether all bytes of vectors that were compared are equal.
-    pub trait Mask: Sized + Into<bool> {
-        #[inline(always)]
-        fn all(self) -> bool {
-            self.into()
-        }
-    }
-
-    impl Mask for bool {}
 }
 
 /// What slices have in newer Rust: `first_chunk` from 1.77 on, `as_array` from 1.93 on.
