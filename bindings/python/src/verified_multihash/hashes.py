@@ -113,10 +113,10 @@ def _parts(file: _Readable) -> Iterator[Buffer]:
         expected = "file must be an object with a method read, such as open(path, 'rb') or io.BytesIO(data), not %s"
         raise TypeError(expected % type(file).__name__)
     while True:
-        part = file.read(1 << 18)
-        if part is None:
+        read = file.read(1 << 18)
+        if read is None:
             raise BlockingIOError("the file has no bytes now")
-        part = _bytes_like(part, "the result of read", _CHUNK_HINTS)
+        part = _bytes_like(read, "the result of read", _CHUNK_HINTS)
         if memoryview(part).nbytes == 0:
             return
         yield part
