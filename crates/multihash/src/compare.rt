@@ -16,7 +16,7 @@ impl<const S: usize> Multihash<S> {
     pub fn same_as<const B: usize>(&self, other: &Multihash<B>) -> bool
         ensures { IsTrue result ↔ (pair_of self.now ≡ pair_of other.now) }
     {
-        self.code == other.code && self.digest() == other.digest()
+        self.code() == other.code() && self.digest() == other.digest()
     }
 }
 

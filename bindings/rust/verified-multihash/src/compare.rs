@@ -9,7 +9,7 @@ use std::hash::{Hash, Hasher};
 impl<const S: usize> Multihash<S> {
     /// Returns whether both have the same code and the same digest, whatever their capacities.
     pub fn same_as<const B: usize>(&self, other: &Multihash<B>) -> bool {
-        self.code == other.code && self.digest() == other.digest()
+        self.code() == other.code() && self.digest() == other.digest()
     }
 }
 
