@@ -3,8 +3,8 @@
 network, in a new folder for each language, in which the command of README.md's table installs the package.
 
 The first line of a program has the name of its file and the command that runs it. The program prints the block of text
-after it. Each on README.md, where they are in the order of the table, prints SHOWN. By default nothing is proved: `rt run`
-takes minutes, so `rt try` runs a program in Rattle.
+after it. Each on README.md prints SHOWN. By default nothing is proved: `rt run` takes minutes, so `rt try` runs a program
+in Rattle.
 """
 import os
 import re
@@ -30,22 +30,25 @@ SOURCE = f'[source.crates-io]\\nreplace-with = "here"\\n[source.here]\\ndirector
 
 
 class Language(NamedTuple):
-    """What programs need, in the forms of is_there.sh; what comes before each command in a folder, of which the first
-    makes it a project; and what the programs of the language's page need besides."""
+    """The end of a program's name; what programs need, in the forms of is_there.sh; what comes before each command in a
+    folder, of which the first makes it a project; and what the programs of the language's page need besides."""
 
+    suffix: str
     needs: str
     before: str
     more: str = ""
 
 
 LANGUAGES = {
-    "JavaScript": Language(f"node={NODE}+ npm", "export npm_config_cache=$PWD/npm npm_config_offline=true"),
+    "JavaScript": Language(".mjs", f"node={NODE}+ npm", "export npm_config_cache=$PWD/npm npm_config_offline=true"),
     "Python": Language(
+        ".py",
         "cc /usr/include/python3*/Python.h python:ensurepip python:setuptools python:wheel",
         "[ -d venv ] || /usr/bin/python3 -m venv --system-site-packages venv; "
         "export PATH=$PWD/venv/bin:/usr/bin:/bin PIP_NO_INDEX=1 PIP_NO_BUILD_ISOLATION=0",
     ),
     "Rust": Language(
+        ".rs",
         f"cargo rustc={OLDEST}+",
         f"[ -d cargo ] || {{ mkdir cargo; [ ! -d {REGISTRY} ] || printf '{SOURCE}' > cargo/config.toml; "
         "cargo init --quiet --name app; }; export CARGO_HOME=$PWD/cargo CARGO_NET_OFFLINE=true",
@@ -53,11 +56,12 @@ LANGUAGES = {
     ),
     # the shell does not read blanks that pkg-config escapes, so the root is named from the folder
     "C": Language(
+        ".c",
         "cc cmake pkg-config",
         "export DESTDIR=$PWD/root PKG_CONFIG_{PATH=$PWD/root/usr/local/lib/pkgconfig,SYSROOT_DIR=root}",
         "/usr/include/openssl/evp.h",
     ),
-    "Rattle": Language("rt", "true"),
+    "Rattle": Language(".rt", "rt", "true"),
 }
 
 
@@ -104,7 +108,10 @@ def make_clone(to: Path) -> None:
 def command_error(clone: Path) -> str:
     """Runs the commands of README.md. Those that read a line print what mh_show prints."""
     commands = "".join(body for language, body in FENCE.findall(read(README)) if language == "sh")
-    commands = commands if ALL else re.sub(r".*(rt run|/out/).*\n", "", commands)
+    if tap.missing(["rt"]):
+        commands = re.sub(r".*\brt .*\n", "", commands)
+    elif not ALL:
+        commands = re.sub(r".*\brt run.*\n", "", commands)
     error, shown = run(commands, clone)
     wanted = read("crates/mh_show/stdout") * len(re.findall(" [<|] ", commands))
     return error or ("" if shown == wanted else f"it printed {shown}")
@@ -130,16 +137,15 @@ def page_errors(page: str, folder: Path, before: str) -> Iterator[str]:
 def results(work: Path) -> Iterator[tap.Result]:
     make_clone(clone := work / "clone")
     yield "README.md, the commands", command_error(clone)
-    crates = "".join(text for _, text in FENCE.findall(read(README)) if text.startswith("app: "))
-    for (name, page, install), program in zip(ROW.findall(read(README)), programs(README), strict=True):
-        needs, before, more = LANGUAGES[name]
+    for name, page, install in ROW.findall(read(README)):
+        suffix, needs, before, more = LANGUAGES[name]
         if gone := tap.missing(needs.split()):
             yield tap.left_out(f"README.md, {name}", gone)
             continue
         (folder := work / name).mkdir()
-        (folder / "crates.txt").write_text(crates, "utf-8")
         error, _ = run(f"{before}\n{install}", folder)
-        yield f"README.md, {name}", error or "\n".join(program.errors(folder, before, SHOWN))
+        shown = (program for program in programs(README) if program.file.endswith(suffix))
+        yield f"README.md, {name}", error or "\n".join(e for p in shown for e in p.errors(folder, before, SHOWN))
         if gone := tap.missing(more.split()):
             yield tap.left_out(page, gone)
         elif name != "Rattle":
