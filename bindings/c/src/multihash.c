@@ -870,8 +870,7 @@ multihash_encoded multihash_put_status_text(uint32_t status, uint8_t *out, size_
         return mh_encode_put_text(MH_TEXT("a varint is not minimal: it ends in a zero byte"), out,
             out_length);
     case MULTIHASH_INVALID_SIZE:
-        return mh_encode_put_text(MH_TEXT("the digest is too long, or bytes follow the multihash"), out,
-            out_length);
+        return mh_encode_put_text(MH_TEXT("the digest or the input is too long"), out, out_length);
     case MULTIHASH_INVALID_CODE:
         return mh_encode_put_text(MH_TEXT("the code is 2^63 or more"), out, out_length);
     case MULTIHASH_UNEXPECTED_EOF:

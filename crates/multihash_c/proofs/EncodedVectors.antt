@@ -8,11 +8,11 @@ use Rattle.multihash.specs.Encoding.{IsEncoding}
 use Rattle.multihash_c.specs.declared.encode.Encoded.{Encoded}
 use Rattle.multihash_c.specs.Encoded.{IsTooLong, IsLargeCode, IsPut, ReportsLength, Puts, WritesForm}
 use Rattle.multihash.proofs.EncodingLemmas.{encoding_same}
-use Rattle.std.specs.Prelude.{ℤ}
+use Rattle.std.specs.Prelude.{ℤ, codes}
 use Rattle.std.specs.declared.cmp.Ordering.{Ordering}
 use Rattle.std.specs.declared.cmp.Ordering.TheVariants.{Less, Equal, Greater}
 use Rattle.multihash_c.specs.Compared.{IsSign}
-use Rattle.multihash_c.specs.Status.{IsStatusText, status_no_room}
+use Rattle.multihash_c.specs.Status.{IsStatusText, status_invalid_size, status_no_room}
 
 abbrev outcome : ℕ → ℕ → ℕ → Encoded
 outcome status size length = record { status = status; size = size; length = length }
@@ -93,3 +93,7 @@ one_text status a b h k = elim (cases_lt status_no_room status) [
   | inl over ↦ h.unknown over ∙ sym (k.unknown over)
   | inr within ↦ h.known within ∙ sym (k.known within)
 ]
+
+-- the text of an invalid size is true of a decoding and of an encoding
+size_text : (text : List ℕ) → IsStatusText status_invalid_size text → text ≡ codes "the digest or the input is too long"
+size_text text h = h.known (omega arith)

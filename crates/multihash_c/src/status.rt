@@ -38,10 +38,7 @@ pub extern "C" fn multihash_put_status_text(status: u32, out: &mut [u8]) -> Enco
         INSUFFICIENT => put_text(b"the input ends before or inside a varint", out),
         OVERFLOW => put_text(b"a varint has more than nine bytes", out),
         NOT_MINIMAL => put_text(b"a varint is not minimal: it ends in a zero byte", out),
-        INVALID_SIZE => put_text(
-            b"the digest is too long, or bytes follow the multihash",
-            out,
-        ),
+        INVALID_SIZE => put_text(b"the digest or the input is too long", out),
         INVALID_CODE => put_text(b"the code is 2^63 or more", out),
         UNEXPECTED_EOF => put_text(b"the input ends before the end of the digest", out),
         NO_ROOM => put_text(b"the buffer is too small", out),
