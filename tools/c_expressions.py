@@ -53,7 +53,7 @@ class Expressions:
         self.known: dict[str, Value] = {}
         self.taken = set("auto char default double float int long short signed switch unsigned void volatile".split())
         self.mutable: set[str] = set()
-        self.lengths: list[str] = []
+        self.slices: list[str] = []  # the names of slices and of their lengths
         self.is_bounded = False  # by a comment, or as an index
 
     def fresh(self, name: str) -> str:
@@ -90,8 +90,9 @@ class Expressions:
         return Value(kind, f"({self.program.c_type(kind)}){{{fields}}}")
 
     def initial(self, node: Node, kind: Type) -> str:
-        """Returns a value in braces of another, which needs no type."""
-        code = self.expression(node, kind).code
+        """Returns a value in braces of another, which needs no type. A slice has two."""
+        value = self.expression(node, kind)
+        code = ", ".join(filter(None, (value.code, value.length)))
         return code.removeprefix(f"({self.program.c_type(kind)})") if code.endswith("}") else code
 
     def of_number(self, node: Node, wanted: Type | None) -> Value:

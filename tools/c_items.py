@@ -10,12 +10,13 @@ import rt_source
 from rt_code import Node, Parser, Refused
 
 TOP = Path(__file__).resolve().parents[1]
-LIBRARY = [f"multihash/src/{name}.rt" for name in ("error", "varint", "varint/word", "head")]
+LIBRARY = [f"multihash/src/{name}.rt" for name in ("error", "varint/word", "varint", "head")]
 NUMBERS = {"u8": "uint8_t", "u32": "uint32_t", "u64": "uint64_t", "usize": "size_t"}
 SCALARS = {**NUMBERS, "i32": "int32_t", "bool": "bool", "u128": "mh_u128", "Ordering": "mh_ordering", "unit": "void"}
 # Tuples: their names, and those of their parts.
 TUPLES: dict[tuple[str, ...], tuple[str, str, str]] = {
     ("u64", "usize"): ("mh_varint", "number", "length"),
+    ("u64", "slice"): ("mh_varint_then", "number", "rest"),
     ("Error", "usize"): ("mh_error_at", "error", "taken"),
 }
 # What clauses have in place of what C has, in those that need no words of proofs.
@@ -81,7 +82,7 @@ def declared(kind: str, name: str) -> str:
 def comment(lines: list[str]) -> list[str]:
     text = "\n * ".join(re.sub(r"^ *//[/!]? ?(# )?", "", line) for line in lines)
     text = re.sub(r"\[(`[\w:]*`)\]", r"\1", text)
-    text = re.sub(r"`Error::(\w+)`", lambda found: f"`MH_KIND_{found[1].upper()}`", text)
+    text = re.sub(r"`Error::(?:is_)?(\w+)`", lambda found: f"`MH_KIND_{found[1].upper()}`", text)
     return f"/* {text} */".replace(" \n", "\n").split("\n") if lines else []
 
 
@@ -147,12 +148,17 @@ class Items:
         name = self.name_of(of)
         if name not in self.types and not name.startswith("multihash_"):
             about = [""] if of.of else self.defined(of).about()
-            fields = [f"    {declared(self.c_type(kind), it)};" for it, kind in self.fields(of).items()]
+            fields = [line for it, kind in self.fields(of).items() for line in self.field(it, kind)]
             if of.name == "Result":
                 fields[1:] = ["    union {", *("    " + line for line in fields[1:]), "    };"]
             fields = [f"    uint8_t bytes[{of.length}];"] if of.name == "array" else fields
             self.types[name] = [*about, f"typedef struct {name} {{", *fields, f"}} {name};"]
         return name
+
+    def field(self, name: str, kind: Type) -> list[str]:
+        """Returns the declaration of a field, and that of a slice's length."""
+        length = [f"    size_t {name}_length;"] if kind.name in POINTERS[:2] else []
+        return [f"    {declared(self.c_type(kind), name)};", *length]
 
     def defined(self, of: Type) -> Item:
         """Returns the struct or the enum that a type is."""

@@ -110,9 +110,8 @@ class Translation(Program):
         for it in self.items.values():
             if "no_mangle" in it.item.attributes:
                 self.function(it)
-        for key, it in reversed(self.items.items()):
-            self.texts[it.module][3:3] = self.constants.get(key, [])
-        code = [line for lines in self.texts.values() if len(lines) > 3 for line in lines]
+        code = [line for key in self.items for line in self.constants.get(key, [])]
+        code += [line for lines in self.texts.values() if len(lines) > 3 for line in lines]
         for name, lines in self.types.items():
             if "    uint8_t tag;" in lines:
                 tags = dict.fromkeys(re.findall(rf"\b{name.upper()}_\w+", "\n".join(code)))
@@ -133,8 +132,8 @@ class Function(Expressions):
         for name, kind in made.parameters.items():
             self.name(name, kind)
         lines = self.block(body, made.result)
-        needless = [it for it in self.lengths if uses(it, lines) == 1]
-        lines = [it for it in lines if not any(f"const size_t {name} = " in it for name in needless)]
+        needless = [it for it in self.slices if uses(rf"(?<!\.){it}", lines) == 1]
+        lines = [it for it in lines if not any(re.search(rf"const (size_t )?{name} = ", it) for name in needless)]
         place = next((place for name, place in PLACES.items() if name in attributes), "static inline ")
         parameters = []
         for name, kind in made.parameters.items():
@@ -259,7 +258,10 @@ class Function(Expressions):
                 if not re.fullmatch(r"[\w.]+", in_c):
                     in_c = self.fresh("_and_".join(map(bound_name, pattern.kids)))
                     lines = [f"const {self.program.c_type(value.type)} {in_c} = {value.code};"]
-                parts = tuple(Value(kind, f"{in_c}.{it}") for it, kind in self.program.fields(value.type).items())
+                parts = tuple(
+                    Value(kind, f"{in_c}.{it}", length=f"{in_c}.{it}_length" * (kind.name in POINTERS[:2]))
+                    for it, kind in self.program.fields(value.type).items()
+                )
             return lines + [it for kid, part in zip(pattern.kids, parts, strict=True) for it in self.bound(kid, part)]
         if pattern.kind == "bind" and value.code in {it.code for it in self.known.values()} - self.mutable:
             if re.fullmatch(r"\w*", value.length):
@@ -272,7 +274,7 @@ class Function(Expressions):
             self.mutable.add(it.code)
         kind = self.program.c_type(value.type)
         head = f"{kind}{const}{it.code}" if kind.endswith("*") else f"{const}{kind} {it.code}"
-        self.lengths += [it.length] if it.length else []
+        self.slices += [it.code, it.length] if it.length else []
         return [f"{head} = {value.code};", *([f"const size_t {it.length} = {value.length};"] if it.length else [])]
 
     def assign(self, node: Node) -> list[str]:

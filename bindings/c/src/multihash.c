@@ -181,6 +181,20 @@ typedef struct mh_bytes_16 {
     uint8_t bytes[16];
 } mh_bytes_16;
 
+typedef struct mh_varint_then {
+    uint64_t number;
+    const uint8_t *rest;
+    size_t rest_length;
+} mh_varint_then;
+
+typedef struct mh_varint_then_or_error {
+    bool is_ok;
+    union {
+        mh_varint_then ok;
+        mh_error err;
+    };
+} mh_varint_then_or_error;
+
 typedef struct mh_usize_or_error {
     bool is_ok;
     union {
@@ -188,6 +202,51 @@ typedef struct mh_usize_or_error {
         mh_error err;
     };
 } mh_usize_or_error;
+
+/* The bytes of a word. */
+#define MH_WORD_LEN ((size_t)16)
+
+/* The high bit of each byte of half a word. */
+#define MH_HIGH_BITS UINT64_C(0x8080808080808080)
+
+/* The low seven bits of the first byte of each two. */
+#define MH_FIRST_OF_TWO UINT64_C(0x7f007f007f007f)
+
+/* The low fourteen bits of the first two bytes of each four. */
+#define MH_FIRST_OF_FOUR UINT64_C(0x3fff00003fff)
+
+/* The most continuation bytes of a varint. */
+#define MH_MAX_CONTINUATION ((size_t)8)
+
+/* After that many continuation bytes the last byte is below this one. */
+#define MH_LAST_BYTE_LIMIT 128
+
+/* The largest number that has a varint: 2^63 - 1. */
+#define MH_VARINT_MAX UINT64_C(0x7fffffffffffffff)
+
+/* The most bytes of a varint. */
+#define MH_MAX_LEN ((size_t)9)
+
+/* The maximum length of a digest: `MULTIHASH_DIGEST_MAX` in the header. */
+#define MH_DIGEST_MAX ((size_t)255)
+
+/* The number of bytes of a code in the SCALE encoding. */
+#define MH_CODE_LEN ((size_t)8)
+
+/* The number of bytes before the digest in the SCALE encoding: those of the code, and one of the size. */
+#define MH_SCALE_HEAD ((size_t)9)
+
+/* The usual length of a digest. */
+#define MH_USUAL_DIGEST ((size_t)32)
+
+/* The length of the usual encoding: the code and the digest's length have one byte each. */
+#define MH_USUAL_ENCODING ((size_t)34)
+
+#define MH_MAJOR UINT32_C(1)
+
+#define MH_MINOR UINT32_C(0)
+
+#define MH_PATCH UINT32_C(0)
 
 /* ---- multihash/src/error.rt
  * The library's error. */
@@ -224,59 +283,8 @@ static inline mh_error mh_error_from_code(uint64_t code)
     return (mh_error){.kind = {.tag = MH_KIND_INVALID_CODE, .invalid_code = code}};
 }
 
-/* ---- multihash/src/varint.rt
- * Unsigned varints of multiformats, for numbers below 2^63: at most nine bytes. */
-
-/* The most continuation bytes of a varint. */
-#define MH_MAX_CONTINUATION ((size_t)8)
-
-/* After that many continuation bytes the last byte is below this one. */
-#define MH_LAST_BYTE_LIMIT 128
-
-/* The largest number that has a varint: 2^63 - 1. */
-#define MH_VARINT_MAX UINT64_C(0x7fffffffffffffff)
-
-/* The most bytes of a varint. */
-#define MH_MAX_LEN ((size_t)9)
-
-/* The length of the varint of a number that is known to be in range.
- * Proved: n < 2^63. */
-MH_INLINE size_t mh_varint_len_in_range(uint64_t n)
-{
-    if (n < 128) return 1;
-    if (n < (UINT64_C(1) << 14)) return 2;
-    if (n < (UINT64_C(1) << 21)) return 3;
-    /* As many bytes as its bits need, seven in each. */
-    return (70 - (size_t)mh_u64_leading_zeros(n)) / 7;
-}
-
-/* Returns the length of a number's varint in bytes: one to nine.
- *
- * Errors
- *
- * `MH_KIND_INVALID_CODE` with the number if it is 2^63 or more. */
-static inline mh_usize_or_error mh_varint_len(uint64_t n)
-{
-    /* Most numbers have one byte, so this test comes first. */
-    if (n < 128) return (mh_usize_or_error){.is_ok = true, .ok = mh_varint_len_in_range(n)};
-    if (n > MH_VARINT_MAX) return (mh_usize_or_error){.is_ok = false, .err = mh_error_from_code(n)};
-    return (mh_usize_or_error){.is_ok = true, .ok = mh_varint_len_in_range(n)};
-}
-
 /* ---- multihash/src/varint/word.rt
  * Reads the varint at the front of a slice from one word of 128 bits, with its first bytes. */
-
-/* The bytes of a word. */
-#define MH_WORD_LEN ((size_t)16)
-
-/* The high bit of each byte of half a word. */
-#define MH_HIGH_BITS UINT64_C(0x8080808080808080)
-
-/* The low seven bits of the first byte of each two. */
-#define MH_FIRST_OF_TWO UINT64_C(0x7f007f007f007f)
-
-/* The low fourteen bits of the first two bytes of each four. */
-#define MH_FIRST_OF_FOUR UINT64_C(0x3fff00003fff)
 
 /* The number of the low seven bits of each byte of a half: first of each two bytes, then of each four. */
 MH_INLINE uint64_t mh_join_digits(uint64_t half)
@@ -304,7 +312,7 @@ MH_INLINE mh_varint_or_error_at mh_read_high(mh_u128 word, size_t present)
         .ok = {mh_join_digits(low) | (last << (7 * MH_MAX_CONTINUATION)), MH_MAX_LEN}};
 }
 
-/* Does what `mh_word_read_front` does, of bytes whose first are in the word. */
+/* Does what `mh_varint_read_front` does, of bytes whose first are in the word. */
 MH_INLINE mh_varint_or_error_at mh_read_word(mh_u128 word, size_t present)
 {
     const uint64_t low = word.low;
@@ -354,6 +362,52 @@ MH_INLINE mh_varint_or_error_at mh_word_read_front(const uint8_t *bytes, size_t 
     return mh_read_word(mh_front_word(bytes, bytes_length), mh_usize_min(bytes_length, MH_WORD_LEN));
 }
 
+/* ---- multihash/src/varint.rt
+ * Unsigned varints of multiformats, for numbers below 2^63: at most nine bytes. */
+
+/* Reads the varint at the front of the bytes. Returns its number and the bytes that follow it.
+ *
+ * Errors
+ *
+ * - `MH_KIND_INSUFFICIENT` if the bytes end before or inside the varint.
+ * - `MH_KIND_OVERFLOW` if the varint has more than nine bytes, as every number of 2^63 or more needs.
+ * - `MH_KIND_NOT_MINIMAL` if a varint of more than one byte ends in a zero byte. */
+static inline mh_varint_then_or_error mh_varint_read_front(const uint8_t *bytes, size_t bytes_length)
+{
+    const mh_varint_or_error_at n_result = mh_word_read_front(bytes, bytes_length);
+    if (n_result.is_ok) {
+        const uint64_t n = n_result.ok.number;
+        const size_t len = n_result.ok.length;
+        return (mh_varint_then_or_error){.is_ok = true, .ok = {n, bytes + len, bytes_length - len}};
+    }
+    const mh_error error = n_result.err.error;
+    return (mh_varint_then_or_error){.is_ok = false, .err = error};
+}
+
+/* The length of the varint of a number that is known to be in range.
+ * Proved: n < 2^63. */
+MH_INLINE size_t mh_varint_len_in_range(uint64_t n)
+{
+    if (n < 128) return 1;
+    if (n < (UINT64_C(1) << 14)) return 2;
+    if (n < (UINT64_C(1) << 21)) return 3;
+    /* As many bytes as its bits need, seven in each. */
+    return (70 - (size_t)mh_u64_leading_zeros(n)) / 7;
+}
+
+/* Returns the length of a number's varint in bytes: one to nine.
+ *
+ * Errors
+ *
+ * `MH_KIND_INVALID_CODE` with the number if it is 2^63 or more. */
+static inline mh_usize_or_error mh_varint_len(uint64_t n)
+{
+    /* Most numbers have one byte, so this test comes first. */
+    if (n < 128) return (mh_usize_or_error){.is_ok = true, .ok = mh_varint_len_in_range(n)};
+    if (n > MH_VARINT_MAX) return (mh_usize_or_error){.is_ok = false, .err = mh_error_from_code(n)};
+    return (mh_usize_or_error){.is_ok = true, .ok = mh_varint_len_in_range(n)};
+}
+
 /* ---- multihash/src/head.rt
  * The two varints at the front of an encoding, for callers that keep the digest where it is. */
 
@@ -391,18 +445,6 @@ MH_INLINE mh_head_or_error_at mh_head_read_counted(const uint8_t *bytes, size_t 
     }
     return mh_read_longer(bytes, bytes_length);
 }
-
-/* ---- multihash_c/src/lib.rt
- * The library for C: the functions that `multihash.h` declares. */
-
-/* The maximum length of a digest: `MULTIHASH_DIGEST_MAX` in the header. */
-#define MH_DIGEST_MAX ((size_t)255)
-
-/* The number of bytes of a code in the SCALE encoding. */
-#define MH_CODE_LEN ((size_t)8)
-
-/* The number of bytes before the digest in the SCALE encoding: those of the code, and one of the size. */
-#define MH_SCALE_HEAD ((size_t)9)
 
 /* ---- multihash_c/src/compare.rt
  * Comparison, for C. */
@@ -556,6 +598,20 @@ multihash_front multihash_head(const uint8_t *bytes, size_t bytes_length)
         .taken = taken};
 }
 
+/* Decodes the varint at the front of `bytes`. */
+multihash_varint multihash_read_varint(const uint8_t *bytes, size_t bytes_length)
+{
+    const mh_varint_then_or_error value_result = mh_varint_read_front(bytes, bytes_length);
+    if (value_result.is_ok) {
+        const uint64_t value = value_result.ok.number;
+        const size_t rest_length = value_result.ok.rest_length;
+        return (multihash_varint){.status = MULTIHASH_OK, .value = value,
+            .length = bytes_length - rest_length};
+    }
+    const mh_error error = value_result.err;
+    return (multihash_varint){.status = mh_varint_status(error), .value = 0, .length = 0};
+}
+
 /* The result for a code that is out of range. */
 static inline multihash_decoded mh_decode_rejected_code(uint64_t code, size_t taken)
 {
@@ -580,12 +636,6 @@ multihash_decoded multihash_scale_decode(const uint8_t *bytes, size_t bytes_leng
 
 /* ---- multihash_c/src/encode.rt
  * Encoding, for C. */
-
-/* The usual length of a digest. */
-#define MH_USUAL_DIGEST ((size_t)32)
-
-/* The length of the usual encoding: the code and the digest's length have one byte each. */
-#define MH_USUAL_ENCODING ((size_t)34)
 
 /* Copies a digest to the front of a buffer that is large enough. The usual length is copied as a whole.
  * Proved: length digest <= length buffer. */
@@ -794,6 +844,19 @@ multihash_encoded multihash_encoded_len(uint64_t code, size_t digest_length)
     return mh_encode_rejected_code();
 }
 
+/* Writes the varint of a number to the front of `out`. */
+multihash_encoded multihash_write_varint(uint64_t value, uint8_t *out, size_t out_length)
+{
+    const mh_usize_or_error length_result = mh_varint_len(value);
+    if (!length_result.is_ok) {
+        return (multihash_encoded){.status = MULTIHASH_OVERFLOW, .size = 0, .length = 0};
+    }
+    const size_t length = length_result.ok;
+    if (length > out_length) return mh_count(length, out_length);
+    const size_t written = mh_put_varint(value, out);
+    return mh_count(written, out_length);
+}
+
 /* Copies a text to the front of `out`, if it fits. */
 MH_INLINE multihash_encoded mh_encode_put_text(const uint8_t *text, size_t text_length, uint8_t *out,
     size_t out_length)
@@ -884,12 +947,6 @@ multihash_encoded multihash_put_status_text(uint32_t status, uint8_t *out, size_
 
 /* ---- multihash_c/src/version.rt
  * The version of the library for C. */
-
-#define MH_MAJOR UINT32_C(1)
-
-#define MH_MINOR UINT32_C(0)
-
-#define MH_PATCH UINT32_C(0)
 
 /* Returns the version: 10000 times the major number, plus 100 times the minor number, plus the patch
  * number. */

@@ -31,6 +31,8 @@ void check_decodings(const uint8_t *bytes, size_t length, size_t limit);
 void check_many(const uint8_t *bytes, size_t length, size_t room);
 void check_encodings(uint64_t code, const uint8_t *digest, size_t length, size_t room);
 void check_length(uint64_t code, size_t length);
+void check_varint(const uint8_t *bytes, size_t length);
+void check_number(uint64_t value, size_t room);
 void check_input(uint64_t code, const uint8_t *bytes, size_t length, size_t limit);
 
 /* verdicts.c */

@@ -160,6 +160,32 @@ void check_length(uint64_t code, size_t length)
     CHECK(same_encoded(multihash_encoded_len(code, length), model_encoding(code, length, need, SIZE_MAX)));
 }
 
+void check_varint(const uint8_t *bytes, size_t length)
+{
+    uint64_t number;
+    size_t taken = 0;
+    multihash_status status = model_varint(bytes, length, &number, &taken);
+    multihash_varint found = multihash_read_varint(bytes, length);
+    CHECK(found.status == status && found.value == (status == MULTIHASH_OK ? number : 0));
+    CHECK(found.length == (status == MULTIHASH_OK ? taken : 0));
+}
+
+/* Writes a number into `room` bytes, and reads it back. */
+void check_number(uint64_t value, size_t room)
+{
+    size_t need = varint_length(value), taken = 0;
+    multihash_encoded wanted = {room < need ? MULTIHASH_NO_ROOM : MULTIHASH_OK, 0, need};
+    if (value > INT64_MAX) wanted = encoded(MULTIHASH_OVERFLOW, 0, 0);
+    size_t written = wanted.status == MULTIHASH_OK ? need : 0;
+    uint8_t *out = marked(room);
+    uint64_t number;
+    CHECK(same_encoded(multihash_write_varint(value, out, room), wanted));
+    CHECK(written == 0 || model_varint(out, written, &number, &taken) == MULTIHASH_OK);
+    CHECK(written == 0 || (number == value && taken == written));
+    check_marks(out, written, room);
+    release(out);
+}
+
 /* Encodes what was decoded: to the bytes that it was decoded from, and with less capacity. */
 static void check_back(encoder encode, const uint8_t *bytes, multihash_decoded found)
 {
@@ -207,6 +233,7 @@ void check_decodings(const uint8_t *bytes, size_t length, size_t limit)
     for (size_t part = 0; part <= length; part++) {
         if (part == MULTIHASH_HEAD_MAX + 3 && length > part + 8) part = length - 8;
         CHECK(same(multihash_read(bytes, part), model_read(bytes, part, part, MULTIHASH_DIGEST_MAX)));
+        check_varint(bytes, part);
         CHECK(same(multihash_from_prefix(bytes, part, length), model_whole(bytes, part, length)));
         CHECK(same(multihash_from_prefix(bytes, length, part), model_whole(bytes, length, part)));
     }
@@ -243,6 +270,7 @@ void check_input(uint64_t code, const uint8_t *bytes, size_t length, size_t limi
     size_t half = length / 2, room = length + limit % 24;
     check_decodings(bytes, length, limit);
     check_length(code, length);
+    check_number(code, limit % 12);
     check_encodings(code, bytes, length, room);
     check_encodings(code, bytes, length, limit);
     check_text((multihash_status)code, room % 60);

@@ -37,6 +37,42 @@ static void check_orders(void)
     }
 }
 
+/* Varints, each alone and with the zero byte that ends the text, and what is malformed. */
+static void check_varints(void)
+{
+    static const struct {
+        multihash_status status;
+        uint64_t value;
+        size_t length;
+        const char *bytes;
+    } rows[] = {
+        {MULTIHASH_OK, 0, 1, "\0"},
+        {MULTIHASH_OK, 127, 1, "\x7f"},
+        {MULTIHASH_OK, 128, 2, "\x80\1"},
+        {MULTIHASH_OK, 16383, 2, "\xff\x7f"},
+        {MULTIHASH_OK, 16384, 3, "\x80\x80\1"},
+        {MULTIHASH_OK, 0xb220, 3, "\xa0\xe4\2"},
+        {MULTIHASH_OK, INT64_MAX, 9, "\xff\xff\xff\xff\xff\xff\xff\xff\x7f"},
+        {MULTIHASH_INSUFFICIENT, 0, 0, ""},
+        {MULTIHASH_INSUFFICIENT, 0, 2, "\x80\x80"},
+        {MULTIHASH_NOT_MINIMAL, 0, 3, "\x81\x80\0"},
+        {MULTIHASH_OVERFLOW, 0, 10, "\x80\x80\x80\x80\x80\x80\x80\x80\x80\1"},
+    };
+    for (size_t i = 0; i < sizeof rows / sizeof rows[0]; i++) {
+        int is_ok = rows[i].status == MULTIHASH_OK;
+        uint8_t out[9], *input = copy_of((const uint8_t *)rows[i].bytes, rows[i].length);
+        multihash_varint found = multihash_read_varint(input, rows[i].length);
+        CHECK(found.status == rows[i].status && found.value == rows[i].value);
+        CHECK(found.length == (is_ok ? rows[i].length : 0));
+        CHECK(!is_ok || multihash_write_varint(found.value, out, sizeof out).length == found.length);
+        CHECK(!is_ok || memcmp(out, input, found.length) == 0);
+        check_varint((const uint8_t *)rows[i].bytes, rows[i].length + 1);
+        release(input);
+        for (size_t room = 0; room <= 10; room++) check_number(found.value, room);
+    }
+    for (size_t room = 0; room <= 10; room++) check_number((uint64_t)INT64_MAX + 1, room);
+}
+
 /* A length that no buffer has, which is rejected without an access, and buffers of more than 2^32 bytes. */
 static void check_large(void)
 {
@@ -148,6 +184,7 @@ static const struct {
 } cases[] = {
     {"streams", check_streams},
     {"orders", check_orders},
+    {"varints", check_varints},
     {"large", check_large},
     {"version", check_version},
     {"messages", check_messages},

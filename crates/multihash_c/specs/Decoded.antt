@@ -1,14 +1,15 @@
--- The results of a decoding, and of the two varints at the front, for a C caller.
+-- The results of a decoding, of the two varints at the front, and of one, for a C caller.
 use Rattle.std.specs.Prelude.{◌≡◌, ℕ, ◌+◌, ◌*◌, ◌<◌, ◌≤◌, List, Some, length, take, drop, ◌⊎◌}
 use Rattle.multihash.specs.Bytes.{IsPrefix}
 use Rattle.multihash.specs.Pair.{Pair}
-use Rattle.multihash.specs.Varint.{insufficient, VarintError, max_continuation}
+use Rattle.multihash.specs.Varint.{insufficient, VarintError, max_continuation, IsVarint, BeginsMalformed}
 use Rattle.multihash.specs.Verdict.{Verdict, accepted, invalid_size, invalid_code, malformed, unexpected_eof, HasVerdict, HasWholeVerdict, IsIncomplete, HasHead}
 use Rattle.multihash.specs.Consuming.{ConsumesShortestSettling}
 use Rattle.multihash.specs.Scale.{IsScale, HasScaleVerdict}
 use Rattle.multihash_c.specs.Status.{status_ok, status_of_error, status_invalid_size, status_invalid_code, status_unexpected_eof}
 use Rattle.multihash_c.specs.declared.decode.Decoded.{Decoded}
 use Rattle.multihash_c.specs.declared.decode.Front.{Front}
+use Rattle.multihash_c.specs.declared.decode.Varint.{Varint}
 
 -- the code, and the digest's offset in the input: it is the last part consumed, so its length gives the
 -- offset
@@ -104,3 +105,21 @@ pub record ReportsHeadError (input : List ℕ) (f : Front) : Type 0 where
 -- the result of reading both varints, and the number of bytes consumed
 abbrev pub ReadsFront : List ℕ → Front → Type 0
 ReadsFront input f = ReportsHead input f ⊎ ReportsHeadError input f
+
+-- the first bytes, as many as are reported, are the varint of the number
+pub record ReportsVarint (input : List ℕ) (v : Varint) : Type 0 where
+  pub is_ok : v.status ≡ status_ok
+  pub inside : v.length ≤ length input
+  pub is_varint : IsVarint v.value (take v.length input)
+
+-- the varint at the front is malformed
+pub record ReportsVarintError (input : List ℕ) (v : Varint) : Type 0 where
+  pub error : VarintError
+  pub begins : BeginsMalformed error input
+  pub is_status : v.status ≡ status_of_error error
+  pub no_value : v.value ≡ 0
+  pub no_length : v.length ≡ 0
+
+-- the result of reading one varint
+abbrev pub ReadsVarint : List ℕ → Varint → Type 0
+ReadsVarint input v = ReportsVarint input v ⊎ ReportsVarintError input v

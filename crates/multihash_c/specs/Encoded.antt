@@ -1,9 +1,9 @@
 -- The result of an encoding for a C caller, and what it writes to the caller's buffer.
 use Rattle.std.specs.Prelude.{◌≡◌, ℕ, ◌<◌, ◌≤◌, List, ◌++◌, length, drop}
 use Rattle.multihash.specs.Pair.{Pair}
-use Rattle.multihash.specs.Varint.{varint_limit}
+use Rattle.multihash.specs.Varint.{varint_limit, overflow, IsVarint}
 use Rattle.multihash.specs.Encoding.{IsEncoding}
-use Rattle.multihash_c.specs.Status.{status_ok, status_invalid_size, status_invalid_code, status_no_room}
+use Rattle.multihash_c.specs.Status.{status_ok, status_invalid_size, status_invalid_code, status_no_room, status_of_error}
 use Rattle.multihash_c.specs.declared.encode.Encoded.{Encoded}
 
 -- the digest has that many bytes, which is too many
@@ -49,3 +49,9 @@ pub record WritesForm (IsForm : Pair → List ℕ → Type 0) (p : Pair) (e : En
   pub too_long : 255 < length p.digest → IsTooLong (length p.digest) e × (new ≡ old)
   pub large_code : length p.digest ≤ 255 → varint_limit ≤ p.code → IsLargeCode e × (new ≡ old)
   pub puts : length p.digest ≤ 255 → p.code < varint_limit → Puts (IsForm p) e old new
+
+-- the varint of a number is written. One that is out of range has none of at most nine bytes: then the buffer is
+-- unchanged
+pub record WritesVarint (n : ℕ) (e : Encoded) (old new : List ℕ) : Type 0 where
+  pub too_large : varint_limit ≤ n → (e.status ≡ status_of_error overflow) × (e.size ≡ 0) × (e.length ≡ 0) × (new ≡ old)
+  pub puts : n < varint_limit → Puts (IsVarint n) e old new

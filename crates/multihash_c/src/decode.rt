@@ -7,7 +7,7 @@ ghost use Rattle.multihash.specs.Verdict.{Verdict, accepted, invalid_size, inval
 ghost use Rattle.multihash.specs.Scale.{HasScaleVerdict};
 ghost use Rattle.multihash.specs.Refusal.{IsVarintError};
 ghost use Rattle.multihash_c.specs.Status.{status_of_error};
-ghost use Rattle.multihash_c.specs.Decoded.{Reports, ReportsError, ReportsPrefix, ConsumesForm, ReadsWithin, ReadsFront};
+ghost use Rattle.multihash_c.specs.Decoded.{Reports, ReportsError, ReportsPrefix, ConsumesForm, ReadsWithin, ReadsFront, ReadsVarint};
 
 use crate::{CODE_LEN, DIGEST_MAX, SCALE_HEAD, status};
 use multihash::{Error, Head, varint};
@@ -42,6 +42,18 @@ pub struct Front {
     pub digest_length: u64,
     /// The number of bytes consumed; if there is no error, the index at which the digest starts.
     pub taken: usize,
+}
+
+/// The varint at the front of an input. A field without a meaning for its status is 0.
+#[repr(C)]
+#[derive(Clone, Copy)]
+pub struct Varint {
+    /// 0 (`status::OK`) or the error.
+    pub status: u32,
+    /// The number: less than 2^63.
+    pub value: u64,
+    /// The number of bytes of the varint.
+    pub length: usize,
 }
 
 /// Decodes the multihash whose encoding is the whole of `bytes`.
@@ -98,6 +110,25 @@ pub extern "C" fn multihash_head(bytes: &[u8]) -> Front
             code: 0,
             digest_length: 0,
             taken,
+        },
+    }
+}
+
+/// Decodes the varint at the front of `bytes`.
+#[unsafe(no_mangle)]
+pub extern "C" fn multihash_read_varint(bytes: &[u8]) -> Varint
+    ensures { ReadsVarint bytes.now result }
+{
+    match varint::read_front(bytes) {
+        Ok((value, rest)) => Varint {
+            status: status::OK,
+            value,
+            length: bytes.len() - rest.len(),
+        },
+        Err(error) => Varint {
+            status: varint_status(&error),
+            value: 0,
+            length: 0,
         },
     }
 }

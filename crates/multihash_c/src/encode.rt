@@ -3,7 +3,7 @@ ghost use Rattle.std.specs.Prelude.{◌≡◌, ◌+◌, ◌<◌, ◌≤◌, ℕ,
 ghost use Rattle.multihash.specs.Varint.{IsVarint, varint_limit};
 ghost use Rattle.multihash.specs.Encoding.{IsEncoding};
 ghost use Rattle.multihash.specs.Scale.{IsScale};
-ghost use Rattle.multihash_c.specs.Encoded.{IsTooLong, IsLargeCode, ReportsLength, WritesForm, IsPut};
+ghost use Rattle.multihash_c.specs.Encoded.{IsTooLong, IsLargeCode, ReportsLength, WritesForm, WritesVarint, IsPut};
 ghost use Rattle.multihash_c.specs.Status.{status_ok, status_no_room};
 
 use crate::{CODE_LEN, DIGEST_MAX, SCALE_HEAD, status};
@@ -71,6 +71,25 @@ pub extern "C" fn multihash_encoded_len(code: u64, digest_length: usize) -> Enco
         Ok(code_length) => count_parts(code_length, digest_length),
         Err(_) => rejected_code(),
     }
+}
+
+/// Writes the varint of a number to the front of `out`.
+#[unsafe(no_mangle)]
+pub extern "C" fn multihash_write_varint(value: u64, out: &mut [u8]) -> Encoded
+    ensures { WritesVarint value result out.old out.new }
+{
+    let Ok(length) = varint::len(value) else {
+        return Encoded {
+            status: status::OVERFLOW,
+            size: 0,
+            length: 0,
+        };
+    };
+    if length > out.len() {
+        return count(length, out.len());
+    }
+    let written = put_varint(value, out);
+    count(written, out.len())
 }
 
 // Writes the encoding of a code of one byte and a digest of the usual length. Each part has a constant
