@@ -29,10 +29,10 @@ TESTS = {
     "allocating_writes": 7,
     "allocating_write_of_a_vector": 2,
     "allocating_push": 2,
-    # each block by 3, of 4096, 8192 and 16384 bytes
-    "allocating_storage": 6,
-    # the same 3: memory grows with the bytes that arrive, and not with the length that is claimed
-    "allocating_claimed_length": 3,
+    # each block by 7, of 256 bytes to 16384
+    "allocating_storage": 14,
+    # the same 7: memory grows with the bytes that arrive, and not with the length that is claimed
+    "allocating_claimed_length": 7,
     # 3 for 4, 8 and 16 items, 1, again 3 for items that are counted; 1, 2 and 1 for the forms
     "allocating_examples": 11,
     "calls_over_slices_need_no_memory": 0,

@@ -1,5 +1,5 @@
 //! A block of bytes with its length before it.
-ghost use Rattle.std.specs.Prelude.{◌≡◌, ◌<◌, ◌≤◌, ◌⊎◌, ℕ, vec_len};
+ghost use Rattle.std.specs.Prelude.{◌≡◌, ◌<◌, ◌≤◌, ◌⊎◌, ◌↔◌, ℕ, vec_len, IfOk, IsErr};
 ghost use Rattle.multihash.specs.Varint.{varint_limit};
 
 use crate::{Form, FormError};
@@ -15,6 +15,23 @@ pub struct Block<const MAX: usize> {
     pub bytes: Vec<u8>,
     pub ghost within: { vec_len bytes ≤ MAX },
     pub ghost in_range: { vec_len bytes < varint_limit },
+}
+
+impl<const MAX: usize> Block<MAX> {
+    /// Returns the value of these bytes.
+    ///
+    /// # Errors
+    ///
+    /// [`FormError::TooLong`] if there are more than `MAX` bytes.
+    pub fn new(bytes: Vec<u8>) -> Result<Self, FormError>
+        ensures ok { IfOk result (λ x. x.bytes.items ≡ bytes.items) }
+        ensures err { IsErr result ↔ (MAX < vec_len bytes) }
+    {
+        if bytes.len() > MAX {
+            return Err(FormError::TooLong(bytes.len() as u64));
+        }
+        Ok(Block { bytes })
+    }
 }
 
 impl<const MAX: usize> Form for Block<MAX> {

@@ -1,5 +1,5 @@
 //! A number below 2^63, as its varint.
-ghost use Rattle.std.specs.Prelude.{◌≡◌, ◌<◌};
+ghost use Rattle.std.specs.Prelude.{◌≡◌, ◌<◌, ◌≤◌, ◌↔◌, IfSome, IsNone};
 ghost use Rattle.multihash.specs.Varint.{varint_limit};
 
 use crate::{Form, FormError};
@@ -15,6 +15,19 @@ pub struct Number {
     /// The number.
     pub value: u64,
     pub ghost in_range: { value < varint_limit },
+}
+
+impl Number {
+    /// Returns the number as a form, or `None` if it is 2^63 or more.
+    pub fn new(value: u64) -> Option<Self>
+        ensures some { IfSome result (λ x. x.value ≡ value) }
+        ensures none { IsNone result ↔ (varint_limit ≤ value) }
+    {
+        if value > varint::MAX {
+            return None;
+        }
+        Some(Number { value })
+    }
 }
 
 impl Form for Number {

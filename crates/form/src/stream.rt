@@ -129,8 +129,9 @@ impl<R: Read> Stream<R> {
             × (rest_from self.new.ahead (R.rest self.new.inner) ≡ Some more)) (IsFailed IsOutOfMemory) }
     {
         for _ in 0..n {
-            let Some(value) = self.read_next::<T>(alloc)? else {
-                return Ok(());
+            let value = match self.read_next::<T>(alloc)? {
+                Some(value) => value,
+                None => return Ok(()),
             };
             list.push(value)?;
         }
@@ -147,8 +148,9 @@ impl<R: Read> Read for Stream<R> {
         if buf.is_empty() {
             return Ok(0);
         }
-        let Some(byte) = self.ahead else {
-            return self.inner.read(buf);
+        let byte = match self.ahead {
+            Some(byte) => byte,
+            None => return self.inner.read(buf),
         };
         buf[0] = byte;
         self.ahead = None;

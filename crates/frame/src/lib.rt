@@ -17,7 +17,7 @@ use multihash::{Error, varint};
 use std::alloc::Global;
 
 // The most bytes that are read at once.
-const CHUNK: usize = 4096;
+const CHUNK: usize = 256;
 
 /// Appends the frame of a block to `w`.
 ///
@@ -39,7 +39,7 @@ pub fn write<W: Write>(block: &[u8], w: &mut W) -> Result<(), Error>
 
 /// Reads the frame that comes next. Returns its block, and leaves what follows in `r` unread.
 ///
-/// Memory grows with the bytes that arrive: a length that is only claimed allocates 4096 bytes at most.
+/// Memory grows with the bytes that arrive: a length that is only claimed allocates 256 bytes at most.
 ///
 /// # Errors
 ///
@@ -93,8 +93,9 @@ pub fn read_next<R: Read>(
         (λ next. IsSomeAnd next (λ read. read.items ≡ block) × (R.rest r.new ≡ Some more))
         (IsFailed IsOutOfMemory) }
 {
-    let Some(len) = varint::read_next(r)? else {
-        return Ok(None);
+    let len = match varint::read_next(r)? {
+        Some(len) => len,
+        None => return Ok(None),
     };
     let block = read_within(alloc, r, len, limit)?;
     Ok(Some(block))

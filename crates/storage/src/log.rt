@@ -51,7 +51,7 @@ pub fn write_entry<const S: usize, W: Write>(
 /// Reads the entry that comes next. It consumes exactly that entry. It does not check that the multihash is
 /// the block's: `content::verify` does.
 ///
-/// Memory grows with the bytes that arrive: a length that is only claimed allocates 4096 bytes at most.
+/// Memory grows with the bytes that arrive: a length that is only claimed allocates 256 bytes at most.
 ///
 /// # Errors
 ///

@@ -35,10 +35,10 @@ returns-in_err-value-clause-faults g c =
       | inr listed ↦ inr (listed.0, inl listed.1)
     ])
 
-pub returns-in_default-clause-ok : goal.returns-in_default-clause-ok
-returns-in_default-clause-ok g c =
+pub returns-in-None-clause-ok : goal.returns-in-None-clause-ok
+returns-in-None-clause-ok g c =
     let before = c.loop.invariant in
-    let ended = rw c.in_default.is at c.in_ok-value.ensures.end.none in
+    let ended = rw c.in-None.is at c.in_ok-value.ensures.end.none in
     record {
       reads = record { values = before.reads.values; appended = before.reads.appended; consumed = rw ended.1 before.reads.consumed };
       number = inr (omega (arith, before.count, c.loop-test.true), subst IsAtEnd (sym ended.1) ended.0);
@@ -130,10 +130,10 @@ returns-in_err-value-clause-found g c xs bytes more are at number same =
       | inr (left, is_left, (x, part, rest, is, cut)) ↦ c.in_err-value.ensures.found x part rest is (is_left ∙ ap Some cut) unfailed
     ])
 
-pub returns-in_default-clause-found : goal.returns-in_default-clause-found
-returns-in_default-clause-found g c xs bytes more are at number same =
+pub returns-in-None-clause-found : goal.returns-in-None-clause-found
+returns-in-None-clause-found g c xs bytes more are at number same =
     let before = c.loop.invariant in
-    let ended = rw c.in_default.is at c.in_ok-value.ensures.end.none in
+    let ended = rw c.in-None.is at c.in_ok-value.ensures.end.none in
     elim (fewer_found g.T.Form.is_form g.T.Form.same g.met.T.Form.unique g.met.T.Form.some _ _ _ _ before.reads xs bytes more are at
     c.args.n number (omega (arith, before.count, c.loop-test.true))) [
       | inl (appends, rest, _) ↦ (appends, ended.1 ∙ rest)
