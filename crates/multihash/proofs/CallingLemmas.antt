@@ -1,5 +1,7 @@
 -- What callers conclude from the contracts of several calls.
-use Rattle.std.proofs.Common.{Vec, Global, length-append, ◌≡◌, ℕ, ◌<◌, ◌≤◌, ◌⊎◌, IfOk, IfErr, OnErr, IsOk, inl, inr, List, [], ◌++◌, length, map, false, Option, Some, Result, Ok, Err, MatchResult, IfSome, refl, sym, ap, ◌∙◌, subst, arith, append_assoc, ◌+◌, drop, length-drop}
+use Rattle.std.proofs.Common.{Vec, Global, length-append, ◌≡◌, ℕ, ◌<◌, ◌≤◌, ◌⊎◌, IfOk, IfErr, OnErr, IsOk, inl, inr, List, [], ◌++◌,
+    length, map, false, Option, Some, Result, Ok, Err, MatchResult, IfSome, refl, sym, ap, ◌∙◌, subst, arith, append_assoc, ◌+◌,
+    drop, length-drop}
 use Rattle.std.specs.List.{All}
 use Rattle.std.specs.Result.{IsErrAnd}
 use Rattle.std.proofs.lemmas.List.{length-map}
@@ -7,7 +9,8 @@ use Rattle.multihash.specs.Pair.{Pair, FitsBuffer, digest_limit}
 use Rattle.multihash.specs.Encoding.{IsEncoding}
 use Rattle.multihash.specs.Streams.{AreConcatenated, ConsumesPairs, StopsAfterPairs}
 use Rattle.multihash.specs.Varint.{VarintError, insufficient, overflow, not_minimal, IsVarint}
-use Rattle.multihash.specs.Verdict.{Verdict, accepted, invalid_size, invalid_code, malformed, unexpected_eof, BeginsWithSize, HasHead, HasVerdict, HasWholeVerdict, IsIncomplete}
+use Rattle.multihash.specs.Verdict.{Verdict, accepted, invalid_size, invalid_code, malformed, unexpected_eof, BeginsWithSize, HasHead,
+    HasVerdict, HasWholeVerdict, IsIncomplete}
 use Rattle.multihash.specs.Consuming.{ConsumesVarint, ConsumesAtVarintError, FailsBy, VarintFails, ExactFails}
 use Rattle.multihash.proofs.SettlingLemmas.{error_of_part, verdict_kept}
 use Rattle.multihash.proofs.ReadConsumingLemmas.{incomplete_error}
@@ -17,7 +20,8 @@ use Rattle.multihash.specs.Scale.{IsScale, HasScaleVerdict}
 use Rattle.multihash.specs.Writing.{AppendsPrefix, CountsWriterFailures}
 use Rattle.multihash.specs.Filling.{Fills, IsFilled}
 use Rattle.multihash.specs.declared.no_std_io.slice_writer.SliceWriter.{SliceWriter}
-use Rattle.multihash.specs.Refusal.{Refusal, of_io, of_varint, IsIo, IsEof, IsOutOfMemory, IsInvalidSize, IsVarintError, IsFrontError, IsAnyVarintError}
+use Rattle.multihash.specs.Refusal.{Refusal, of_io, of_varint, IsIo, IsEof, IsOutOfMemory, IsInvalidSize, IsVarintError, IsFrontError,
+    IsAnyVarintError}
 use Rattle.multihash.specs.Outcome.{IsErrorOf, IsResultOf}
 use Rattle.multihash.specs.Multihash.{Fields, pair_of}
 use Rattle.multihash.proofs.WritingLemmas.{slice_writer_has_room}
@@ -34,10 +38,12 @@ pub never_stops : (S count : ℕ) (e : Refusal) (n : ℕ) (new : Option (List �
     → StopsAfterPairs S count e n n (Some (bytes ++ more)) new → ⊥
 never_stops S count e n new pairs bytes more concatenated fit many stop =
     let (left, is, cut) = Consumes-known (bytes ++ more) stop.consumed.bytes stop.following stop.consumed.consumes in
-    let (p, x, rest, encodes, follows, each) = next_part IsEncoding encoding_unique stop.pairs pairs stop.consumed.bytes bytes left more stop.consumed.concatenated concatenated
+    let (p, x, rest, encodes, follows, each) =
+        next_part IsEncoding encoding_unique stop.pairs pairs stop.consumed.bytes bytes left more stop.consumed.concatenated concatenated
     (omega (arith, stop.fewer)) (sym cut) in
     let found = (rw is at stop.failed.verdict) refl in
-    let next : HasVerdict S left (accepted p) = (rest, record { encoding = x; encodes = encodes; cut = follows }, each (FitsBuffer S) fit) in
+    let next : HasVerdict S left (accepted p) =
+        (rest, record { encoding = x; encodes = encodes; cut = follows }, each (FitsBuffer S) fit) in
     subst (IsErrorOf e) (verdict_unique S left found.0 (accepted p) found.1 next) found.2
 
 -- reading that many pairs of a stream returns them and leaves what follows, or it is out of memory
@@ -50,7 +56,8 @@ pub read_list_of_encodings : (S count before after : ℕ) (old new : Option (Lis
 read_list_of_encodings S count before after old new pairs bytes more (Ok list) concatenated fit many rest same ok err =
     let (left, is, cut) = Consumes-known (bytes ++ more) ok.1.bytes new (sym rest ∙ ok.1.consumes) in
     let long : length (map pair_of list.items) ≡ length pairs = omega (arith, length-map list.items pair_of, ok.0) in
-    let told = parts_unique IsEncoding encoding_unique (map pair_of list.items) pairs ok.1.bytes bytes left more long ok.1.concatenated concatenated (sym cut) in
+    let told = parts_unique IsEncoding encoding_unique (map pair_of list.items) pairs ok.1.bytes bytes left more long ok.1.concatenated
+        concatenated (sym cut) in
     (told.0, is ∙ ap Some told.2)
 read_list_of_encodings S count before after old new pairs bytes more (Err e) concatenated fit many rest same ok (inl memory) = memory.0
 read_list_of_encodings S count before after old new pairs bytes more (Err e) concatenated fit many rest same ok (inr stop) =
@@ -107,13 +114,15 @@ accepted_encoding S {q = q} {bytes = bytes} (v, h, is_result) =
     (own, λ p encodes. (encoding_unique q p bytes bytes [] [] own encodes refl).0)
 
 -- `from_bytes` of the encoding of a pair that fits returns the pair: the facts are its clauses
-pub from_bytes_of_encoding : (S : ℕ) (p : Pair) (bytes : List ℕ) (r : Result (Fields S) Refusal) (v : Verdict) → HasWholeVerdict S bytes v → IsResultOf r v
+pub from_bytes_of_encoding : (S : ℕ) (p : Pair) (bytes : List ℕ) (r : Result (Fields S) Refusal) (v : Verdict) → HasWholeVerdict S bytes v
+    → IsResultOf r v
     → IsEncoding p bytes → FitsBuffer S p → MatchResult r (λ m. pair_of m ≡ p) IsOutOfMemory
 from_bytes_of_encoding S p bytes (Ok m) v h is_result encodes fits = (accepted_encoding S (v, h, is_result)).1 p encodes
 from_bytes_of_encoding S p bytes (Err e) v h is_result encodes fits = absurd (rejected_no_encoding S (v, h, is_result) p encodes fits)
 
 -- a size that is too large is rejected: the last fact is the clause `verdict` of `read`
-pub rejected_size : (S size : ℕ) (input rest : List ℕ) (r : Result (Fields S) Refusal) → BeginsWithSize size input rest → digest_limit S < size
+pub rejected_size : (S size : ℕ) (input rest : List ℕ) (r : Result (Fields S) Refusal) → BeginsWithSize size input rest
+    → digest_limit S < size
     → (v : Verdict) × HasVerdict S input v × IsResultOf r v → IsErrAnd r (IsInvalidSize size)
 rejected_size S size input rest (Ok m) h over v =
     let same : v.0 ≡ invalid_size size = verdict_unique S input v.0 (invalid_size size) v.1 (rest, h, over) in
@@ -150,7 +159,8 @@ module _ (before after : ℕ) (same : after ≡ before) (e : Refusal) where
       number_no_error (varint ++ rest) n rest error (varint, is, refl) bad
 
   -- a part of the input is rejected only if it ends within the varint
-  pub number_truncated : (n : ℕ) (varint rest part more : List ℕ) (new : Option (List ℕ)) → IsVarint n varint → varint ++ rest ≡ part ++ more
+  pub number_truncated : (n : ℕ) (varint rest part more : List ℕ) (new : Option (List ℕ)) → IsVarint n varint
+      → varint ++ rest ≡ part ++ more
       → VarintFails before after e (Some part) new → IsVarintError insufficient e
   number_truncated n varint rest part more new is cut fails =
       let (error, named, bad) = fails.front same in
@@ -177,7 +187,8 @@ exact_fails n before middle after old new error same faults eof part =
     })
 
 -- `read_exact` of the last `m` of `n` bytes failed, after the others were consumed
-pub exact_after : (n m before after : ℕ) (read : List ℕ) (old mid new : Option (List ℕ)) (e : Refusal) → Consumes old read mid → length read + m ≤ n
+pub exact_after : (n m before after : ℕ) (read : List ℕ) (old mid new : Option (List ℕ)) (e : Refusal) → Consumes old read mid
+    → length read + m ≤ n
     → ExactFails m before after e mid new → ExactFails n before after e old new
 exact_after n m before after read old mid new e consumes long fails = record {
   cause = fails.cause;
@@ -194,7 +205,8 @@ exact_after n m before after read old mid new e consumes long fails = record {
 
 sizes_once : (s t : ℕ) (x r q : List ℕ) (h : BeginsWithSize s x r) (g : BeginsWithSize t x q) → (h.code ≡ g.code) × (s ≡ t) × (r ≡ q)
 sizes_once s t x r q h g =
-    let codes = number_unique x h.code g.code (h.size_bytes ++ r) (g.size_bytes ++ q) (h.code_bytes, h.is_code, h.cut) (g.code_bytes, g.is_code, g.cut) in
+    let codes = number_unique x h.code g.code (h.size_bytes ++ r) (g.size_bytes ++ q) (h.code_bytes, h.is_code, h.cut)
+        (g.code_bytes, g.is_code, g.cut) in
     let sizes = number_unique (h.size_bytes ++ r) s t r q (h.size_bytes, h.is_size, refl) (g.size_bytes, g.is_size, codes.1) in
     (codes.0, sizes.0, sizes.1)
 
@@ -203,12 +215,14 @@ module _ (code size len : ℕ) (input : List ℕ) (h : HasHead code size len inp
   pub head_unique : (c s k : ℕ) → HasHead c s k input → (code ≡ c) × (size ≡ s) × (len ≡ k)
   head_unique c s k g =
       let once = sizes_once size s input (drop len input) (drop k input) h.varints g.varints in
-      (sym h.is_code ∙ (once.0 ∙ g.is_code), once.1, omega (arith, ap length once.2, length-drop len input, length-drop k input, h.within, g.within))
+      (sym h.is_code ∙ (once.0 ∙ g.is_code), once.1, omega (arith, ap length once.2, length-drop len input, length-drop k input,
+          h.within, g.within))
 
   -- an input with a head has no malformed varint at its front
   pub head_no_error : (S : ℕ) (f : VarintError) → HasVerdict S input (malformed f) → ⊥
   head_no_error S f (inl bad) =
-      number_no_error input h.varints.code (h.varints.size_bytes ++ drop len input) f (h.varints.code_bytes, h.varints.is_code, h.varints.cut) bad
+      number_no_error input h.varints.code (h.varints.size_bytes ++ drop len input) f (h.varints.code_bytes, h.varints.is_code,
+          h.varints.cut) bad
   head_no_error S f (inr (rest, c, bad)) =
       let codes = number_unique input c.code h.varints.code rest (h.varints.size_bytes ++ drop len input) (c.code_bytes, c.is_code, c.cut)
       (h.varints.code_bytes, h.varints.is_code, h.varints.cut) in
@@ -223,7 +237,8 @@ module _ (code size len : ℕ) (input : List ℕ) (h : HasHead code size len inp
       (sym h.is_code ∙ once.0, once.1, once.2)
 
 -- `varint::read` failed after calls that counted no failure: the facts are its clauses
-pub varint_fails : (before middle after : ℕ) (old new : Option (List ℕ)) (e : Refusal) → middle ≡ before → FailsBy middle after IsAnyVarintError e
+pub varint_fails : (before middle after : ℕ) (old new : Option (List ℕ)) (e : Refusal) → middle ≡ before
+    → FailsBy middle after IsAnyVarintError e
     → ConsumesAtVarintError e old new → IfSome old (λ input. after ≡ middle → IsFrontError input e) → VarintFails before after e old new
 varint_fails before middle after old new e same cause consumed front =
     subst (λ k. VarintFails k after e old new) same (record { cause = cause; consumed = consumed; front = front })
@@ -268,7 +283,8 @@ incomplete_or_not (malformed not_minimal) = inr (λ h. h)
 incomplete_or_not unexpected_eof = inl tt
 
 -- a part of an input that starts with an encoding that fits is rejected only if it ends within the encoding
-pub encoding_truncated : (S : ℕ) (p : Pair) (bytes rest part more : List ℕ) (v : Verdict) (e : Refusal) → IsEncoding p bytes → FitsBuffer S p
+pub encoding_truncated : (S : ℕ) (p : Pair) (bytes rest part more : List ℕ) (v : Verdict) (e : Refusal) → IsEncoding p bytes
+    → FitsBuffer S p
     → part ++ more ≡ bytes ++ rest → HasVerdict S part v → IsErrorOf e v → IsVarintError insufficient e ⊎ IsEof e
 encoding_truncated S p bytes rest part more v e encodes fits cut has is =
     elim (incomplete_or_not v) [

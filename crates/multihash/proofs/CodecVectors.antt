@@ -88,26 +88,31 @@ consumes_no_code_in_range h = let (bytes, rest, is_code, above, cut) = (h.code 0
 
 -- no byte after the size, nor the size after a code that is too large
 consumes_no_more_than_nine : ¬ (ConsumesAtScaleError 4 (of_size 5) (Some (zeros ++ 5 ∷ 7 ∷ [])) (Some []))
-consumes_no_more_than_nine h = omega (arith, (h.size 5 refl).1, ap (λ (z : List ℕ). length z) (consumed_is (zeros ++ 5 ∷ 7 ∷ []) [] h.consumed h.consumes))
+consumes_no_more_than_nine h =
+    omega (arith, (h.size 5 refl).1, ap (λ (z : List ℕ). length z) (consumed_is (zeros ++ 5 ∷ 7 ∷ []) [] h.consumed h.consumes))
 
 consumes_no_size_after_code : ¬ (ConsumesAtScaleError 4 (of_code 18446744073709551615) (Some (all_255 ++ 0 ∷ [])) (Some []))
 consumes_no_size_after_code h =
-    omega (arith, (h.code 18446744073709551615 refl).1, ap (λ (z : List ℕ). length z) (consumed_is (all_255 ++ 0 ∷ []) [] h.consumed h.consumes))
+    omega (arith, (h.code 18446744073709551615 refl).1,
+        ap (λ (z : List ℕ). length z) (consumed_is (all_255 ++ 0 ∷ []) [] h.consumed h.consumes))
 
 -- if all of an input was consumed, its verdict is the one of the error
 claimed : (a consumed : List ℕ) (v w : Verdict) → Consumes (Some (a ++ [])) consumed (Some [])
     → HasScaleVerdict 4 consumed v → HasScaleVerdict 4 a w → v ≡ w
-claimed a consumed v w consumes has own = scale_verdict_unique 4 a v w (subst (λ (z : List ℕ). HasScaleVerdict 4 z v) (consumed_is a [] consumed consumes) has) own
+claimed a consumed v w consumes has own =
+    scale_verdict_unique 4 a v w (subst (λ (z : List ℕ). HasScaleVerdict 4 z v) (consumed_is a [] consumed consumes) has) own
 
 -- no unexpected end of file for a complete pair
 ends_not_after_pair : ¬ (ConsumesAtScaleError 4 (of_io eof) (Some (zeros ++ 0 ∷ [])) (Some []))
 ends_not_after_pair h =
-    let same = claimed (zeros ++ 0 ∷ []) h.consumed unexpected_eof (accepted (pair 0 [])) h.consumes (h.truncated (inl (eof, refl, refl))) scale_empty_digest_of_4 in cc
+    let same = claimed (zeros ++ 0 ∷ []) h.consumed unexpected_eof (accepted (pair 0 [])) h.consumes
+        (h.truncated (inl (eof, refl, refl))) scale_empty_digest_of_4 in cc
 
 -- a reader is not called after a size that is rejected
 fails_not_after_size : ¬ (ConsumesAtScaleError 4 (of_io other) (Some (zeros ++ 5 ∷ [])) (Some []))
 fails_not_after_size h =
-    let same = claimed (zeros ++ 5 ∷ []) h.consumed unexpected_eof (invalid_size 5) h.consumes (h.truncated (inr (other, refl, inl ([], refl)))) scale_size_first in cc
+    let same = claimed (zeros ++ 5 ∷ []) h.consumed unexpected_eof (invalid_size 5) h.consumes
+        (h.truncated (inr (other, refl, inl ([], refl)))) scale_size_first in cc
 
 -- ---- lists
 
@@ -128,7 +133,8 @@ consumes_no_second_pair_that_fits_not old new h =
 -- ---- a list that was rejected at its first pair
 
 -- one pair was requested, and none was consumed before
-none_before : (S : ℕ) (pairs : List Pair) (old middle : Option (List ℕ)) → length pairs < 1 → ConsumesPairs S pairs old middle → middle ≡ old
+none_before : (S : ℕ) (pairs : List Pair) (old middle : Option (List ℕ)) → length pairs < 1
+    → ConsumesPairs S pairs old middle → middle ≡ old
 none_before S [] old middle fewer h =
     Consumes-none middle ∙ sym
     (subst (λ (z : List ℕ). Consumes old z middle) h.concatenated h.consumes)

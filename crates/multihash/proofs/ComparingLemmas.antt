@@ -39,5 +39,6 @@ short_bytes p x short e =
     rw (e.spelled, code, size)
 
 -- then pairs are ordered as their encodings are, byte by byte; in general they are not
-pub order_of_bytes : (p q : Pair) (x y : List ℕ) → HasShortHead p → HasShortHead q → IsEncoding p x → IsEncoding q y → compare_pairs p q ≡ slice_cmp nat_cmp x y
+pub order_of_bytes : (p q : Pair) (x y : List ℕ) → HasShortHead p → HasShortHead q → IsEncoding p x → IsEncoding q y
+    → compare_pairs p q ≡ slice_cmp nat_cmp x y
 order_of_bytes p q x y short also e f = rw (short_bytes p x short e, short_bytes q y also f)

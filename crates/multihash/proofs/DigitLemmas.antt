@@ -1,5 +1,6 @@
 -- Numbers written in digits: bounds, one number for one list of digits, and digits as continuation bytes.
-use Rattle.std.proofs.Common.{◌≡◌, ℕ, zero, suc, ◌+◌, ◌*◌, ◌^◌, ◌<◌, List, [], ◌∷◌, ◌++◌, length, refl, ◌∙◌, arith, add-one, ◌%◌, ◌≤◌, map, sym, bit_or, length-append}
+use Rattle.std.proofs.Common.{◌≡◌, ℕ, zero, suc, ◌+◌, ◌*◌, ◌^◌, ◌<◌, List, [], ◌∷◌, ◌++◌, length, refl, ◌∙◌, arith, add-one, ◌%◌, ◌≤◌,
+    map, sym, bit_or, length-append}
 use Rattle.std.specs.List.{sum_by, enumerate_from, All}
 use Rattle.std.proofs.Math.Nat.{pow-suc, pow-zero, mul_assoc, mul-suc, mul-zero, mul-le-mul_left, mod-eq_of_lt}
 use Rattle.std.proofs.lemmas.List.Sums.{sum_by-cons}
@@ -95,7 +96,8 @@ low_digits bytes = map (λ b. b % 128) bytes
 pub low_digits_below : (bytes : List ℕ) → All IsDigit (low_digits bytes)
 low_digits_below bytes = All-map IsDigit (λ b. b % 128) bytes (λ k d below. mod_below _ 128 (omega arith))
 
-pub continuation_bytes-low_digits : (bytes : List ℕ) → IsBytes bytes → All IsContinuation bytes → continuation_bytes (low_digits bytes) ≡ bytes
+pub continuation_bytes-low_digits : (bytes : List ℕ) → IsBytes bytes → All IsContinuation bytes
+    → continuation_bytes (low_digits bytes) ≡ bytes
 continuation_bytes-low_digits [] bytes all = refl
 continuation_bytes-low_digits (b ∷ bs) bytes all =
     let small : b < 256 = All-head (λ b. b < 256) b bs bytes in

@@ -1,5 +1,6 @@
 -- The JSON form: a list has one pair; the bytes that an array's members are.
-use Rattle.std.proofs.Common.{◌≡◌, ℕ, ◌<◌, List, [], ◌∷◌, ◌++◌, map, refl, sym, ap, ◌∙◌, subst, Some, arith, zero, suc, true, false, length, take, drop, set, slice_index_or, is_some, Option, None, inl, inr}
+use Rattle.std.proofs.Common.{◌≡◌, ℕ, ◌<◌, List, [], ◌∷◌, ◌++◌, map, refl, sym, ap, ◌∙◌, subst, Some, arith, zero, suc, true, false,
+    length, take, drop, set, slice_index_or, is_some, Option, None, inl, inr}
 use Rattle.serde_json.specs.Data.{Data, number, unsigned, Items, negative, float, null, boolean, string, array, object}
 use Rattle.serde_json.specs.View.{items_of, view, items_view}
 use Rattle.multihash.specs.Bytes.{IsBytes}
@@ -46,7 +47,8 @@ pub some_value : (o : Option ℕ) → is_some o ≡ true → (b : ℕ) × (o ≡
 some_value None e = absurd (false≢true e)
 some_value (Some b) e = (b, refl)
 
-byte_first : (v : Value) (vs : List Value) → list_all is_byte (v ∷ vs) ≡ true → ((b : ℕ) × (byte_of_data (view v) ≡ Some b)) × (list_all is_byte vs ≡ true)
+byte_first : (v : Value) (vs : List Value) → list_all is_byte (v ∷ vs) ≡ true → ((b : ℕ) × (byte_of_data (view v) ≡ Some b))
+    × (list_all is_byte vs ≡ true)
 byte_first v vs e = let parts = and_parts (is_byte v) (list_all is_byte vs) e in (some_value (byte_of_data (view v)) parts.0, parts.1)
 
 -- a byte is held as its number
@@ -95,7 +97,8 @@ array_data (string _) items e = cc
 array_data (array found) items e = let same : found ≡ items = cc in ap array same
 array_data (object _) items e = cc
 
-pub byte_array : (d : Data) (vs : List Value) → as_array d ≡ Some (items_view vs) → list_all is_byte vs ≡ true → IsByteArray d (member_bytes vs)
+pub byte_array : (d : Data) (vs : List Value) → as_array d ≡ Some (items_view vs) → list_all is_byte vs ≡ true
+    → IsByteArray d (member_bytes vs)
 byte_array d vs e all =
     let found = all_bytes vs all in record { array = array_data d (items_view vs) e ∙ ap array found.0; are_bytes = found.1 }
 
@@ -127,7 +130,8 @@ pub member_byte : (vs : List Value) (at : ℕ) (v : Value) → list_all is_byte 
 member_byte vs at v e inside is = some_value _ (ap is_byte is ∙ AllPass-from_list_all is_byte vs e at v inside)
 
 -- the bytes of the first members, and of the others
-pub bytes_split : (n : ℕ) (vs : List Value) → list_all is_byte vs ≡ true → member_bytes vs ≡ member_bytes (take n vs) ++ member_bytes (drop n vs)
+pub bytes_split : (n : ℕ) (vs : List Value) → list_all is_byte vs ≡ true
+    → member_bytes vs ≡ member_bytes (take n vs) ++ member_bytes (drop n vs)
 bytes_split zero vs e = refl
 bytes_split (suc n) [] e = refl
 bytes_split (suc n) (v ∷ vs) e =

@@ -3,7 +3,8 @@ use Rattle.std.proofs.Common.{◌≡◌, Result, Ok, Err, MatchResult, IfErr, On
 use Rattle.std.specs.Result.{IsErrAnd}
 
 -- what holds of an error holds of the error that a `?` returns, which equals that one
-pub passed_on : {T E : Type 0} (r : Result T E) (e : E) (Q : T → Type 0) (P : E → Type 0) → IsErrAnd r (λ x. x ≡ e) → P e → MatchResult r Q P
+pub passed_on : {T E : Type 0} (r : Result T E) (e : E) (Q : T → Type 0) (P : E → Type 0) → IsErrAnd r (λ x. x ≡ e) → P e
+    → MatchResult r Q P
 passed_on (Ok t) e Q P given p = absurd given
 passed_on (Err x) e Q P given p = subst P (sym given) p
 

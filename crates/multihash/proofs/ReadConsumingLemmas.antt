@@ -1,22 +1,27 @@
 -- The contract of `read` for each way to end: in the code, the size or the digest; the error of a head.
-use Rattle.std.proofs.Common.{◌∙◌, ◌≡◌, ◌+◌, ◌<◌, ◌⊎◌, ℕ, List, [], ◌++◌, Option, Some, Result, Ok, Err, IfSome, refl, sym, ap, subst, inl, inr, arith, append-nil, ◌≤◌, length, append_assoc, drop, length-drop}
+use Rattle.std.proofs.Common.{◌∙◌, ◌≡◌, ◌+◌, ◌<◌, ◌⊎◌, ℕ, List, [], ◌++◌, Option, Some, Result, Ok, Err, IfSome, refl, sym, ap, subst,
+    inl, inr, arith, append-nil, ◌≤◌, length, append_assoc, drop, length-drop}
 use Rattle.std.proofs.lemmas.List.{drop-drop}
 use Rattle.multihash.specs.Bytes.{IsStrictPrefix}
 use Rattle.multihash.specs.Pair.{digest_limit}
 use Rattle.multihash.specs.Varint.{insufficient, VarintError, overflow, not_minimal, IsVarint, BeginsMalformed}
 use Rattle.multihash.specs.Encoding.{IsEncoding}
-use Rattle.multihash.specs.Verdict.{Verdict, accepted, invalid_size, invalid_code, malformed, unexpected_eof, HasVerdict, IsIncomplete, BeginsWithSize}
+use Rattle.multihash.specs.Verdict.{Verdict, accepted, invalid_size, invalid_code, malformed, unexpected_eof, HasVerdict, IsIncomplete,
+    BeginsWithSize}
 use Rattle.std.specs.Io.KnownBytes.{IsAtEnd, prepend_known}
 use Rattle.multihash.specs.Reading.{Consumes, HasFewerThan}
 use Rattle.multihash.specs.Fault.{Fault, IsUnexpectedEof, IsOwnFault}
-use Rattle.multihash.specs.Refusal.{Refusal, of_io, of_size, of_code, of_varint, IsReaderError, IsEof, IsInvalidSize, IsVarintError, IsAnyVarintError}
-use Rattle.multihash.specs.Consuming.{ReadMayFailWith, ConsumesShortestSettling, ConsumesNothingSettling, EndsOrFails, ReadMeets, ConsumesAtVarintError, ConsumesVarint, IsFrontErrorAt, IsHeadError}
+use Rattle.multihash.specs.Refusal.{Refusal, of_io, of_size, of_code, of_varint, IsReaderError, IsEof, IsInvalidSize, IsVarintError,
+    IsAnyVarintError}
+use Rattle.multihash.specs.Consuming.{ReadMayFailWith, ConsumesShortestSettling, ConsumesNothingSettling, EndsOrFails, ReadMeets,
+    ConsumesAtVarintError, ConsumesVarint, IsFrontErrorAt, IsHeadError}
 use Rattle.multihash.specs.Outcome.{IsErrorOf, IsResultOf}
 use Rattle.multihash.specs.Multihash.{Fields, pair_of}
 use Rattle.multihash.proofs.EncodingLemmas.{digest_fits}
 use Rattle.multihash.proofs.ReadingLemmas.{IfSome-consumed, Consumes-concatenated, Consumes-cut}
 use Rattle.multihash.proofs.VerdictLemmas.{verdict_unique, coded, sized}
-use Rattle.multihash.proofs.SettlingLemmas.{verdict_kept, none_settles, IsIncompleteInput, before_digest, shortest_from, before_second, before_both}
+use Rattle.multihash.proofs.SettlingLemmas.{verdict_kept, none_settles, IsIncompleteInput, before_digest, shortest_from,
+    before_second, before_both}
 
 -- ---- errors and verdicts
 
@@ -77,14 +82,17 @@ listed S e consumed unexpected_eof given has = inr (inr given)
 module _ (S : ℕ) (consumed : List ℕ) (old new : Option (List ℕ)) (before after : ℕ) (consumes : Consumes old consumed new) (v : Verdict)
     (has : HasVerdict S consumed v) where
   -- a verdict that is not incomplete, while every strict prefix is incomplete
-  module _ (unrisen : after ≡ before) (late : ¬ (IsIncomplete v)) (no_sooner : (p : List ℕ) → IsStrictPrefix p consumed → IsIncompleteInput S p) where
+  module _ (unrisen : after ≡ before) (late : ¬ (IsIncomplete v)) (no_sooner : (p : List ℕ) → IsStrictPrefix p consumed
+      → IsIncompleteInput S p) where
     kept : (left : List ℕ) → HasVerdict S (consumed ++ left) v
     kept left = verdict_kept S consumed left v late has
 
-    told : (r : Result (Fields S) Refusal) → IsResultOf r v → IfSome old (λ rest. after ≡ before → (w : Verdict) × HasVerdict S rest w × IsResultOf r w)
+    told : (r : Result (Fields S) Refusal) → IsResultOf r v
+        → IfSome old (λ rest. after ≡ before → (w : Verdict) × HasVerdict S rest w × IsResultOf r w)
     told r is_result = IfSome-consumed old new consumed _ consumes (λ left is _. (v, kept left, is_result))
 
-    shortest : IfSome old (λ rest. after ≡ before → (w : Verdict) → HasVerdict S rest w → ¬ (IsIncomplete w) → ConsumesShortestSettling S rest new)
+    shortest : IfSome old (λ rest. after ≡ before → (w : Verdict) → HasVerdict S rest w → ¬ (IsIncomplete w)
+        → ConsumesShortestSettling S rest new)
     shortest = IfSome-consumed old new consumed _ consumes (λ left is _ w holds stays. record {
       front = consumed;
       shortest = shortest_from S (consumed ++ left) consumed left v refl has late no_sooner;
@@ -191,7 +199,8 @@ module _ (S : ℕ) (e : Refusal) (old mid new : Option (List ℕ)) (before after
   module _ (a : List ℕ) (consumes : Consumes old (a ++ t.consumed) new)
       (shows : (f : VarintError) → BeginsMalformed f t.consumed → HasVerdict S (a ++ t.consumed) (malformed f))
       (no_sooner : (p : List ℕ) → IsStrictPrefix p (a ++ t.consumed) → IsIncompleteInput S p) where
-    rejected : (f : VarintError) → after ≡ before → IsVarintError f e → HasVerdict S (a ++ t.consumed) (malformed f) → ReadMeets S old new before after (Err e)
+    rejected : (f : VarintError) → after ≡ before → IsVarintError f e → HasVerdict S (a ++ t.consumed) (malformed f)
+        → ReadMeets S old new before after (Err e)
     rejected insufficient same given has =
         at_incomplete S _ _ _ _ _ consumes (malformed insufficient) has tt e same given (λ _. t.all given)
         (whole_at_end (λ x. HasVerdict S x (malformed insufficient)) (a ++ t.consumed) new (t.all given) has)
@@ -210,12 +219,14 @@ module _ (S : ℕ) (e : Refusal) (old mid new : Option (List ℕ)) (before after
 
   pub stops_in_size : (code : ℕ) (a : List ℕ) → IsVarint code a → Consumes old a mid → ReadMeets S old new before after (Err e)
   stops_in_size code a is_code first =
-      stops_in_varint a (Consumes-concatenated old mid new a t.consumed _ refl first t.consumes) (λ f h. inr (t.consumed, coded code a _ t.consumed is_code refl, h))
+      stops_in_varint a (Consumes-concatenated old mid new a t.consumed _ refl first t.consumes)
+          (λ f h. inr (t.consumed, coded code a _ t.consumed is_code refl, h))
       (λ p b. before_second S code a t.consumed p is_code t.no_sooner b)
 
 -- ---- after both varints
 
-module _ (S code size : ℕ) (a b : List ℕ) (is_code : IsVarint code a) (is_size : IsVarint size b) (old new : Option (List ℕ)) (before after : ℕ) where
+module _ (S code size : ℕ) (a b : List ℕ) (is_code : IsVarint code a) (is_size : IsVarint size b) (old new : Option (List ℕ))
+    (before after : ℕ) where
   has_size : (rest : List ℕ) → BeginsWithSize size (a ++ (b ++ rest)) rest
   has_size rest = sized code size a b _ rest is_code is_size refl
 
@@ -239,7 +250,8 @@ module _ (S code size : ℕ) (a b : List ℕ) (is_code : IsVarint code a) (is_si
           | inl (rose, own) ↦
               at_failure S _ old new before after consumes unexpected_eof (cut_digest front short) tt (of_io error) rose (error, refl, own)
           | inr (same, ended) ↦
-              at_incomplete S _ old new before after consumes unexpected_eof (cut_digest front short) tt (of_io error) same (error, refl, ended)
+              at_incomplete S _ old new before after consumes unexpected_eof (cut_digest front short) tt (of_io error) same
+                  (error, refl, ended)
               (λ no. cc) (λ left is. rw (append_assoc a (b ++ front) left, append_assoc b front left)
               (cut_digest (front ++ left) (subst (HasFewerThan size) (last ∙ ap (prepend_known front) is) (few ended))))
         ]
@@ -262,7 +274,8 @@ module _ (e : Refusal) (input : List ℕ) where
 
   pub code_error : (taken : ℕ) → IsFrontErrorAt input e taken → IsHeadError input e taken
   code_error taken ((f, named, shows), within, t) =
-      head_error f taken named within (λ S. inl shows) (λ S. stops_in_code S e (Some input) (Some input) _ 0 0 t (inr (refl, (f, named))) t.consumes)
+      head_error f taken named within (λ S. inl shows)
+          (λ S. stops_in_code S e (Some input) (Some input) _ 0 0 t (inr (refl, (f, named))) t.consumes)
 
   pub size_error : (code k taken : ℕ) → k ≤ length input → ConsumesVarint code (Some input) (Some (drop k input))
       → IsFrontErrorAt (drop k input) e taken → IsHeadError input e (k + taken)

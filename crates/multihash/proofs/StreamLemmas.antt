@@ -1,6 +1,7 @@
 -- Parts in a stream, none of which is a prefix of another, can be split in one way only; one more pair has been
 -- consumed.
-use Rattle.std.proofs.Common.{◌≡◌, ℕ, ◌<◌, ◌≤◌, List, [], ◌∷◌, ◌++◌, length, refl, sym, ap, ◌∙◌, subst, arith, length-append, append_assoc, append-nil, Option, Some, map, inl, inr}
+use Rattle.std.proofs.Common.{◌≡◌, ℕ, ◌<◌, ◌≤◌, List, [], ◌∷◌, ◌++◌, length, refl, sym, ap, ◌∙◌, subst, arith, length-append,
+    append_assoc, append-nil, Option, Some, map, inl, inr}
 use Rattle.std.specs.List.{All}
 use Rattle.multihash.specs.Pair.{Pair, FitsBuffer}
 use Rattle.multihash.specs.Encoding.{IsEncoding}
@@ -18,19 +19,23 @@ use Rattle.multihash.proofs.ReadingLemmas.{Consumes-concatenated, Consumes-known
 
 module _ {A : Type 0} (IsPart : A → List ℕ → Type 0) where
   -- one more part after the parts of a list
-  pub parts_push : (xs : List A) (x : A) (bytes part : List ℕ) → AreParts IsPart xs bytes → IsPart x part → AreParts IsPart (xs ++ x ∷ []) (bytes ++ part)
+  pub parts_push : (xs : List A) (x : A) (bytes part : List ℕ) → AreParts IsPart xs bytes → IsPart x part
+      → AreParts IsPart (xs ++ x ∷ []) (bytes ++ part)
   parts_push [] x bytes part none is = (part, [], is, refl, ap (λ z. z ++ part) none ∙ sym (append-nil part))
   parts_push (y ∷ xs) x bytes part (first, rest, is_first, others, cut) is =
       (first, rest ++ part, is_first, parts_push xs x rest part others is, ap (λ z. z ++ part) cut ∙ append_assoc first rest part)
 
   -- if each item has one part, a list of items has one stream
-  pub parts_same : ((x : A) (a b : List ℕ) → IsPart x a → IsPart x b → a ≡ b) → (xs : List A) (a b : List ℕ) → AreParts IsPart xs a → AreParts IsPart xs b → a ≡ b
+  pub parts_same : ((x : A) (a b : List ℕ) → IsPart x a → IsPart x b → a ≡ b) → (xs : List A) (a b : List ℕ) → AreParts IsPart xs a
+      → AreParts IsPart xs b → a ≡ b
   parts_same same [] a b g h = g ∙ sym h
-  parts_same same (x ∷ xs) a b (p, a', is_p, g, a_cut) (q, b', is_q, h, b_cut) = cc (a_cut, b_cut, same x p q is_p is_q, parts_same same xs a' b' g h)
+  parts_same same (x ∷ xs) a b (p, a', is_p, g, a_cut) (q, b', is_q, h, b_cut) =
+      cc (a_cut, b_cut, same x p q is_p is_q, parts_same same xs a' b' g h)
 
   module _ (unique : (x y : A) (a b r s : List ℕ) → IsPart x a → IsPart y b → a ++ r ≡ b ++ s → (x ≡ y) × (a ≡ b) × (r ≡ s)) where
     -- a part that was read is the one that comes next, if no part is a prefix of another
-    pub part_read : (x y : A) (bytes more : List ℕ) (old new : Option (List ℕ)) → ConsumesSome (IsPart x) old new → IsPart y bytes → old ≡ Some (bytes ++ more)
+    pub part_read : (x y : A) (bytes more : List ℕ) (old new : Option (List ℕ)) → ConsumesSome (IsPart x) old new → IsPart y bytes
+        → old ≡ Some (bytes ++ more)
         → (x ≡ y) × (new ≡ Some more)
     part_read x y bytes more old new (read, is, consumes) also at =
         let (left, told, cut) = Consumes-known (bytes ++ more) read new (sym at ∙ consumes) in
@@ -38,7 +43,8 @@ module _ {A : Type 0} (IsPart : A → List ℕ → Type 0) where
         (same.0, told ∙ ap Some same.2)
 
     -- of two streams at the front of one input, the one of fewer items is the front of the other
-    pub parts_split : (xs ys : List A) (a b r s : List ℕ) → AreParts IsPart xs a → AreParts IsPart ys b → length xs ≤ length ys → a ++ r ≡ b ++ s
+    pub parts_split : (xs ys : List A) (a b r s : List ℕ) → AreParts IsPart xs a → AreParts IsPart ys b → length xs ≤ length ys
+        → a ++ r ≡ b ++ s
         → (zs : List A) × (c : List ℕ) × (ys ≡ xs ++ zs) × AreParts IsPart zs c × (b ≡ a ++ c) × (r ≡ c ++ s)
     parts_split [] ys a b r s none h few e = (ys, b, refl, h, ap (λ z. z ++ b) (sym none), sym (ap (λ z. z ++ r) none) ∙ e)
     parts_split (x ∷ xs) [] a b r s g h few e = absurd (omega arith)
@@ -63,7 +69,8 @@ module _ {A : Type 0} (IsPart : A → List ℕ → Type 0) where
         by (z ∷ zs, c, same, _, _, _) = absurd (omega (arith, long, ap length same, length-append xs (z ∷ zs)))
 
     -- after the parts of fewer items comes the part of another item
-    pub next_part : (xs ys : List A) (a b r s : List ℕ) → AreParts IsPart xs a → AreParts IsPart ys b → length xs < length ys → a ++ r ≡ b ++ s
+    pub next_part : (xs ys : List A) (a b r s : List ℕ) → AreParts IsPart xs a → AreParts IsPart ys b → length xs < length ys
+        → a ++ r ≡ b ++ s
         → (y : A) × (part : List ℕ) × (rest : List ℕ) × IsPart y part × (r ≡ part ++ rest) × ((P : A → Type 0) → All P ys → P y)
     next_part xs ys a b r s g h few e = by (parts_split xs ys a b r s g h (omega arith) e)
       where
@@ -80,7 +87,8 @@ module _ {A : Type 0} (IsPart : A → List ℕ → Type 0) where
         )
 
     -- after a shorter stream comes a part of the longer one, so a loop need not know their number
-    pub part_follows : (xs ys : List A) (a b r s : List ℕ) → AreParts IsPart xs a → AreParts IsPart ys b → length a < length b → a ++ r ≡ b ++ s
+    pub part_follows : (xs ys : List A) (a b r s : List ℕ) → AreParts IsPart xs a → AreParts IsPart ys b → length a < length b
+        → a ++ r ≡ b ++ s
         → (y : A) × (part : List ℕ) × (rest : List ℕ) × IsPart y part × (r ≡ part ++ rest) × ((P : A → Type 0) → All P ys → P y)
     part_follows xs ys a b r s g h longer e =
         elim (cases_lt (length xs) (length ys)) [
@@ -92,14 +100,17 @@ module _ {A : Type 0} (IsPart : A → List ℕ → Type 0) where
 
     module _ (some : (x : A) (part : List ℕ) → IsPart x part → 0 < length part) where
       -- if no part is empty, the items of a stream at the front of a longer one are the first of its items
-      pub prefix_of : (xs ys : List A) (a b r s : List ℕ) → AreParts IsPart xs a → AreParts IsPart ys b → length a ≤ length b → a ++ r ≡ b ++ s
+      pub prefix_of : (xs ys : List A) (a b r s : List ℕ) → AreParts IsPart xs a → AreParts IsPart ys b → length a ≤ length b
+          → a ++ r ≡ b ++ s
           → (zs : List A) × (ys ≡ xs ++ zs)
       prefix_of [] ys a b r s none h longer e = (ys, refl)
-      prefix_of (x ∷ xs) [] a b r s (p, a', is, g, cut) none longer e = absurd (omega (arith, longer, some x p is, ap length cut, ap length none, length-append p a'))
+      prefix_of (x ∷ xs) [] a b r s (p, a', is, g, cut) none longer e =
+          absurd (omega (arith, longer, some x p is, ap length cut, ap length none, length-append p a'))
       prefix_of (x ∷ xs) (y ∷ ys) a b r s (p, a', is_p, g, a_cut) (q, b', is_q, h, b_cut) longer e =
           let first = unique x y p q (a' ++ r) (b' ++ s) is_p is_q
           (sym (ap (λ z. z ++ r) a_cut ∙ append_assoc p a' r) ∙ (e ∙ (ap (λ z. z ++ s) b_cut ∙ append_assoc q b' s))) in
-          let shorter : length a' ≤ length b' = omega (arith, longer, ap length a_cut, ap length b_cut, ap length first.1, length-append p a', length-append q b') in
+          let shorter : length a' ≤ length b' = omega (arith, longer, ap length a_cut, ap length b_cut, ap length first.1,
+              length-append p a', length-append q b') in
           let (zs, same) = prefix_of xs ys a' b' r s g h shorter first.2 in
           (zs, cc (first.0, same))
 
@@ -120,8 +131,10 @@ pub concatenated_whole : (ps qs : List Pair) (bytes : List ℕ) → AreConcatena
 concatenated_whole = parts_whole IsEncoding encoding_unique encoding_some
 
 -- one more pair was read after others
-pub ConsumesPairs-more : (S : ℕ) (items : List (Fields S)) (m : Fields S) (encoding : List ℕ) (a b c : Option (List ℕ)) → ConsumesPairs S (map pair_of items) a b
-    → IsEncoding (pair_of m) encoding → FitsBuffer S (pair_of m) → Consumes b encoding c → ConsumesPairs S (map pair_of (items ++ m ∷ [])) a c
+pub ConsumesPairs-more : (S : ℕ) (items : List (Fields S)) (m : Fields S) (encoding : List ℕ) (a b c : Option (List ℕ))
+    → ConsumesPairs S (map pair_of items) a b
+    → IsEncoding (pair_of m) encoding → FitsBuffer S (pair_of m) → Consumes b encoding c
+        → ConsumesPairs S (map pair_of (items ++ m ∷ [])) a c
 ConsumesPairs-more S items m encoding a b c before encodes fits consumes =
     rw (map_push pair_of items m) (record {
       bytes = before.bytes ++ encoding;

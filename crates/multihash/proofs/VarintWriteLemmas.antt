@@ -1,5 +1,6 @@
 -- The invariant of the loop that writes a varint's bytes; each number in range has a varint.
-use Rattle.std.proofs.Common.{◌≡◌, ℕ, zero, suc, ◌+◌, ◌*◌, ◌/◌, ◌%◌, ◌^◌, ◌<◌, ◌≤◌, List, [], ◌∷◌, ◌++◌, length, refl, sym, ap, ◌∙◌, arith, add-one, append_assoc, inl, inr, bit_and, bit_or}
+use Rattle.std.proofs.Common.{◌≡◌, ℕ, zero, suc, ◌+◌, ◌*◌, ◌/◌, ◌%◌, ◌^◌, ◌<◌, ◌≤◌, List, [], ◌∷◌, ◌++◌, length, refl, sym, ap, ◌∙◌,
+    arith, add-one, append_assoc, inl, inr, bit_and, bit_or}
 use Rattle.std.specs.List.{All}
 use Rattle.std.proofs.Math.Nat.{lt_of_not-le, pow-suc, pow-zero, div-add-mod', pow-le-pow_right, mul-le-mul_right}
 use Rattle.std.proofs.lemmas.Nat.{and_mask, or_comm, or_shifted, mod_below, div_below}
@@ -53,7 +54,8 @@ module _ (now : List ℕ) (len n rest : ℕ) (h : Wrote now len n rest) where
       front = h.front;
       last = rest;
       digits = All-push IsDigit h.front rest h.digits small;
-      minimal = λ z. nil_from_length h.front (omega (arith, h.long, lt_of_not-le (λ (some : 1 ≤ len). omega (arith, h.more (omega arith), z))));
+      minimal = λ z. nil_from_length h.front
+          (omega (arith, h.long, lt_of_not-le (λ (some : 1 ≤ len). omega (arith, h.more (omega arith), z))));
       value = rw h.long at (place_value_last 128 rest h.front) ∙ sym h.value;
       in_range = range;
       spelled = ap (λ (z : List ℕ). z ++ rest ∷ []) h.spelled;

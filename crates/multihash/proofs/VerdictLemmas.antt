@@ -1,5 +1,6 @@
 -- An input has one verdict; the two varints at its front.
-use Rattle.std.proofs.Common.{◌≡◌, ℕ, ◌<◌, ◌≤◌, cond, ltb, List, [], ◌∷◌, ◌++◌, length, take, drop, refl, sym, ap, ◌∙◌, subst, arith, inl, inr, length-append, append-nil, ◌+◌, ◌-◌, Some, get_or}
+use Rattle.std.proofs.Common.{◌≡◌, ℕ, ◌<◌, ◌≤◌, cond, ltb, List, [], ◌∷◌, ◌++◌, length, take, drop, refl, sym, ap, ◌∙◌, subst, arith, inl,
+    inr, length-append, append-nil, ◌+◌, ◌-◌, Some, get_or}
 use Rattle.std.proofs.lemmas.Bool.{cases_lt, lt-ltb, le-ltb}
 use Rattle.std.proofs.lemmas.List.{take_at, drop_at, take-append-drop, length-take-le, length-drop, drop-drop}
 use Rattle.std.proofs.lemmas.List.Elements.{All-same}
@@ -7,7 +8,8 @@ use Rattle.multihash.specs.Bytes.{IsBytes}
 use Rattle.multihash.specs.Pair.{Pair, FitsBuffer, digest_limit}
 use Rattle.multihash.specs.Varint.{IsVarint}
 use Rattle.multihash.specs.Encoding.{IsEncoding}
-use Rattle.multihash.specs.Verdict.{Verdict, accepted, invalid_size, invalid_code, malformed, unexpected_eof, BeginsWith, BeginsWithSize, BeginsWithCode, HasVerdict, HasWholeVerdict, HasHead}
+use Rattle.multihash.specs.Verdict.{Verdict, accepted, invalid_size, invalid_code, malformed, unexpected_eof, BeginsWith, BeginsWithSize,
+    BeginsWithCode, HasVerdict, HasWholeVerdict, HasHead}
 use Rattle.multihash.proofs.DigitLemmas.{All-append_right}
 use Rattle.multihash.proofs.VarintWriteLemmas.{one_byte}
 use Rattle.multihash.proofs.VarintLemmas.{Front, number, error, HasFront, front_is, front_of, front_of_has}
@@ -22,7 +24,8 @@ use Rattle.multihash.proofs.ReadingLemmas.{Consumes-cut}
 abbrev pub coded : (code : ℕ) (a x rest : List ℕ) → IsVarint code a → x ≡ a ++ rest → BeginsWithCode x rest
 coded code a x rest is_code cut = record { code = code; code_bytes = a; is_code = is_code; cut = cut }
 
-abbrev pub sized : (code size : ℕ) (a b x rest : List ℕ) → IsVarint code a → IsVarint size b → x ≡ a ++ (b ++ rest) → BeginsWithSize size x rest
+abbrev pub sized : (code size : ℕ) (a b x rest : List ℕ) → IsVarint code a → IsVarint size b → x ≡ a ++ (b ++ rest)
+    → BeginsWithSize size x rest
 sized code size a b x rest is_code is_size cut =
     record { code = code; code_bytes = a; size_bytes = b; is_code = is_code; is_size = is_size; cut = cut }
 
@@ -52,9 +55,11 @@ found S x = found_by pair_alone S x
 module _ (ends : Pair → List ℕ → Verdict) (S : ℕ) (x : List ℕ) where
   pub judged_at : (rest : List ℕ) (c : BeginsWithCode x rest) (g : Front) → HasFront rest g → judged ends S c.code g ≡ found_by ends S x
   judged_at rest c g has =
-      ap (judged ends S c.code) (front_is rest g has) ∙ ap (follows ends S) (front_is x (number c.code rest) (c.code_bytes, c.is_code, c.cut))
+      ap (judged ends S c.code) (front_is rest g has)
+          ∙ ap (follows ends S) (front_is x (number c.code rest) (c.code_bytes, c.is_code, c.cut))
 
-  pub judged_size : (size : ℕ) (rest : List ℕ) (h : BeginsWithSize size x rest) → judged ends S h.code (number size rest) ≡ found_by ends S x
+  pub judged_size : (size : ℕ) (rest : List ℕ) (h : BeginsWithSize size x rest)
+      → judged ends S h.code (number size rest) ≡ found_by ends S x
   judged_size size rest h =
       judged_at (h.size_bytes ++ rest) (coded h.code h.code_bytes x _ h.is_code h.cut) (number size rest) (h.size_bytes, h.is_size, refl)
 
@@ -62,9 +67,11 @@ module _ (ends : Pair → List ℕ → Verdict) (S : ℕ) (x : List ℕ) where
   judged_pair p rest b fits =
       let n = length p.digest in
       let long : n ≤ length (p.digest ++ rest) = omega (arith, length-append p.digest rest) in
-      rw (le-ltb (digest_limit S) n fits, le-ltb (length (p.digest ++ rest)) n long, take_at p.digest rest n refl, drop_at p.digest rest n refl) refl
+      rw (le-ltb (digest_limit S) n fits, le-ltb (length (p.digest ++ rest)) n long, take_at p.digest rest n refl,
+          drop_at p.digest rest n refl) refl
       ∙ judged_size n (p.digest ++ rest)
-      (sized p.code n b.encodes.code b.encodes.size x _ b.encodes.is_code b.encodes.is_size (b.cut ∙ encoding_cut p b.encoding rest b.encodes))
+      (sized p.code n b.encodes.code b.encodes.size x _ b.encodes.is_code b.encodes.is_size
+          (b.cut ∙ encoding_cut p b.encoding rest b.encodes))
 
   -- an input has no other verdict than the computed one
   found_is : (v : Verdict) → HasVerdict S x v → ((p : Pair) (rest : List ℕ) → v ≡ accepted p → v ≡ ends p rest) → v ≡ found_by ends S x
@@ -105,7 +112,8 @@ has_judged S size x rest h =
         | inl short ↦ (unexpected_eof, (size, rest, h, within, short))
         | inr full ↦
             let long : length (take size rest) ≡ size = length-take-le size rest full in
-            (accepted _, (drop size rest, pair_begins size x rest h (take size rest) _ long (sym (take-append-drop size rest)), omega arith))
+            (accepted _, (drop size rest, pair_begins size x rest h (take size rest) _ long
+                (sym (take-append-drop size rest)), omega arith))
       ]
     ]
 
@@ -199,12 +207,14 @@ module _ (code size len : ℕ) (input : List ℕ) (h : HasHead code size len inp
     whole_exact exact =
         let p : Pair = record { code = code; digest = rest } in
         let begins : BeginsWith p input [] =
-        rw (← h.is_code, is) (pair_begins size input (drop len input) h.varints (drop len input) [] (ap length (sym is) ∙ exact) (sym (append-nil (drop len input)))) in
+        rw (← h.is_code, is) (pair_begins size input (drop len input) h.varints (drop len input) [] (ap length (sym is) ∙ exact)
+            (sym (append-nil (drop len input)))) in
         (whole_pair p input begins, omega arith)
 
 -- the two varints are a head
 pub head_of : (code size k m : ℕ) (input left : List ℕ) → left ≡ drop k input → k ≤ length input → m ≤ length left
-    → ConsumesVarint code (Some input) (Some (drop k input)) → ConsumesVarint size (Some left) (Some (drop m left)) → HasHead code size (k + m) input
+    → ConsumesVarint code (Some input) (Some (drop k input)) → ConsumesVarint size (Some left) (Some (drop m left))
+        → HasHead code size (k + m) input
 head_of code size k m input left is within more a b =
     let second = sym is ∙ Consumes-cut left _ (drop m left) b.2 ∙ ap (λ z. b.0 ++ z) (ap (drop m) is ∙ drop-drop m k input) in
     let cut = Consumes-cut input _ (drop k input) a.2 ∙ ap (λ z. a.0 ++ z) second in

@@ -1,5 +1,6 @@
 -- What has been appended after several writes; a writer to a slice fails only if its capacity is too small.
-use Rattle.std.proofs.Common.{◌≡◌, ◌≢◌, ◌<◌, [], ◌∷◌, refl, ℕ, ◌-◌, List, ◌++◌, length, take, drop, Result, OnErr, sym, ap, ◌∙◌, arith, append_assoc, take-append-drop, length-append, length-drop, ◌≤◌, false, inl, inr, Ok, Err, IsOk, ◌+◌, subst, Bool}
+use Rattle.std.proofs.Common.{◌≡◌, ◌≢◌, ◌<◌, [], ◌∷◌, refl, ℕ, ◌-◌, List, ◌++◌, length, take, drop, Result, OnErr, sym, ap, ◌∙◌, arith,
+    append_assoc, take-append-drop, length-append, length-drop, ◌≤◌, false, inl, inr, Ok, Err, IsOk, ◌+◌, subst, Bool}
 use Rattle.std.proofs.lemmas.List.{take_rest, length-take-le, drop-drop}
 use Rattle.std.proofs.Math.Seq.{drop-append_seam, take-append_seam}
 use Rattle.multihash.specs.Bytes.{IsStrictPrefix}
@@ -22,8 +23,10 @@ concatenated-take-drop whole done left n e =
     e ∙ ap (λ l. done ++ l) (sym (take-append-drop n left)) ∙ sym (append_assoc done (take n left) (drop n left))
 
 -- the first n of the remaining bytes follow those done so far, the others are `left[n..]`
-pub concatenated-take-range : (whole done left : List ℕ) (n : ℕ) → whole ≡ done ++ left → whole ≡ (done ++ take n left) ++ take (length left - n) (drop n left)
-concatenated-take-range whole done left n e = concatenated-take-drop whole done left n e ∙ ap (λ l. (done ++ take n left) ++ l) (sym (take_rest left n))
+pub concatenated-take-range : (whole done left : List ℕ) (n : ℕ) → whole ≡ done ++ left
+    → whole ≡ (done ++ take n left) ++ take (length left - n) (drop n left)
+concatenated-take-range whole done left n e = concatenated-take-drop whole done left n e
+    ∙ ap (λ l. (done ++ take n left) ++ l) (sym (take_rest left n))
 
 -- a strict prefix of the first of two lists is a prefix of both
 pub IsStrictPrefix-append : (x y z : List ℕ) → IsStrictPrefix x y → IsStrictPrefix x (y ++ z)
@@ -39,7 +42,8 @@ IsStrictPrefix-prepend x y z h = (h.0, h.1, ap (λ l. z ++ l) h.2 ∙ sym (appen
 
 module _ {W : Type 0} (appended : W → List ℕ → W → Type 0) where
   -- what has been appended is a strict prefix, since some bytes remain
-  pub AppendsPrefix-take : (a b : W) (whole done left : List ℕ) (n : ℕ) → whole ≡ done ++ left → n < length left → appended a (done ++ take n left) b
+  pub AppendsPrefix-take : (a b : W) (whole done left : List ℕ) (n : ℕ) → whole ≡ done ++ left → n < length left
+      → appended a (done ++ take n left) b
       → AppendsPrefix appended a whole b
   AppendsPrefix-take a b whole done left n e less appends = record {
     part = done ++ take n left;

@@ -4,7 +4,8 @@ use Rattle.std.proofs.Common.{◌≡◌, ◌≢◌, ◌≤◌, ℕ, Bool, true, 
 use Rattle.std.specs.Prelude.{⊤, Result, Ok, Err}
 use Rattle.std.proofs.lemmas.Bool.{false≢true}
 use Rattle.multihash.specs.Fault.{Fault}
-use Rattle.multihash.specs.Writing.{IsWriterFault, AppendsPrefix, IsWriterFaultOrFull, CountsWriterFailures, WriteLaws, WriteAllLaws, IsFault, AppendsAtEnd, AdvancesPast}
+use Rattle.multihash.specs.Writing.{IsWriterFault, AppendsPrefix, IsWriterFaultOrFull, CountsWriterFailures, WriteLaws, WriteAllLaws,
+    IsFault, AppendsAtEnd, AdvancesPast}
 use Rattle.multihash.proofs.ReadingVectors.{other, eof, full, memory}
 use Rattle.multihash.specs.Filling.{FillsSlice, Fills, IsFilled}
 use Rattle.multihash.specs.declared.no_std_io.slice_writer.SliceWriter.{SliceWriter}
@@ -24,7 +25,8 @@ needs_no_memory : ¬ (IsWriterFault false 3 3 memory)
 needs_no_memory h = elim h.cause [ inl one ↦ omega (arith, one) | inr (allocates, e, same) ↦ false≢true allocates ]
 
 -- neither the end of the input nor a full writer is an error of the writer itself
-no_own_kind : (allocates : Bool) (before after : ℕ) → ¬ (IsWriterFault allocates before after eof) × ¬ (IsWriterFault allocates before after full)
+no_own_kind : (allocates : Bool) (before after : ℕ) → ¬ (IsWriterFault allocates before after eof)
+    × ¬ (IsWriterFault allocates before after full)
 no_own_kind allocates before after = (
   (λ h. elim h.kind [ inl e ↦ cc e.1 | inr e ↦ cc ]),
   λ h. elim h.kind [ inl e ↦ cc e.1 | inr e ↦ cc ],
@@ -154,7 +156,8 @@ fills_slice_with_no_other old new same before from after to h =
     omega (arith, ap (λ (z : List ℕ). get_or z 1 0) filled.appends)
 
 -- another slice is not the one that was filled
-fills_no_other_slice : (old new : SliceWriter) (bytes : List ℕ) → ¬ (new.buffer.ghost_name ≡ old.buffer.ghost_name) → ¬ (Fills old bytes new)
+fills_no_other_slice : (old new : SliceWriter) (bytes : List ℕ) → ¬ (new.buffer.ghost_name ≡ old.buffer.ghost_name)
+    → ¬ (Fills old bytes new)
 fills_no_other_slice old new bytes other h = other h.same_slice
 
 -- a writer with capacity left is not full
@@ -169,7 +172,8 @@ advances_past_the_first h = omega (arith, ap (λ (z : List ℕ). get_or z 0 0) h
 
 -- past as many as were requested
 advances_past_as_many : ¬ (AdvancesPast (7 ∷ 8 ∷ 9 ∷ []) (1 ∷ 2 ∷ []) (8 ∷ 9 ∷ [])) × ¬ (AdvancesPast (7 ∷ 8 ∷ 9 ∷ []) (1 ∷ []) [])
-advances_past_as_many = ((λ h. omega (arith, ap (λ (z : List ℕ). length z) h.left)), λ h. omega (arith, ap (λ (z : List ℕ). length z) h.left))
+advances_past_as_many =
+    ((λ h. omega (arith, ap (λ (z : List ℕ). length z) h.left)), λ h. omega (arith, ap (λ (z : List ℕ). length z) h.left))
 
 -- the old bytes are unchanged, and only the new bytes follow
 appends_no_other : ¬ (AppendsAtEnd (7 ∷ []) (1 ∷ []) (1 ∷ 7 ∷ []))

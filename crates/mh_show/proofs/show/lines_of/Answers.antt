@@ -1,4 +1,5 @@
-use Rattle.std.proofs.Common.{◌≡◌, ◌<◌, ℕ, List, [], ◌∷◌, ◌++◌, length, codes, Result, Ok, Err, IfOk, String, Global, string_bytes, ap, ◌∙◌, append_assoc, arith, rules}
+use Rattle.std.proofs.Common.{◌≡◌, ◌<◌, ℕ, List, [], ◌∷◌, ◌++◌, length, codes, Result, Ok, Err, IfOk, String, Global, string_bytes, ap,
+    ◌∙◌, append_assoc, arith, rules}
 use Rattle.std.specs.Fmt.{decimal}
 use Rattle.hex.specs.Hex.{encode_lower, encode_with}
 use Rattle.multihash.specs.Pair.{Pair}
@@ -8,7 +9,8 @@ use Rattle.mh_show.proofs.show.lines_of.Goals as goal
 use Rattle.mh_show.proofs.show.lines_of.Goals.{then-is_empty, else-is_empty}
 
 -- equal texts
-same_text : {E : Type 0} (r : Result (String Global) E) (a b : List ℕ) → IfOk r (λ s. string_bytes s ≡ a) → a ≡ b → IfOk r (λ s. string_bytes s ≡ b)
+same_text : {E : Type 0} (r : Result (String Global) E) (a b : List ℕ) → IfOk r (λ s. string_bytes s ≡ a) → a ≡ b
+    → IfOk r (λ s. string_bytes s ≡ b)
 same_text (Ok s) a b h e = h ∙ e
 same_text (Err x) a b h e = tt
 

@@ -1,0 +1,81 @@
+#!/usr/bin/env python3
+"""Prints the chart of docs/SPEED.md, an SVG, from the shares in the tables of that page. `tools/generate chart` calls it.
+
+A dot is a call. Its place is the share of what a user would write, on a scale of powers of two.
+"""
+import math
+import re
+from pathlib import Path
+from xml.sax.saxutils import escape
+
+PAGE = Path(__file__).resolve().parents[2] / "docs/SPEED.md"
+# a row of the chart: its language, what it is compared with, and the first cell of its table
+ROWS = (
+    ("C", "plain C", "Call from C"),
+    ("Rust", "the crate multihash", "Call from Rust"),
+    ("Rattle", "the crate multihash", "Call"),
+    ("JavaScript", "plain JavaScript", "Call from JavaScript"),
+    ("Python", "plain Python", "Call from Python"),
+)
+LEFT, WIDTH, HEIGHT, TOP = 200, 560, 58, 64
+LEAST, MOST = 1 / 8, 8.0
+STYLE = """text { font: 14px sans-serif; fill: #24292f } .small { font-size: 12px; fill: #57606a }
+line { stroke: #8c959f; stroke-width: 1 } .one { stroke-width: 2 }
+circle { fill: #0969da; fill-opacity: .55 } .more { fill: #bc4c00 }
+@media (prefers-color-scheme: dark) {
+  text { fill: #e6edf3 } .small { fill: #9198a1 } line { stroke: #6e7681 } circle { fill: #58a6ff } .more { fill: #f0883e }
+}"""
+
+
+def shares(page: str, first: str) -> list[tuple[str, float]]:
+    """Returns the calls of the tables that begin with a cell, each with its share."""
+    found = []
+    for head, body in re.findall(rf"^\| {first} \|(.*)\n\|[-:|]+\n((?:\|.*\n)+)", page, re.M):
+        names = [cell.strip() for cell in head.split("|")]
+        for row in body.splitlines() if "share" in names else ():
+            call, *cells = [cell.strip(" `") for cell in row.strip("|").split("|")]
+            found.append((call, float(cells[names.index("share")])))
+    return found
+
+
+def place(share: float) -> float:
+    """Returns the horizontal place of a share."""
+    return LEFT + WIDTH * math.log(min(max(share, LEAST), MOST) / LEAST) / math.log(MOST / LEAST)
+
+
+def text(x: float, y: float, words: str, anchor: str = "start", small: bool = False) -> str:
+    name = ' class="small"' if small else ""
+    return f'<text x="{x:.0f}" y="{y:.0f}" text-anchor="{anchor}"{name}>{escape(words)}</text>'
+
+
+def row(number: int, language: str, other: str, calls: list[tuple[str, float]]) -> list[str]:
+    """Returns the dots of a language, with the call that has the largest share."""
+    y = TOP + HEIGHT * number + HEIGHT / 2
+    lines = [text(LEFT - 16, y, language, "end"), text(LEFT - 16, y + 16, f"beside {other}", "end", small=True)]
+    lines.append(f'<line x1="{LEFT}" x2="{LEFT + WIDTH}" y1="{y:.0f}" y2="{y:.0f}" stroke-dasharray="2 4"/>')
+    for call, share in calls:
+        more = ' class="more"' if share > 1 else ""
+        lines.append(
+            f'<circle cx="{place(share):.1f}" cy="{y:.0f}" r="6"{more}><title>{escape(call)}: {share}</title></circle>'
+        )
+    call, share = max(calls, key=lambda found: found[1])
+    return [*lines, text(place(share), y - 12, f"{call} {share}", "middle", small=True)]
+
+
+def chart(page: str) -> str:
+    rows = [(language, other, found) for language, other, first in ROWS if (found := shares(page, first))]
+    bottom = TOP + HEIGHT * len(rows)
+    lines = [f'<svg xmlns="http://www.w3.org/2000/svg" viewBox="0 0 {LEFT + WIDTH + 24} {bottom + 12}" role="img">']
+    lines += ["<title>Cost of each call, as a share of what a user would write</title>", f"<style>{STYLE}</style>"]
+    for power in range(round(math.log2(LEAST)), round(math.log2(MOST)) + 1):
+        x, name = place(2.0**power), "" if power else ' class="one"'
+        lines.append(f'<line x1="{x:.0f}" x2="{x:.0f}" y1="{TOP - 8}" y2="{bottom}"{name}/>')
+        lines.append(text(x, TOP - 16, f"{2.0 ** power:g}", "middle", small=True))
+    lines += [text(place(0.98), 20, "faster", "end"), text(place(1.03), 20, "slower")]
+    for number, (language, other, calls) in enumerate(rows):
+        lines += row(number, language, other, calls)
+    return "\n".join([*lines, "</svg>"])
+
+
+if __name__ == "__main__":
+    print(chart(PAGE.read_text("utf-8")))
