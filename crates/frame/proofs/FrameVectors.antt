@@ -4,7 +4,7 @@ use Rattle.std.specs.Prelude.{⊤, codes}
 use Rattle.std.specs.Fmt.{digits}
 use Rattle.multihash.specs.Refusal.{Refusal, IsEof}
 use Rattle.multihash.proofs.CallingLemmas.{front_no_error}
-use Rattle.multihash.proofs.ReadingVectors.{consumes_not_fewer}
+use Rattle.multihash.proofs.ReadingExamples.{consumes_not_fewer}
 use Rattle.multihash.proofs.VarintWriteLemmas.{one_byte}
 use Rattle.multihash.proofs.VarintLemmas.{number_unique}
 use Rattle.frame.specs.Frame.{error_text, IsFailed, BlockFails, FrontFails, IsTruncated}

@@ -1,2 +1,2 @@
 pub mod NamingLemmas
-pub mod ShownVectors
+pub mod ShownExamples

@@ -3,14 +3,14 @@
 use Rattle.std.proofs.Common.{◌≡◌, ℕ, List, [], ◌∷◌, length, get_or, refl, sym, ap, ◌∙◌, arith, ◌++◌, length-append, drop, replicate, subst, inl, inr, length-drop, ◌≤◌}
 use Rattle.multihash.specs.Varint.{VarintError, insufficient, overflow, not_minimal}
 use Rattle.multihash.specs.Verdict.{Verdict, accepted, invalid_size, invalid_code, malformed, unexpected_eof, HasHead, HasVerdict, HasWholeVerdict, IsIncomplete}
-use Rattle.multihash.proofs.KnownVectors.{pair, code_named, code_alone}
+use Rattle.multihash.proofs.KnownExamples.{pair, code_named, code_alone}
 use Rattle.multihash.proofs.VarintWriteLemmas.{one_byte}
 use Rattle.multihash_c.specs.declared.decode.Decoded.{Decoded}
 use Rattle.multihash_c.specs.Status.{status_of_error}
 use Rattle.multihash_c.specs.Decoded.{ReportsPair, ReportsError, Reports, ConsumesForm, ReportsPrefix, Determines, ReadsWithin, ReportsHead, ReportsHeadError}
 use Rattle.multihash_c.proofs.DecodedLemmas.{reported_length}
 use Rattle.multihash.proofs.ScaleLemmas.{scale_verdict_unique}
-use Rattle.multihash.proofs.CodecVectors.{zeros, all_255, scale_code_above}
+use Rattle.multihash.proofs.CodecExamples.{zeros, all_255, scale_code_above}
 use Rattle.multihash.proofs.VerdictLemmas.{whole_exact, whole_verdict_unique, verdict_unique}
 use Rattle.multihash_c.proofs.ReadLemmas.{head_kept, head_no_error}
 use Rattle.std.specs.Prelude.{Some}

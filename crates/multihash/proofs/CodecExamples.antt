@@ -9,12 +9,12 @@ use Rattle.multihash.specs.Bytes.{place_value}
 use Rattle.multihash.specs.Pair.{Pair, FitsBuffer}
 use Rattle.multihash.specs.Verdict.{Verdict, accepted, invalid_size, invalid_code, unexpected_eof, malformed, HasVerdict}
 use Rattle.multihash.specs.Scale.{IsScaleCode, IsScale, HasScaleVerdict, ScaleMayFailWith, ConsumesAtScaleError}
-use Rattle.multihash.proofs.KnownVectors.{all_below, pair, largest, empty_digest}
+use Rattle.multihash.proofs.KnownExamples.{all_below, pair, largest, empty_digest}
 use Rattle.multihash.proofs.ScaleLemmas.{scale_found, has_scale_found, scale_verdict_unique}
 use Rattle.multihash.specs.Fault.{IsUnexpectedEof}
 use Rattle.multihash.specs.Refusal.{Refusal, of_io, of_size, of_code, of_varint, of_not_bytes}
 use Rattle.multihash.specs.Reading.{Consumes}
-use Rattle.multihash.proofs.ReadingVectors.{other, eof, consumed_is, returns_no_byte}
+use Rattle.multihash.proofs.ReadingExamples.{other, eof, consumed_is, returns_no_byte}
 use Rattle.multihash.specs.Streams.{ConsumesPairs, StopsAfterPairs}
 use Rattle.std.proofs.lemmas.List.Elements.{All-head, All-tail}
 use Rattle.multihash.specs.Varint.{insufficient}

@@ -6,7 +6,7 @@ use Rattle.std.proofs.lemmas.Bool.{false≢true}
 use Rattle.multihash.specs.Fault.{Fault}
 use Rattle.multihash.specs.Writing.{IsWriterFault, AppendsPrefix, IsWriterFaultOrFull, CountsWriterFailures, WriteLaws, WriteAllLaws,
     IsFault, AppendsAtEnd, AdvancesPast}
-use Rattle.multihash.proofs.ReadingVectors.{other, eof, full, memory}
+use Rattle.multihash.proofs.ReadingExamples.{other, eof, full, memory}
 use Rattle.multihash.specs.Filling.{FillsSlice, Fills, IsFilled}
 use Rattle.multihash.specs.declared.no_std_io.slice_writer.SliceWriter.{SliceWriter}
 

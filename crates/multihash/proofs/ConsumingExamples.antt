@@ -14,8 +14,8 @@ use Rattle.multihash.specs.Consuming.{IsFrontErrorAt, IsHeadError, ReadMayFailWi
 use Rattle.multihash.proofs.VarintLemmas.{front_unique, error}
 use Rattle.multihash.proofs.VerdictLemmas.{verdict_unique}
 use Rattle.multihash.proofs.SettlingLemmas.{shortest_unique, shortest_code_error}
-use Rattle.multihash.proofs.ReadingVectors.{other, eof, end_is_no_reader_error, consumed_is, returns_no_byte, size_in}
-use Rattle.multihash.proofs.KnownVectors.{size_5, all_continuation, code_alone, size_above_limit, size_settles, shortest_of_size}
+use Rattle.multihash.proofs.ReadingExamples.{other, eof, end_is_no_reader_error, consumed_is, returns_no_byte, size_in}
+use Rattle.multihash.proofs.KnownExamples.{size_5, all_continuation, code_alone, size_above_limit, size_settles, shortest_of_size}
 
 -- ---- errors
 
