@@ -49,7 +49,7 @@ LANGUAGES = {
     ),
     "Rust": Language(
         ".rs",
-        f"cargo rustc={OLDEST}+",
+        f"cargo rustc={OLDEST}+ {REGISTRY}/serde-1*",
         f"[ -d cargo ] || {{ mkdir cargo; [ ! -d {REGISTRY} ] || printf '{SOURCE}' > cargo/config.toml; "
         "cargo init --quiet --name app; }; export CARGO_HOME=$PWD/cargo CARGO_NET_OFFLINE=true",
         f"{REGISTRY}/sha2-0.10* {REGISTRY}/data-encoding-2*",

@@ -37,10 +37,10 @@ list=MULTIHASH_VERDICTS=$work/list
 
 # The tests pass, optimized too, and the pages have no warnings.
 rust_tests() {
-  in_crate verified-multihash cargo doc --no-deps
+  in_crate verified-multihash cargo doc --no-deps --features serde
   in_crate multihash cargo doc --no-deps --features serde
   all_tests "$list" cargo test
-  tests verified-multihash "$list" cargo test --release
+  tests verified-multihash "$list" cargo test --features serde --release
   tests multihash "$list" cargo test --features serde --release
 }
 
@@ -50,7 +50,7 @@ without_std() {
 }
 
 debians_rust() {
-  tests verified-multihash PATH=/usr/bin:/bin CARGO_TARGET_DIR="$work/debian" cargo test
+  tests verified-multihash PATH=/usr/bin:/bin CARGO_TARGET_DIR="$work/debian" cargo test --features serde
   tests multihash PATH=/usr/bin:/bin CARGO_TARGET_DIR="$work/debian" cargo test --features serde
 }
 
@@ -85,9 +85,10 @@ source, package = Path("crates/multihash/src"), Path("bindings/rust/verified-mul
 lines = re.compile(r"(pub )?ghost |requires|ensures|#!?\[tactic|#\[derive\(Drop\)|impl.* (Model for|for Vec<)|"
     r"use std::(marker::Model|alloc::Global)|(pub )?mod (json|laws|pins);")
 words = r", Drop\b|\b: Drop\b|<W: fmt::Write>|<W>|,? *\balloc: Global,?|\balloc, |\bpub (?=buffer|filled)"
-added = (r"use crate::rattle::|#!\[|#\[cfg\(feature|extern crate|mod rattle;|#\[doc\(hidden|"
-    r"pub mod (codes|upstream);|mod io;|pub use crate::io::")
-by_hand = ("codes.rs", "io.rs", "rattle.rs", "upstream.rs")
+made = {path for path in package.rglob("*.rs") if "// Made by tools/generate rust." in path.read_text()}
+names = "|".join(path.stem for path in {*package.glob("*.rs")} - made)
+added = (rf"use crate::rattle::|#!\[|#\[cfg\(feature|extern crate|#\[doc\(hidden|"
+    rf"(pub )?mod ({names});|pub use crate::({names})::")
 def code(path, is_left_out):
     text, depth, is_clause = "", 0, False
     for line in map(str.strip, path.read_text().splitlines()):
@@ -98,9 +99,9 @@ def code(path, is_left_out):
         elif not line.startswith("//"):
             text += line
     return re.sub(rf"\s|{words}", "", text)
-for path in sorted(package.rglob("*.rs")):
+for path in sorted(made):
     place = source / path.relative_to(package).with_suffix(".rt")
-    if path.name not in by_hand and code(path, re.compile(added).match) != code(place, lines.match):
+    if code(path, re.compile(added).match) != code(place, lines.match):
         sys.exit(f"{path} has other code than {place}")
 END
 }
@@ -145,7 +146,7 @@ rust_switch() {
 }
 
 rust_lints() {
-  in_crate verified-multihash cargo clippy --all-targets
+  in_crate verified-multihash cargo clippy --all-targets --features serde
   in_crate multihash cargo clippy --all-targets --features serde
   in_crate multihash cargo clippy --no-default-features --all-targets
 }

@@ -26,7 +26,7 @@ DECLARED = (
     ("CMakeLists.txt", r"^ *(?:option\(|set\((?=\w+ OFF CACHE))(\w+)", "bindings/c/PACKAGING.md"),
     (f"{JS}/index.d.ts", r"^export (?:function|class) (\w+)", f"{JS}/README.md"),
     (f"{JS}/hashes.d.ts", r"^export (?:function|const) (\w+)", f"{JS}/README.md"),
-    (f"{RUST}/verified-multihash/Cargo.toml", r"^(std|alloc) =", VERIFIED),
+    (f"{RUST}/verified-multihash/Cargo.toml", r"^(std|alloc|serde) = \[", VERIFIED),
     (f"{RUST}/multihash/Cargo.toml", r"^([\w-]+) = \[\"?(?:\]|dep:|ver|serde)", SHIM),
     ("crates/multihash/src/error.rt", r"pub fn (\w+)\(&self\)", FORMAT),
     ("crates.txt", r"^(\w+)[: ]", "docs/ARCHITECTURE.md"),

@@ -12,14 +12,24 @@ extern crate alloc;
 extern crate std as host;
 
 pub mod codes;
+mod explain;
 #[cfg(feature = "std")]
 mod io;
 mod rattle;
+#[cfg(feature = "serde")]
+mod serde;
+mod stream;
+mod text;
 #[doc(hidden)]
 pub mod upstream;
 
+pub use crate::explain::DecodeError;
 #[cfg(feature = "std")]
 pub use crate::io::{with_io, Io};
+pub use crate::stream::Decoder;
+#[cfg(feature = "std")]
+pub use crate::stream::Reader;
+pub use crate::text::TextError;
 use crate::rattle::{std, *};
 mod binary;
 mod compare;

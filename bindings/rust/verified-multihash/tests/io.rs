@@ -4,8 +4,8 @@
 mod slow;
 
 use slow::{Event, Slow};
-use std::io::{self, ErrorKind};
-use verified_multihash::{list, no_std_io, with_io, Error, Io, Multihash};
+use std::io::{self, BufReader, ErrorKind};
+use verified_multihash::{list, no_std_io, with_io, DecodeError, Error, Io, Multihash, Reader};
 
 type Value = Multihash<200>;
 
@@ -83,4 +83,67 @@ fn kinds() {
     let failed = list::read_list::<4, _>(&mut &b""[..], usize::MAX);
     assert_eq!(of(failed.expect_err("out of memory")), ErrorKind::OutOfMemory);
     assert_eq!(of(no_std_io::Error::other("mine").into()), ErrorKind::Other);
+}
+
+/// The error of a call that failed because of the bytes, after one of the stream that `call` did not return.
+#[test]
+fn last_error() {
+    let event: Event = || Err(ErrorKind::WouldBlock.into());
+    let source = Slow { bytes: &[0xff; 20][..], at: 0, event };
+    let read = |source: &mut Io<_>| {
+        assert!(Value::read(source).expect_err("a failure").io().is_some());
+        Value::read(source)
+    };
+    let error = with_io(source, read).expect_err("no multihash");
+    assert_eq!((error.kind(), error.to_string()), (ErrorKind::InvalidData, "input bytes exceed maximum".into()));
+}
+
+/// A reader continues after a source that fails, is interrupted or ends before any byte, and loses none.
+#[test]
+fn continued() {
+    let events: [(Event, Option<ErrorKind>); 4] = [
+        (|| Err(ErrorKind::TimedOut.into()), Some(ErrorKind::TimedOut)),
+        (|| Err(ErrorKind::WouldBlock.into()), Some(ErrorKind::WouldBlock)),
+        (|| Err(ErrorKind::Interrupted.into()), None),
+        (|| Ok(0), Some(ErrorKind::UnexpectedEof)),
+    ];
+    let value = Value::wrap(0x100, &[7; 150]).expect("it fits");
+    let encoding = value.to_bytes().expect("memory");
+    let both = [&encoding[..], &encoding].concat();
+    for (event, kind) in events {
+        for at in 0..both.len() {
+            let source = Slow { bytes: &both[..], at, event };
+            let mut reader = Reader::<_, 200>::new(BufReader::with_capacity(1, source));
+            let (mut found, mut failed) = (Vec::new(), None);
+            while found.len() < 2 {
+                match reader.read_next() {
+                    Ok(Some(multihash)) => found.push(multihash),
+                    Ok(None) => failed = Some(ErrorKind::UnexpectedEof), // between two multihashes
+                    Err(error) => failed = Some(error.kind()),
+                }
+                let consumed = both.len() - reader.get_ref().get_ref().bytes.len();
+                assert_eq!(found.len() * encoding.len() + reader.kept().len(), consumed);
+            }
+            assert_eq!((found, failed), (vec![value; 2], kind));
+        }
+    }
+}
+
+/// Nothing after a multihash is consumed. The error of one that is malformed stays, and ends a loop.
+#[test]
+fn malformed() {
+    let mut reader = Reader::<_, 4>::new(&b"\x12\x03abc\x12\x05abcde"[..]);
+    assert_eq!(reader.read_next().expect("it is whole").map(|found| found.size()), Some(3));
+    assert_eq!(*reader.get_ref(), b"\x12\x05abcde");
+    let rest: Vec<_> = reader.by_ref().map(|next| next.is_err()).collect();
+    assert_eq!((&rest[..], reader.kept(), *reader.get_ref()), (&[true][..], &b"\x12\x05"[..], &b"abcde"[..]));
+    for source in [&b"abcde"[..], b""] {
+        *reader.get_mut() = source;
+        let error = reader.read_next().expect_err("it is too long");
+        let inner = error.get_ref().and_then(|inner| inner.downcast_ref::<DecodeError>()).expect("it");
+        assert_eq!((error.kind(), inner.error().invalid_size()), (ErrorKind::InvalidData, Some(5)));
+        assert_eq!(error.to_string(), "the digest has 5 bytes, and the limit is 4");
+    }
+    let found: io::Result<Vec<Multihash<4>>> = Reader::new(&b"\0\0\x12\x01a"[..]).collect();
+    assert_eq!(found.expect("they are whole").len(), 2);
 }

@@ -2,13 +2,14 @@
 #![cfg(feature = "std")]
 use verified_multihash::no_std_io::{self, Read, SliceWriter, Write};
 use verified_multihash::varint::{self, MAX as CODE_MAX};
-use verified_multihash::{codes, Error, Head, Multihash, MultihashGeneric};
+use verified_multihash::{codes, DecodeError, Decoder, Error, Head, Multihash, MultihashGeneric, Reader, TextError};
 
 type Value = Multihash<64>;
 
 // These bounds are part of the API.
 fn is_value<T: Copy + Default + Eq + Ord + std::hash::Hash + std::fmt::Debug + Send + Sync + Unpin>() {}
 fn is_head<T: Copy + Eq + std::fmt::Debug + Send + Sync>() {}
+fn is_stream<T: Clone + std::fmt::Debug + Send + Sync + Unpin>() {}
 fn is_error<T: std::error::Error + Send + Sync + 'static>() {}
 
 #[test]
@@ -18,6 +19,10 @@ fn implemented() {
     let _: verified_multihash::Result<MultihashGeneric<3>> = Multihash::<3>::wrap(18, b"abc");
     is_error::<Error>();
     is_error::<no_std_io::Error>();
+    is_error::<DecodeError>();
+    is_error::<TextError>();
+    is_stream::<Decoder<64>>();
+    is_stream::<Reader<&[u8], 64>>();
     let error: &dyn std::error::Error = &Value::from_bytes(b"").expect_err("an error");
     assert_eq!((error.to_string(), error.source().is_none()), ("not enough input bytes".into(), true));
     assert_eq!(Value::default(), Value::wrap(0, b"").expect("it fits"));

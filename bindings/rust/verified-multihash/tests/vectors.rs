@@ -3,7 +3,7 @@ mod support;
 
 use support::{bytes_of, check_error, check_result};
 use verified_multihash::no_std_io::{Error, Read, SliceWriter};
-use verified_multihash::{varint, Head, Multihash};
+use verified_multihash::{varint, Decoder, Head, Multihash, TextError};
 
 fn same<const A: usize, const B: usize>(a: &Multihash<A>, b: &Multihash<B>) -> bool {
     a.same_as(b)
@@ -30,9 +30,57 @@ fn check<const S: usize>(input: &[u8], columns: [&str; 5]) {
         Err(error) => check_error(&error, read),
     }
     check_heads(input, read, count);
+    check_conversions::<S>(input, columns[2]);
+    for length in [1, 3, input.len().max(1)] {
+        check_parts::<S>(input, length, read, count);
+    }
     let mut rest = input;
     check_result(&Multihash::<S>::scale_decode(&mut rest), scale);
     assert!(scale_taken == "-" || scale_taken.parse() == Ok(input.len() - rest.len()));
+}
+
+/// The bytes, and their text, are converted as `from_bytes` decodes. The text of a value is that of its encoding.
+fn check_conversions<const S: usize>(input: &[u8], whole: &str) {
+    check_result(&Multihash::<S>::try_from(input).map_err(verified_multihash::Error::from), whole);
+    let text: String = input.iter().map(|byte| format!("{byte:02x}")).collect();
+    match text.parse::<Multihash<S>>() {
+        Ok(found) => {
+            check_result(&Ok::<_, verified_multihash::Error>(found), whole);
+            assert_eq!((text.to_uppercase().parse().ok(), found.to_string()), (Some(found), text));
+        }
+        Err(TextError::NotMultihash(error)) => check_error(error.error(), whole),
+        Err(error) => panic!("{error}"),
+    }
+}
+
+/// An input that arrives in parts is decoded as `read` decodes it, and consumed up to there.
+fn check_parts<const S: usize>(input: &[u8], length: usize, column: &str, count: usize) {
+    let (mut decoder, mut consumed) = (Decoder::<S>::new(), 0);
+    for part in input.chunks(length) {
+        let mut rest = part;
+        let decoded = decoder.decode(&mut rest);
+        consumed += part.len() - rest.len();
+        match decoded {
+            Ok(None) => assert!(rest.is_empty() && decoder.kept() == &input[..consumed]),
+            Ok(Some(found)) => {
+                check_result(&Ok::<_, verified_multihash::Error>(found), column);
+                assert_eq!((consumed, decoder.kept()), (count, &b""[..]));
+                return;
+            }
+            Err(error) => {
+                assert_eq!((consumed, decoder.kept()), (count, &input[..count]));
+                for error in [error, decoder.decode(&mut &b"\0"[..]).expect_err("the same"), decoder.finish().expect_err("it")] {
+                    check_error(error.error(), column);
+                }
+                return;
+            }
+        }
+    }
+    match decoder.finish() {
+        Ok(()) => assert!(input.is_empty()),
+        Err(error) => check_error(error.error(), column),
+    }
+    assert_eq!((decoder.kept(), consumed), (input, input.len()));
 }
 
 /// Both varints, decoded at once and one by one, end where an error is determined, or before the digest.

@@ -112,3 +112,37 @@ fn multihashes_of_cids_are_those_of_cid() {
         }
     }
 }
+
+/// Each input of the test vectors as the multihash of a CID of version 1 with the codec raw. That crate rejects codes that
+/// its table lacks; it also accepts longer digests and longer varints than the shortest.
+#[test]
+fn inputs_are_accepted_as_by_cid() {
+    let (mut accepted, mut unknown, mut other, mut rejected) = (0, 0, 0, 0);
+    for input in inputs() {
+        let bytes = [&b"\x01\x55"[..], &input].concat();
+        let mut rest = &bytes[..];
+        let numbers = [varint::read(&mut rest).unwrap(), varint::read(&mut rest).unwrap()];
+        match (Multihash::<255>::from_bytes(rest), cid::Cid::try_from(&bytes[..])) {
+            (Ok(ours), Ok(theirs)) => {
+                assert_eq!(numbers, [u64::from(theirs.version()), u64::from(theirs.codec())]);
+                let hash = theirs.hash();
+                assert_eq!((ours.code(), ours.digest()), (u64::from(hash.algorithm()), hash.digest()));
+                assert_eq!(theirs.to_bytes(), bytes);
+                accepted += 1;
+            }
+            (Ok(ours), Err(_)) => {
+                assert!(multihash_0_11::Code::try_from(ours.code()).is_err(), "{ours:?}");
+                unknown += 1;
+            }
+            (Err(_), Ok(theirs)) => {
+                let hash = theirs.hash();
+                let shortest = wrap(AnyCode(hash.algorithm().into()), hash.digest());
+                assert!(hash.digest().len() > 255 || shortest.as_bytes() != input, "{input:02x?}");
+                other += 1;
+            }
+            (Err(_), Err(_)) => rejected += 1,
+        }
+    }
+    println!("both {accepted}, this one {unknown}, cid {other}, none {rejected}");
+    assert!(accepted > 0 && unknown > 0 && other > 0 && rejected > 0);
+}

@@ -1,0 +1,213 @@
+//! Multihashes from an input that arrives in parts. It is written by hand, over the proved [`Multihash::read`].
+#[cfg(feature = "std")]
+use crate::host::io::{self, BufRead, ErrorKind};
+use crate::text::LENGTH_MAX;
+use crate::{DecodeError, Head, Multihash};
+
+/// Decodes concatenated multihashes from parts of an input, and keeps one that is incomplete until its rest arrives.
+///
+/// It neither allocates nor reads, so a program that awaits its input can use it. A multihash that is whole in a part is
+/// decoded there; the bytes of others are copied once, into a buffer of 266 bytes.
+///
+/// # Examples
+///
+/// ```
+/// use verified_multihash::{Decoder, Multihash};
+///
+/// let mut decoder = Decoder::<32>::new();
+/// let mut found = Vec::new();
+/// for part in [&b"\x12\x03ab"[..], b"c\x12\x03de", b"f"] {
+///     let mut rest = part;
+///     while let Some(multihash) = decoder.decode(&mut rest)? {
+///         found.push(multihash);
+///     }
+/// }
+/// decoder.finish()?; // an error if the input ended inside a multihash
+/// assert_eq!(found, [Multihash::wrap(0x12, b"abc")?, Multihash::wrap(0x12, b"def")?]);
+/// # Ok::<(), verified_multihash::Error>(())
+/// ```
+#[derive(Clone, Debug)]
+pub struct Decoder<const S: usize> {
+    bytes: [u8; LENGTH_MAX],
+    length: usize,
+}
+
+impl<const S: usize> Decoder<S> {
+    /// Returns a decoder for the start of an input.
+    pub const fn new() -> Self {
+        Self { bytes: [0; LENGTH_MAX], length: 0 }
+    }
+
+    /// Returns the bytes received of a multihash that is incomplete, or after an error invalid.
+    pub fn kept(&self) -> &[u8] {
+        &self.bytes[..self.length]
+    }
+
+    /// Decodes the next multihash, and advances `part` past the bytes consumed, which are none after the multihash.
+    /// Returns `None` if the multihash is incomplete: then all of `part` was consumed.
+    ///
+    /// # Errors
+    ///
+    /// If the next bytes are not a multihash with a digest of at most `S` bytes. The part was consumed up to and
+    /// including the byte that determines the error, and each later call returns the same error.
+    pub fn decode(&mut self, part: &mut &[u8]) -> Result<Option<Multihash<S>>, DecodeError> {
+        if self.length == 0 {
+            let mut rest = *part;
+            if let Ok(multihash) = Multihash::read(&mut rest) {
+                *part = rest;
+                return Ok(Some(multihash));
+            }
+        }
+        loop {
+            match Multihash::<S>::read(&mut self.kept()) {
+                Ok(multihash) => {
+                    self.length = 0;
+                    return Ok(Some(multihash));
+                }
+                Err(error) if !error.is_incomplete() => return Err(Multihash::<S>::explain(self.kept(), error)),
+                Err(_) if part.is_empty() => return Ok(None),
+                Err(_) => self.receive(part),
+            }
+        }
+    }
+
+    /// Moves bytes from the part: what is missing of the digest, or the next byte before it.
+    fn receive(&mut self, part: &mut &[u8]) {
+        // the digest has at most 255 bytes: `read` rejects others
+        let end = Head::read_front(self.kept())
+            .map_or(self.length + 1, |head| head.digest_offset + head.digest_len as usize);
+        let (received, rest) = part.split_at(part.len().min(end - self.length));
+        self.bytes[self.length..][..received.len()].copy_from_slice(received);
+        self.length += received.len();
+        *part = rest;
+    }
+
+    /// Checks that the input may end here.
+    ///
+    /// # Errors
+    ///
+    /// If the input ends inside a multihash: the error is incomplete, the bytes are still kept, and more parts may follow.
+    /// After an error of [`Decoder::decode`] that error.
+    pub fn finish(&self) -> Result<(), DecodeError> {
+        match Multihash::<S>::read(&mut self.kept()) {
+            Err(error) if self.length > 0 => Err(Multihash::<S>::explain(self.kept(), error)),
+            _ => Ok(()),
+        }
+    }
+}
+
+impl<const S: usize> Default for Decoder<S> {
+    fn default() -> Self {
+        Self::new()
+    }
+}
+
+/// Reads multihashes from a source that may end early or fail, and continues after that.
+///
+/// It consumes no byte after the multihash that it returns. What it received of an incomplete one is kept, so after a
+/// timeout, or when a file has grown, the next call continues. Calls that are interrupted are repeated.
+///
+/// As an iterator it ends after an error; [`Reader::read_next`] continues.
+///
+/// # Examples
+///
+/// ```
+/// use verified_multihash::{Multihash, Reader};
+///
+/// // a `BufReader` of a file or a socket, or a slice
+/// let mut reader = Reader::<_, 64>::new(&b"\x12\x03abc\x12\x03d"[..]);
+/// assert_eq!(reader.read_next()?, Some(Multihash::wrap(0x12, b"abc")?));
+/// let error = reader.read_next().unwrap_err();
+/// assert_eq!(error.to_string(), "the input ends inside the digest (1 of 3 bytes)");
+///
+/// *reader.get_mut() = b"ef"; // the input has grown
+/// assert_eq!(reader.read_next()?, Some(Multihash::wrap(0x12, b"def")?));
+/// assert_eq!(reader.read_next()?, None);
+/// # Ok::<(), std::io::Error>(())
+/// ```
+#[cfg(feature = "std")]
+#[derive(Clone, Debug)]
+pub struct Reader<R, const S: usize> {
+    source: R,
+    decoder: Decoder<S>,
+    has_failed: bool,
+}
+
+#[cfg(feature = "std")]
+impl<R, const S: usize> Reader<R, S> {
+    /// Returns a reader of a source that is at the start of a multihash.
+    pub const fn new(source: R) -> Self {
+        Self { source, decoder: Decoder::new(), has_failed: false }
+    }
+
+    /// Returns the source.
+    pub fn get_ref(&self) -> &R {
+        &self.source
+    }
+
+    /// Returns the source, which another may replace that continues where this one ended.
+    pub fn get_mut(&mut self) -> &mut R {
+        &mut self.source
+    }
+
+    /// Returns the bytes received of a multihash that is incomplete, or after an error invalid.
+    pub fn kept(&self) -> &[u8] {
+        self.decoder.kept()
+    }
+}
+
+#[cfg(feature = "std")]
+impl<R: BufRead, const S: usize> Reader<R, S> {
+    /// Returns the next multihash, or `None` at the end of the source.
+    ///
+    /// # Errors
+    ///
+    /// - The error of the source itself, if it failed. The next call continues.
+    /// - `UnexpectedEof` if the source ends inside a multihash. The next call continues.
+    /// - `InvalidData` if the next bytes are not a multihash with a digest of at most `S` bytes. Each later call returns
+    ///   the same error.
+    ///
+    /// The last two are made of a [`DecodeError`], which [`io::Error::get_ref`] returns.
+    pub fn read_next(&mut self) -> io::Result<Option<Multihash<S>>> {
+        loop {
+            let part = match self.source.fill_buf() {
+                Err(error) if error.kind() == ErrorKind::Interrupted => continue,
+                part => part?,
+            };
+            if part.is_empty() {
+                self.decoder.finish()?;
+                return Ok(None);
+            }
+            let mut rest = part;
+            let decoded = self.decoder.decode(&mut rest);
+            let consumed = part.len() - rest.len();
+            self.source.consume(consumed);
+            if let Some(multihash) = decoded? {
+                return Ok(Some(multihash));
+            }
+        }
+    }
+}
+
+#[cfg(feature = "std")]
+impl<R: BufRead, const S: usize> Iterator for Reader<R, S> {
+    type Item = io::Result<Multihash<S>>;
+
+    fn next(&mut self) -> Option<Self::Item> {
+        if self.has_failed {
+            return None;
+        }
+        let next = self.read_next();
+        self.has_failed = next.is_err();
+        next.transpose()
+    }
+}
+
+/// The kind is `UnexpectedEof` if the input is incomplete, and otherwise `InvalidData`.
+#[cfg(feature = "std")]
+impl From<DecodeError> for io::Error {
+    fn from(error: DecodeError) -> Self {
+        let kind = if error.is_incomplete() { ErrorKind::UnexpectedEof } else { ErrorKind::InvalidData };
+        Self::new(kind, error)
+    }
+}

@@ -1,0 +1,103 @@
+//! Hexadecimal texts, and the conversion from bytes. It is written by hand.
+use crate::rattle::std;
+use crate::{DecodeError, Error, Multihash};
+use core::{fmt, str};
+
+/// The maximum length of an encoding in bytes.
+pub(crate) const LENGTH_MAX: usize = 266;
+
+impl<const S: usize> Multihash<S> {
+    /// Calls a function with the encoding in hexadecimal.
+    fn with_digits(&self, call: impl FnOnce(&str) -> fmt::Result) -> fmt::Result {
+        let (mut bytes, mut digits) = ([0; LENGTH_MAX], [0; 2 * LENGTH_MAX]);
+        let length = self.write(&mut &mut bytes[..]).map_err(|_| fmt::Error)?;
+        for (pair, byte) in digits.chunks_exact_mut(2).zip(&bytes[..length]) {
+            pair[0] = b"0123456789abcdef"[usize::from(byte >> 4)];
+            pair[1] = b"0123456789abcdef"[usize::from(byte & 15)];
+        }
+        call(str::from_utf8(&digits[..2 * length]).map_err(|_| fmt::Error)?)
+    }
+}
+
+/// The encoding in hexadecimal. A precision shortens it: `{:.8}` prints the first 8 digits.
+impl<const S: usize> fmt::Display for Multihash<S> {
+    fn fmt(&self, f: &mut fmt::Formatter<'_>) -> fmt::Result {
+        self.with_digits(|digits| f.pad(digits))
+    }
+}
+
+/// The encoding in hexadecimal, with `0x` before it if `{:#x}` asks for that.
+impl<const S: usize> fmt::LowerHex for Multihash<S> {
+    fn fmt(&self, f: &mut fmt::Formatter<'_>) -> fmt::Result {
+        self.with_digits(|digits| f.pad_integral(true, "0x", digits))
+    }
+}
+
+/// Why a text is not the encoding of a multihash in hexadecimal.
+#[derive(Debug)]
+#[non_exhaustive]
+pub enum TextError {
+    /// A character is not a hexadecimal digit.
+    NotHexadecimal {
+        /// The index of its first byte.
+        index: usize,
+        /// The first such character.
+        character: char,
+    },
+    /// The text has an odd number of digits.
+    OddLength(usize),
+    /// The bytes are not a multihash.
+    NotMultihash(DecodeError),
+}
+
+impl fmt::Display for TextError {
+    fn fmt(&self, f: &mut fmt::Formatter<'_>) -> fmt::Result {
+        match self {
+            Self::NotHexadecimal { index, character } => {
+                let mut bytes = [0; 4];
+                let shown = &*character.encode_utf8(&mut bytes);
+                write!(f, "the text has {shown:?} at index {index}, which is no hexadecimal digit")
+            }
+            Self::OddLength(length) => write!(f, "the text has an odd number of digits, {length}"),
+            Self::NotMultihash(error) => error.fmt(f),
+        }
+    }
+}
+
+impl std::error::Error for TextError {}
+
+/// From hexadecimal digits, lower or upper case, without `0x`.
+impl<const S: usize> str::FromStr for Multihash<S> {
+    type Err = TextError;
+
+    fn from_str(text: &str) -> Result<Self, TextError> {
+        let mut bytes = [0; LENGTH_MAX];
+        for (index, character) in text.char_indices() {
+            let digit = character.to_digit(16).ok_or(TextError::NotHexadecimal { index, character })?;
+            if let Some(byte) = bytes.get_mut(index / 2) {
+                *byte = *byte << 4 | digit as u8;
+            }
+        }
+        if text.len() % 2 != 0 {
+            return Err(TextError::OddLength(text.len()));
+        }
+        // no bytes after these are of an encoding, and their number is known
+        let length = text.len() / 2;
+        let bytes = &bytes[..length.min(LENGTH_MAX)];
+        let error = match Self::read(&mut &*bytes) {
+            Ok(multihash) if multihash.encoded_len() == length => return Ok(multihash),
+            Ok(multihash) => Error::from_size((length - multihash.encoded_len()) as u64),
+            Err(error) => error,
+        };
+        Err(TextError::NotMultihash(Self::explain(bytes, error)))
+    }
+}
+
+/// From an encoding, as `from_bytes`, with an error that says where the bytes are wrong.
+impl<const S: usize> TryFrom<&[u8]> for Multihash<S> {
+    type Error = DecodeError;
+
+    fn try_from(bytes: &[u8]) -> Result<Self, DecodeError> {
+        Self::from_bytes(bytes).map_err(|error| Self::explain(bytes, error))
+    }
+}
