@@ -1,5 +1,5 @@
 // Multihashes over the functions of library.js, which is translated from a proved library.
-import { checkedLength, checkedWide, isBytes, viewOf, wrongType } from './arguments.js';
+import { checkedLength, checkedWide, isBytes, shown, viewOf, wrongType } from './arguments.js';
 import { MultihashError, encodingError, forJSON, reasonOf, scaleReasonOf } from './errors.js';
 import * as library from './library.js';
 import { INCOMPLETE, STATUSES } from './statuses.js';
@@ -18,14 +18,23 @@ export const version = '1.0.0';
 // The longest prefix of an input that a result depends on, except for the number of trailing bytes.
 const PREFIX_MAX = HEAD_MAX + DIGEST_MAX;
 
+if (new Uint8Array(Uint32Array.of(1).buffer)[0] !== 1)
+  throw new Error('verified-multihash does not work on big-endian machines: it reads numbers in little-endian memory');
+
 // The memory of the library, which no function grows or frees; the addresses of a result, an input and an output in it,
 // after what the library uses; and the words of the result and the first of the input: a number of 64 bits has two.
+// The digest of an output after two bytes has an aligned address, as that of an input has, so it is copied by words.
 const memory = new Uint8Array(library.memory.buffer);
 const result = library.__heap_base.value;
-const [first, output] = [result + 64, result + 352]; // 288 bytes for PREFIX_MAX
+const [first, output] = [result + 64, result + 354]; // 290 bytes for PREFIX_MAX
 const FIRST_WORD = 16; // the index in `words` of the first input
 const words = new Uint32Array(memory.buffer, result, FIRST_WORD + 1);
-if (new Uint8Array(Uint32Array.of(1).buffer)[0] !== 1) throw new Error('verified-multihash needs a little-endian machine');
+
+// The addresses of many results, of four words each, and of a long input.
+const [items, block] = [result + 624, result + 624 + 16384];
+const ITEMS = 1024;
+const BLOCK = 32768;
+const itemWords = new Uint32Array(memory.buffer, items, 4 * ITEMS);
 
 // Views of the memory by address and length: to make one is as slow as to copy from it.
 const views = [];
@@ -53,13 +62,13 @@ function digitAt(text, index) {
 }
 
 /** The bytes of a text of hexadecimal digits. */
-function unhex(text) {
-  if (typeof text !== 'string') throw wrongType('text', 'a string', text);
+function unhex(text, name = 'text') {
+  if (typeof text !== 'string') throw wrongType(name, 'a string', text);
   const at = text.search(/[^0-9a-f]/i);
   if (at >= 0 || text.length % 2 !== 0) {
     const what = at < 0 ? `an odd number of digits, ${text.length}` :
       `${JSON.stringify(String.fromCodePoint(text.codePointAt(at)))} at index ${at}, which is no hexadecimal digit`;
-    throw new MultihashError(`the text has ${what}`, { status: 'not_hexadecimal' });
+    throw new MultihashError(`the ${name} has ${what}`, { status: 'not_hexadecimal' });
   }
   const bytes = new Uint8Array(text.length / 2);
   for (let index = 0; index < bytes.length; index++)
@@ -69,10 +78,10 @@ function unhex(text) {
 
 // ---- results
 
-/** A number of 64 bits in the result: a bigint only where a number would not be exact. */
-function wide(at) {
-  const low = words[at];
-  const high = words[at + 1];
+/** A number of 64 bits in the result, or in other words: a bigint only where a number would not be exact. */
+function wide(at, from = words) {
+  const low = from[at];
+  const high = from[at + 1];
   if (high === 0) return low;
   return high < 0x200000 ? high * 0x100000000 + low : (BigInt(high) << 32n) | BigInt(low);
 }
@@ -128,9 +137,24 @@ export class Multihash {
     return decode(unhex(text));
   }
 
+  /** Makes the multihash that `toJSON` was called on, of what it returned. */
+  static fromJSON(json) {
+    if (typeof json !== 'object' || json === null) throw wrongType('json', 'an object', json);
+    const { code, size, digest } = json;
+    const bytes = unhex(digest, 'digest');
+    if (size !== undefined && size !== bytes.length)
+      throw new RangeError(`size must be ${bytes.length}, the length of the digest, got ${shown(size)}`);
+    return Multihash.of(typeof code === 'string' && /^\d+$/.test(code) ? BigInt(code) : code, bytes);
+  }
+
   /** The encoding, which is made once. */
   get bytes() {
     return (this.#bytes ??= encode(this.code, this.digest));
+  }
+
+  /** The digest in hexadecimal. */
+  get digestHex() {
+    return hex(this.digest);
   }
 
   /** The encoding in hexadecimal. */
@@ -140,12 +164,12 @@ export class Multihash {
 
   /** The code, and the digest in hexadecimal, for JSON.stringify. */
   toJSON() {
-    return { code: forJSON(this.code), size: this.size, digest: hex(this.digest) };
+    return { code: forJSON(this.code), size: this.size, digest: this.digestHex };
   }
 
   /** The same for console.log in Node.js. */
   [Symbol.for('nodejs.util.inspect.custom')]() {
-    return `Multihash(0x${this.code.toString(16)}, ${hex(this.digest) || 'empty'})`;
+    return `Multihash(0x${this.code.toString(16)}, ${this.digestHex || 'empty'})`;
   }
 
   /** Whether the other value has the same code and the same digest. */
@@ -179,15 +203,15 @@ function found() {
 const detailsOf = (taken) =>
   ({ status: STATUSES[words[0]], size: wide(2) || undefined, code: wide(4) || undefined, taken });
 
-/** The error in the result of a decoding that consumed `taken` bytes of an input of that length. */
-function rejected(length, taken, limit = DIGEST_MAX) {
+/** The error in the result of a decoding that consumed `taken` bytes of the input at an address, of that length. */
+function rejected(length, taken, limit = DIGEST_MAX, input = first) {
   const details = detailsOf(taken);
-  library.multihash_head(result, first, Math.min(length, PREFIX_MAX));
+  library.multihash_head(result, input, Math.min(length, PREFIX_MAX));
   const head = { taken: words[6], digestLength: wide(4) };
   // the library got no more than the prefix
   if (details.status === 'invalid_size' && head.digestLength <= limit)
     details.size = length - head.taken - head.digestLength;
-  return new MultihashError(reasonOf(details.status, limit, memory.subarray(first), length, head), details);
+  return new MultihashError(reasonOf(details.status, limit, memory.subarray(input), length, head), details);
 }
 
 /** Decodes the multihash whose encoding is the whole of the bytes. */
@@ -215,6 +239,60 @@ export function readAt(bytes, at, limit, isLast) {
   if (!isLast && INCOMPLETE.includes(STATUSES[words[0]])) return undefined;
   if (words[0] !== 0) throw rejected(length, words[8], Math.min(limit, DIGEST_MAX));
   return { multihash: found(), taken: words[8] };
+}
+
+/**
+ * Decodes multihashes one after the other, of at most a block of the bytes from an index on: none if the first of them is
+ * malformed or truncated. Returns four words of each: those of `multihash_item`, with offsets from that index on.
+ */
+export function itemsAt(bytes, at, length) {
+  const size = Math.min(length - at, BLOCK);
+  memory.set(viewOf(bytes, at, size), block);
+  library.multihash_read_many(result, block, size, items, ITEMS);
+  return itemWords.slice(0, 4 * words[4]);
+}
+
+/** The multihash of an item that `itemsAt` found from that index of a plain Uint8Array on. */
+export function multihashOf(found, item, bytes, at) {
+  const start = at + found[item + 2];
+  return new Multihash(MAKING, wide(item, found), bytes.slice(start, start + found[item + 3]));
+}
+
+/** Decodes the multihashes at the start of the bytes, one after the other, into columns. */
+export function readMany(bytes) {
+  const length = checkedLength(bytes, 'bytes');
+  const blocks = [];
+  let [taken, count] = [0, 0];
+  for (let found; taken < length && (found = itemsAt(bytes, taken, length)).length > 0; ) {
+    blocks.push([taken, found]);
+    count += found.length / 4;
+    taken += found.at(-2) + found.at(-1); // the last digest ends there
+  }
+  let error;
+  if (taken < length) {
+    const rest = Math.min(length - taken, PREFIX_MAX); // in the block, in which nothing was found
+    library.multihash_read_limit(result, block, rest, DIGEST_MAX);
+    error = rejected(rest, words[8], DIGEST_MAX, block);
+  }
+  return { ...columnsOf(blocks, count), taken, error };
+}
+
+/** The columns of the items of blocks, with the index in the input at which each block starts. */
+function columnsOf(blocks, count) {
+  const codes = new BigUint64Array(count);
+  const halves = new Uint32Array(codes.buffer);
+  const offsets = new Float64Array(count); // a Uint32Array would be too small for an input of 4 GiB
+  const lengths = new Uint8Array(count);
+  let at = 0;
+  for (const [start, found] of blocks) {
+    for (let item = 0; item < found.length; item += 4, at++) {
+      halves[2 * at] = found[item];
+      halves[2 * at + 1] = found[item + 1];
+      offsets[at] = start + found[item + 2];
+      lengths[at] = found[item + 3];
+    }
+  }
+  return { codes, offsets, lengths };
 }
 
 /** Decodes the two varints before a digest. */

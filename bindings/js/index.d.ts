@@ -81,11 +81,18 @@ export class Multihash<Code extends Wide = Wide> implements MultihashDigest {
   static of(code: Wide, digest: Uint8Array): Multihash;
   /** Decodes exactly one multihash from hexadecimal digits of either case. Throws what `decode` throws. */
   static fromHex(text: string): Multihash;
+  /**
+   * Makes the multihash of what `toJSON` returned: a code, which may be decimal text, and a digest in hexadecimal. A
+   * `size` has to be the digest's length. Throws a `TypeError`, a `RangeError`, or what `of` and `fromHex` throw.
+   */
+  static fromJSON(json: { readonly code: Wide | string; readonly size?: number; readonly digest: string }): Multihash;
   /** Below 2^63. A `number` up to `Number.MAX_SAFE_INTEGER`, and a `bigint` above. */
   readonly code: Code;
   /** The digest's length in bytes. */
   readonly size: number;
   readonly digest: Uint8Array;
+  /** The digest in hexadecimal. */
+  readonly digestHex: string;
   /** The encoding. It is made at first use, and then the same array each time. */
   readonly bytes: Uint8Array;
   /** Returns the encoding in hexadecimal: a key for a `Map`, a log or a URL. */
@@ -104,6 +111,19 @@ export interface Read {
   readonly taken: number;
 }
 
+/** Multihashes that lie one after the other, as columns: element `i` of each belongs to number `i`, from 0 on. */
+export interface Columns {
+  readonly codes: BigUint64Array;
+  /** The indices at which the digests start in the input. */
+  readonly offsets: Float64Array;
+  /** The digests' lengths in bytes. */
+  readonly lengths: Uint8Array;
+  /** The number of bytes that were decoded: those of all multihashes in the columns. */
+  readonly taken: number;
+  /** Why the bytes from `taken` on are no multihash, with a `taken` of its own from there on: undefined at the end. */
+  readonly error: MultihashError | undefined;
+}
+
 /** The two varints before a digest. */
 export interface Head {
   readonly code: Wide;
@@ -117,6 +137,11 @@ export interface Head {
 export function decode(bytes: Uint8Array): Multihash;
 /** Decodes the multihash at the start of `bytes`, with a digest of at most `limit` bytes, by default 255. */
 export function read(bytes: Uint8Array, limit?: Wide): Read;
+/**
+ * Decodes the multihashes in `bytes`, one after the other, up to the end or the first that is invalid or truncated. It
+ * copies no digest, throws no `MultihashError`, and takes a fraction of the time of `read` for each.
+ */
+export function readMany(bytes: Uint8Array): Columns;
 /** Decodes the two varints before a digest. */
 export function head(bytes: Uint8Array): Head;
 /** Returns the encoding of a code and a digest. */

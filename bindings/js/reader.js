@@ -1,7 +1,9 @@
 // MultihashReader, which decodes the multihashes of a stream one after the other.
 import { checkedLength, checkedOptions, checkedWide } from './arguments.js';
-import { DIGEST_MAX, lengthOf, readAt } from './core.js';
+import { DIGEST_MAX, itemsAt, lengthOf, multihashOf, readAt } from './core.js';
 import { sourceOf } from './sources.js';
+
+const NONE = new Uint32Array();
 
 /** Reads concatenated encodings from a `ReadableStream` or an async iterable of `Uint8Array`. */
 export class MultihashReader {
@@ -9,6 +11,10 @@ export class MultihashReader {
   #limit;
   #bytes; // what was received
   #at = 0; // the index in it after the last multihash that was returned
+  #items = NONE; // of a block of `#bytes`, which starts at this index
+  #block = 0;
+  #item = 0; // the index in `#items` of the next one
+  #isShort = false; // whether the bytes end inside the next multihash
   #taken = 0; // bytes of all that were returned
   #calls = 0; // pending calls
   #last = Promise.resolve();
@@ -39,6 +45,8 @@ export class MultihashReader {
    * error or null the source is released. Calls that overlap run one after the other.
    */
   read() {
+    const multihash = this.#ready();
+    if (multihash) return Promise.resolve(multihash);
     const next = this.#calls++ === 0 ? this.#next() : this.#last.then(() => this.#next());
     if (this.#calls > 0) this.#last = next.catch(() => {});
     return next;
@@ -64,11 +72,34 @@ export class MultihashReader {
 
   /** The next multihash, if all of it was received. Throws if the rest of it does not follow. */
   #received(isLast = false) {
+    if (this.#isShort && !isLast) return undefined;
+    if (this.#item === this.#items.length) this.#decode();
+    const length = this.#items[this.#item + 3];
+    if (!(length <= this.#limit)) return this.#unusual(isLast);
+    const multihash = multihashOf(this.#items, this.#item, this.#bytes, this.#block);
+    this.#advance(this.#block + this.#items[this.#item + 2] + length - this.#at);
+    this.#item += 4;
+    return multihash;
+  }
+
+  /** Decodes the next block, which copies it once for all multihashes in it. */
+  #decode() {
+    this.#items = itemsAt(this.#bytes, this.#at, this.#bytes.length);
+    this.#block = this.#at;
+    this.#item = 0;
+  }
+
+  /** The same as `#received` if the block has no next multihash, or that exceeds the limit. */
+  #unusual(isLast) {
     const found = readAt(this.#bytes, this.#at, this.#limit, isLast);
-    if (!found) return undefined;
-    this.#at += found.taken;
-    this.#taken += found.taken;
-    return found.multihash;
+    this.#isShort = !found;
+    if (found) this.#advance(found.taken);
+    return found?.multihash;
+  }
+
+  #advance(taken) {
+    this.#at += taken;
+    this.#taken += taken;
   }
 
   /** The next multihash of the source, or null after the last one. */
@@ -92,6 +123,9 @@ export class MultihashReader {
     if (!done) {
       this.#bytes = joined(this.#bytes, this.#at, value, 'a chunk of the source');
       this.#at = 0;
+      this.#items = NONE;
+      this.#item = 0;
+      this.#isShort = false;
     }
     return done;
   }
@@ -125,22 +159,60 @@ export class MultihashReader {
     await this.#source.close(reason);
   }
 
-  /** Yields each multihash; where the loop is left, the source is cancelled. */
-  async *[Symbol.asyncIterator]() {
-    let hasFailed = false;
-    try {
-      for (let multihash; (multihash = this.#ready() ?? (await this.read())) !== null; ) yield multihash;
-    } catch (error) {
-      hasFailed = true;
-      await this.cancel().catch(() => {}); // the first error is the one to know
-      throw error;
-    } finally {
-      if (!hasFailed) await this.cancel();
-    }
+  /** Returns each multihash; where the loop is left, the source is cancelled. */
+  [Symbol.asyncIterator]() {
+    return new Loop(this, () => this.#ready());
   }
 }
 
-if (Symbol.asyncDispose) MultihashReader.prototype[Symbol.asyncDispose] = MultihashReader.prototype.cancel;
+/** What an async generator is, which takes longer to return what needs not be awaited. */
+class Loop {
+  #reader;
+  #ready;
+  #isOver = false;
+
+  constructor(reader, ready) {
+    this.#reader = reader;
+    this.#ready = ready;
+  }
+
+  next() {
+    const value = this.#isOver ? undefined : this.#ready();
+    return value ? Promise.resolve({ done: false, value }) : this.#awaited();
+  }
+
+  async #awaited() {
+    if (this.#isOver) return { done: true, value: undefined };
+    try {
+      const value = await this.#reader.read();
+      return value === null ? this.return() : { done: false, value };
+    } catch (error) {
+      return this.throw(error);
+    }
+  }
+
+  async return(value) {
+    if (!this.#isOver) {
+      this.#isOver = true;
+      await this.#reader.cancel();
+    }
+    return { done: true, value };
+  }
+
+  async throw(error) {
+    await this.return().catch(() => {}); // the first error is the one to know
+    throw error;
+  }
+
+  [Symbol.asyncIterator]() {
+    return this;
+  }
+}
+
+if (Symbol.asyncDispose) {
+  MultihashReader.prototype[Symbol.asyncDispose] = MultihashReader.prototype.cancel;
+  Loop.prototype[Symbol.asyncDispose] = Loop.prototype.return;
+}
 
 /**
  * A copy of the first from an index on, and the second. Throws a TypeError if that is no Uint8Array, or is detached.

@@ -1,7 +1,7 @@
 // What tsc --strict --exactOptionalPropertyTypes accepts. After each @ts-expect-error is a line that it rejects.
 import * as index from 'verified-multihash';
-import { Multihash, MultihashError, MultihashReader, compare, decode, encode, encodedLength, head, read, scaleDecode,
-  scaleEncode } from 'verified-multihash';
+import { Multihash, MultihashError, MultihashReader, compare, decode, encode, encodedLength, head, read, readMany,
+  scaleDecode, scaleEncode } from 'verified-multihash';
 import type { ByteStream, Status, Wide } from 'verified-multihash';
 import { CODES, NAMES, hashers, identity, sha256, sha384, sha512, verify } from 'verified-multihash';
 import type { Content } from 'verified-multihash';
@@ -20,6 +20,9 @@ type Read = { readonly multihash: Multihash; readonly taken: number };
 is<(bytes: Uint8Array) => Multihash>()(decode);
 is<(bytes: Uint8Array, limit?: Wide) => Read>()(read);
 is<(bytes: Uint8Array) => Read>()(scaleDecode);
+is<(bytes: Uint8Array) => index.Columns>()(readMany);
+is<{ readonly codes: BigUint64Array; readonly offsets: Float64Array; readonly lengths: Uint8Array;
+  readonly taken: number; readonly error: MultihashError | undefined }>()(readMany(bytes));
 is<(bytes: Uint8Array) => { readonly code: Wide; readonly digestLength: Wide; readonly taken: number }>()(head);
 is<(code: Wide, digest: Uint8Array) => Uint8Array>()(encode);
 is<(code: Wide, digest: Uint8Array) => Uint8Array>()(scaleEncode);
@@ -36,6 +39,10 @@ is<readonly [number | bigint, number, Uint8Array, Uint8Array]>()(
   [found.code, found.size, found.digest, found.bytes] as const);
 isFixed(found);
 is<(text: string) => Multihash>()(Multihash.fromHex);
+is<(json: { readonly code: Wide | string; readonly size?: number; readonly digest: string }) => Multihash>()(
+  Multihash.fromJSON);
+is<string>()(found.digestHex);
+Multihash.fromJSON(found.toJSON());
 is<() => Multihash<number>>()(found.narrow);
 is<() => string>()(found.toString);
 is<(other: unknown) => boolean>()(found.equals);
