@@ -154,7 +154,7 @@ rust_lints() {
 in_crate . true # makes the copies
 # the test vectors and drawn inputs, with the results that verdicts.py computes
 crates/vectors/verdicts.py --more 1 10000 > "$work/list"
-cp crates/vectors/data/values.tsv "$work"
+cp crates/vectors/data/{messages,values}.tsv "$work"
 needs=$cargo try "the tests" rust_tests
 needs=$bare try "the tests without std" without_std
 needs="/usr/bin/cargo /usr/bin/rustc $crates" try "the tests with Debian's Rust" debians_rust

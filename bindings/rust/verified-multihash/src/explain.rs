@@ -34,7 +34,7 @@ enum Reason {
 const LENGTH: &str = "digest's length";
 
 impl<const S: usize> Multihash<S> {
-    const LIMIT: u64 = if S < 255 { S as u64 } else { 255 };
+    pub(crate) const LIMIT: u64 = if S < 255 { S as u64 } else { 255 };
 
     /// Explains an error that a function of this type returned for an input: `from_bytes`, or `read` from a slice.
     ///

@@ -58,25 +58,37 @@ impl<const S: usize> Decoder<S> {
                 return Ok(Some(multihash));
             }
         }
-        loop {
-            match Multihash::<S>::read(&mut self.kept()) {
-                Ok(multihash) => {
-                    self.length = 0;
-                    return Ok(Some(multihash));
-                }
-                Err(error) if !error.is_incomplete() => return Err(Multihash::<S>::explain(self.kept(), error)),
-                Err(_) if part.is_empty() => return Ok(None),
-                Err(_) => self.receive(part),
+        self.decode_kept(part)
+    }
+
+    /// Decodes a multihash that is not whole in the part.
+    #[cold]
+    fn decode_kept(&mut self, part: &mut &[u8]) -> Result<Option<Multihash<S>>, DecodeError> {
+        let head = loop {
+            match Head::read_front(self.kept()) {
+                Err(error) if error.is_insufficient() && !part.is_empty() => self.receive(part, self.length + 1),
+                head => break head,
             }
+        };
+        match head {
+            Ok(head) if head.digest_len <= Multihash::<S>::LIMIT => {
+                self.receive(part, head.digest_offset + head.digest_len as usize);
+            }
+            _ => {} // more of the part is not needed
+        }
+        match Multihash::read(&mut self.kept()) {
+            Ok(multihash) => {
+                self.length = 0;
+                Ok(Some(multihash))
+            }
+            Err(error) if error.is_incomplete() => Ok(None),
+            Err(error) => Err(Multihash::<S>::explain(self.kept(), error)),
         }
     }
 
-    /// Moves bytes from the part: what is missing of the digest, or the next byte before it.
-    fn receive(&mut self, part: &mut &[u8]) {
-        // the digest has at most 255 bytes: `read` rejects others
-        let end = Head::read_front(self.kept())
-            .map_or(self.length + 1, |head| head.digest_offset + head.digest_len as usize);
-        let (received, rest) = part.split_at(part.len().min(end - self.length));
+    /// Moves bytes from the part, until that many are kept.
+    fn receive(&mut self, part: &mut &[u8], length: usize) {
+        let (received, rest) = part.split_at(part.len().min(length - self.length));
         self.bytes[self.length..][..received.len()].copy_from_slice(received);
         self.length += received.len();
         *part = rest;
