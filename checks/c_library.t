@@ -1,6 +1,6 @@
 #!/usr/bin/env bash
-# The library for C: compilers warn of nothing in its headers and source; its tests pass, under sanitizers, a fuzzer,
-# and in emulators of other machines; it needs no C library; its examples.
+# The library for C: compilers warn of nothing in its headers and source; its tests pass, under sanitizers and in
+# emulators of other machines; it needs no C library; its functions for other languages; its examples.
 # shellcheck source=checks/lib/tap.sh
 . "$(dirname "$0")/lib/tap.sh"
 require cc python3
@@ -8,13 +8,15 @@ require cc python3
 . checks/lib/c.sh
 
 # The headers, by a compiler for C and one for C++, of the oldest and the newest standards. The tests are of others. A
-# field or a parameter of another type is an error in the source or the tests.
+# field or a parameter of another type is an error in the source or the tests. The others include the first.
 headers() {
   local header standard
   for header in "$c"/include/*.h; do
-    "$1" -std=c99 "${warnings[@]}" -x c -fsyntax-only -include "$header" -include "$header" /dev/null
+    "$1" -std=c99 "${warnings[@]}" -x c -fsyntax-only -include "$c/include/multihash.h" -include "$header" \
+      -include "$header" /dev/null
     for standard in c++11 c++20; do
-      "$2" -std=$standard "${warnings[@]}" -x c++ -fsyntax-only -include "$header" /dev/null
+      "$2" -std=$standard "${warnings[@]}" -x c++ -fsyntax-only -include "$c/include/multihash.h" -include "$header" \
+        /dev/null
     done
   done
 }
@@ -24,12 +26,13 @@ named() {
   tr -s '\n ' ' ' < "$1" | sed 's/multihash_status /uint32_t /g' | grep -oP "\w+ multihash_\w+\([^()]*\)(?=$2)" | sort
 }
 
-# The source, at each level of optimization.
+# The source, at each level of optimization, and that for other languages.
 compiles() {
   local level
   for level in 0 1 2 3 s; do
     "$1" "${c_flags[@]}" -O$level -I "$c/include" -c "$source" -o "$work/$1-$level.o"
   done
+  "$1" "${c_flags[@]}" -O2 -I "$c/include" -c "$c/src/multihash_ffi.c" -o "$work/$1-ffi.o"
 }
 
 # No section of an object is written, so the library keeps no state.
@@ -88,6 +91,12 @@ passes_without_extensions() {
 on_machine() {
   needs="$needs $2-gcc $3" try "$1" \
     build_and_run "$2" "$3" "$2-gcc" "${c_flags[@]}" -O2 -static "${tests[@]}" "$source"
+}
+
+# What LuaJIT calls of the two sources, which are a library without more.
+other_languages() {
+  cc -O2 -fPIC -shared -I "$c/include" "$c"/src/*.c -o "$work/libffi.so"
+  luajit "$c/tests/ffi.lua" "$c/include/multihash_ffi.h" "$work/libffi.so" "$data"
 }
 
 # The first programs of the page. The one that reads a file prints each multihash, also one that is cut where a part of
@@ -151,11 +160,14 @@ needs=objdump try "no state" keeps_no_state "$work/cc-2.o"
 needs="clang llvm-nm" try "objects without a C library" freestanding
 needs=clang try "other compilers" has_no_extensions
 try "other compilers, tests" passes_without_extensions
-needs="clang $clang_runtime" try "fuzzing" bindings/c/fuzz.sh
+needs=luajit try "other languages" other_languages
 on_machine "x86, 32 bits" i686-linux-gnu qemu-i386
 needs=--all on_machine riscv64 riscv64-linux-gnu qemu-riscv64
 on_machine "armhf, 32 bits" arm-linux-gnueabihf qemu-arm
+on_machine "aarch64" aarch64-linux-gnu qemu-aarch64
 on_machine "s390x, big-endian" s390x-linux-gnu qemu-s390x
+WINEPREFIX=$work/wine WINEDEBUG=-all on_machine "Windows" x86_64-w64-mingw32 wine
+{ WINEPREFIX=$work/wine wineserver -k || true; } 2> /dev/null
 try "the first programs of the page" page_programs
 try "the reader of a stream" stream_example
 needs=/usr/include/openssl/evp.h try "the example that hashes" verify_example

@@ -59,7 +59,7 @@ LANGUAGES = {
         ".c",
         "cc cmake pkg-config",
         "export DESTDIR=$PWD/root PKG_CONFIG_{PATH=$PWD/root/usr/local/lib/pkgconfig,SYSROOT_DIR=root}",
-        "/usr/include/openssl/evp.h",
+        "/usr/include/openssl/evp.h ruby",
     ),
     "Rattle": Language(".rt", "rt", "true"),
 }

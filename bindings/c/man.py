@@ -1,111 +1,85 @@
 #!/usr/bin/env python3
-"""Writes the man page multihash(3): the comments and declarations of multihash.h and multihash_message.h.
+"""Writes the man page multihash(3) into a folder: the comments and declarations of the headers of `include`. The pages of
+their functions include it. The date is SOURCE_DATE_EPOCH, or that of the headers.
 
-The pages of their functions include it.
-
-    man.py CHANGES OUT HEADER..    CHANGES has the date of the page, OUT is the folder of the pages
+    man.py FOLDER
 """
 
 from __future__ import annotations
 
-import datetime
+import os
 import re
 import sys
 import textwrap
+import time
 from pathlib import Path
 
-ABOUT = r"/\* SPDX(?:(?!\*/).)*\*/\n\n/\*((?:(?!\*/).)*)\*/"
-FUNCTION = r"/\*((?:(?!\*/).)*)\*/\n(?:static inline )?(const char \*|\w+ )(multihash_\w+)\(([^()]*)\)"
-TYPE = r"/\*((?:(?!\*/).)*)\*/\n(typedef (?:struct .*?\} |uint32_t )\w+;)"
-STATUS = r"/\*((?:(?!\*/).)*)\*/\s*(MULTIHASH_\w+) = \d+"
-CONSTANTS = r"/\*((?:(?!\*/).)*)\*/\n((?:#define MULTIHASH_\w+ [^\n]*\n)+)"
-
-
-def plain(comment: str) -> str:
-    """The text of a comment, without the marks at the front of its lines."""
-    return "\n".join(re.sub(r"^ \* ?", "", line) for line in comment.split("\n")).strip()
+# multihash_ffi.h is for other languages.
+HEADERS = [Path(__file__).parent / "include" / f"multihash{part}.h" for part in ("", "_message", "_names")]
+COMMENT = r"/\*((?:(?!\*/).)*)\*/\n"
+ABOUT = COMMENT + "#ifndef"
+# A type, constants, or a function, whose declaration has a parenthesis.
+PART = COMMENT + r"(?:static inline )?(typedef .*?\w;(?=\n\n)|#define.*?(?=\n\n)|[\w *]*multihash_\w+\([^()]*\))"
+STATUS = COMMENT + r" *(MULTIHASH_\w+) = \d+"
 
 
 def text(words: str) -> str:
-    """A paragraph: each sentence starts a line, and names are in italics."""
-    words = re.sub(r"`([^`]*)`", r"\\fI\1\\fP", re.sub(r"\s+", " ", words.replace("\\", "\\e")).strip())
+    """Returns a paragraph: each sentence starts a line, and names are in italics."""
+    words = re.sub(r"`([^`]*)`", r"\\fI\1\\fP", " ".join(words.replace("\\", "\\e").split()))
     lines = textwrap.TextWrapper(79, break_long_words=False, break_on_hyphens=False)
     return "\n".join(lines.fill(sentence) for sentence in re.split(r"(?<=\.) ", words))
 
 
-def literal(lines: str) -> list[str]:
-    return [".Bd -literal", lines.rstrip("\n"), ".Ed"]
-
-
 def paragraphs(comment: str) -> list[str]:
-    """The paragraphs of a comment; lines that begin with ' - ' are a list."""
+    """Returns the paragraphs of a comment. A line that begins with a dash, or with a word and a colon, begins an item."""
     made = []
-    for part in plain(comment).split("\n\n"):
-        first, *items = re.split(r"\n - ", part)
-        made += [".Pp", text(first)]
+    for part in re.sub(r"\n *\* ?", "\n", comment).strip().split("\n\n"):
+        first, *items = re.split(r"\n(?= - |Returns: |Errors: )", part)
+        if first.startswith("Returns: "):
+            first, items = "", [first, *items]
+        made += [".Pp", text(first)] if first else []
         if items:
-            made += [".Bl -bullet", *(".It\n" + text(item) for item in items), ".El"]
+            tags = [re.fullmatch(r"( - |\w+:)(.*)", item, re.S) for item in items]
+            made += [
+                ".Bl -tag -width Returns",
+                *(f".It {tag[1].strip(' :')}\n{text(tag[2])}" for tag in tags if tag),
+                ".El",
+            ]
     return made
 
 
-def described(comment: str, name: str) -> list[str]:
-    """The section of a function: what it does, what it returns, its errors."""
-    first, *parts = re.split(r"\n(Returns|Errors): +", plain(comment))
-    made = [".Ss " + name, text(first)]
-    if parts:
-        tagged = zip(parts[::2], parts[1::2])
-        made += [".Bl -tag -width Returns", *(".It %s\n%s" % (tag, text(words)) for tag, words in tagged), ".El"]
-    return made
-
-
-def prototype(kind: str, name: str, parameters: str) -> list[str]:
-    quoted = "" if parameters == "void" else " ".join('"%s"' % " ".join(it.split()) for it in parameters.split(","))
-    return [".Ft " + kind.strip(), (".Fn %s %s" % (name, quoted or "void"))]
-
-
-def page(headers: dict[str, str], changes: str) -> str:
-    """The page. The headers have names and contents; the first one states the version."""
-    header = "".join(headers.values())
-    [version] = re.findall(r'#define MULTIHASH_VERSION "([\d.]+)"', header)
-    [day] = re.findall(r"^%s \(([\d-]+)\)$" % re.escape(version), changes, re.M)
-    date = datetime.date.fromisoformat(day)
-    functions = re.findall(FUNCTION, header, re.S)
-    names = ["multihash", *(name for _, _, name, _ in functions)]
-    made = [".Dd %s %d, %d" % (date.strftime("%B"), date.day, date.year), ".Dt MULTIHASH 3", ".Os"]
-    made += [".Sh NAME", *(".Nm %s ," % name for name in names[:-1]), ".Nm " + names[-1]]
-    made += [".Nd decode and encode multihashes", ".Sh LIBRARY", "multihash_c, version %s:" % version]
-    made += [".Ql pkg-config --cflags --libs multihash_c", "prints the options for the compiler."]
-    made += [".Sh SYNOPSIS"]
-    for title, contents in headers.items():
-        made += [".In " + title]
-        for _, kind, name, parameters in re.findall(FUNCTION, contents, re.S):
-            made += prototype(kind, name, parameters)
-    first, *others = re.findall(ABOUT, header, re.S)
-    made += [".Sh DESCRIPTION", *paragraphs(first)[1:]]
-    for comment in others:
-        made += paragraphs(comment)
-    made += [".Ss Types and constants"]
-    for comment, declaration in [*re.findall(TYPE, header, re.S), *re.findall(CONSTANTS, header, re.S)]:
-        made += [text(plain(comment)), *literal(declaration), ".Pp"]
-    del made[-1]
-    for comment, _, name, _ in functions:
-        made += described(comment, name)
-    made += [".Sh ERRORS", "The statuses are", ".Bl -tag -width Ds"]
-    made += [".It Dv %s\n%s" % (name, text(plain(comment))) for comment, name in re.findall(STATUS, header, re.S)]
+def page(headers: dict[str, str], date: time.struct_time) -> str:
+    """Returns the page of these headers, which have names."""
+    everything = "".join(headers.values())
+    functions = [
+        name for _, declared in re.findall(PART, everything, re.S) for name in re.findall(r"(\w+)\(", declared)
+    ]
+    version = re.findall(r'MULTIHASH_VERSION "(.*)"', everything)[0]
+    made = [time.strftime(f".Dd %B {date.tm_mday}, %Y", date), ".Dt MULTIHASH 3", ".Os", ".Sh NAME"]
+    made += [*(f".Nm {name} ," for name in ["multihash", *functions[:-1]]), f".Nm {functions[-1]}"]
+    made += [".Nd decode and encode multihashes", ".Sh LIBRARY", f"multihash_c, version {version}:"]
+    made += [".Ql pkg-config --cflags --libs multihash_c", "prints the options for the compiler.", ".Sh SYNOPSIS"]
+    made += [f".In {name}" for name in headers]
+    made += [
+        ".Sh DESCRIPTION",
+        *[line for about in re.findall(ABOUT, everything, re.S) for line in paragraphs(about)][1:],
+    ]
+    for comment, declared in re.findall(PART, everything, re.S):
+        names = re.findall(r"(\w+)\(|\} (\w+);|typedef \w+ (\w+);|#define (\w+)", declared)
+        made += [f".Ss {''.join(names[0])}", ".Bd -literal", declared, ".Ed", *paragraphs(comment)]
+    made += [".Sh ERRORS", ".Bl -tag -width Ds"]
+    made += [f".It Dv {name}\n{text(comment)}" for comment, name in re.findall(STATUS, everything, re.S)]
     made += [".El", ".Sh SEE ALSO", '.Lk https://multiformats.io/multihash/ "The multihash format"']
     return "\n".join(made) + "\n"
 
 
-def main() -> None:
-    if len(sys.argv) < 4:
-        sys.exit(__doc__)
-    changes, out = Path(sys.argv[1]).read_text("utf-8"), Path(sys.argv[2])
-    headers = {Path(name).name: Path(name).read_text("utf-8") for name in sys.argv[3:]}
-    out.mkdir(parents=True, exist_ok=True)
-    for _, _, name, _ in re.findall(FUNCTION, "".join(headers.values()), re.S):
-        (out / (name + ".3")).write_text(".so man3/multihash.3\n", "utf-8")
-    (out / "multihash.3").write_text(page(headers, changes), "utf-8")
-
-
 if __name__ == "__main__":
-    main()
+    if len(sys.argv) != 2:
+        sys.exit(__doc__)
+    out = Path(sys.argv[1])
+    out.mkdir(parents=True, exist_ok=True)
+    seconds = os.environ.get("SOURCE_DATE_EPOCH") or max(path.stat().st_mtime for path in HEADERS)
+    written = page({path.name: path.read_text("utf-8") for path in HEADERS}, time.gmtime(float(seconds)))
+    (out / "multihash.3").write_text(written, "utf-8")
+    for function in re.findall(r"^\.Nm (multihash_\w+)", written, re.M):
+        (out / f"{function}.3").write_text(".so man3/multihash.3\n", "utf-8")

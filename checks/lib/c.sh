@@ -12,21 +12,16 @@ c=$top/bindings/c
 source=$c/src/multihash.c
 tests=("$c"/tests/{test,verdicts,models,inputs}.c)
 data=$top/crates/vectors/data
-# what Clang needs for sanitizers and the fuzzer
+# what Clang needs for sanitizers
 clang_runtime=$(clang --rtlib=compiler-rt -print-libgcc-file-name 2> /dev/null || true)
 
 # Prints the names of the functions that the header declares.
 exported() { cc -E -P "$c/include/multihash.h" | tr -s '\n ' ' ' | grep -oP '\w+(?=\([^()]*\);)' | sort; }
 
-# The program `$1`, which the remaining words build, passes for each line of the test vectors and for drawn inputs; `$2`
-# is a command that runs it, or empty.
+# The program `$1`, which the remaining words build, passes for each line of the lists and for drawn inputs; `$2` is a
+# command that runs it, or empty.
 build_and_run() {
-  local list
   "${@:3}" -I "$c/include" -o "$work/$1"
   # shellcheck disable=SC2086
-  prints "$(($(wc -l < "$data/verdicts.tsv") - 1)) lines, drawn: 20000" $2 "$work/$1" "$data/verdicts.tsv" 1 20000
-  for list in "$data"/{values,messages}.tsv; do
-    # shellcheck disable=SC2086
-    prints "$(($(wc -l < "$list") - 1)) lines" $2 "$work/$1" "$list" 0 0 vectors
-  done
+  prints "drawn: 20000" $2 "$work/$1" 1 20000 "$data"/{verdicts,values,messages}.tsv
 }

@@ -1,6 +1,6 @@
 # shellcheck shell=bash
-# For cmake.t and release.t, after tap.sh: builds the library for C by CMake, and tests what is installed: files, man
-# pages, exports of the shared library, flags.
+# For cmake.t and release.t, after tap.sh: builds the library for C by CMake, and tests what is installed: files, exports
+# of the shared library, flags.
 # shellcheck disable=SC2034,SC2154 # what others use, or have set
 # shellcheck source=checks/lib/c.sh
 . checks/lib/c.sh
@@ -8,7 +8,7 @@ version=$(sed -n 's/^#define MULTIHASH_VERSION "\([0-9.]*\)"$/\1/p' "$c/include/
 major=${version%%.*}
 expected=$top/crates/mh_show/stdout
 # The folders of an installation but that for libraries, which another one may have elsewhere.
-bin=bin include=include document=share/doc/multihash_c man=share/man
+include=include document=share/doc/multihash_c
 umask 022
 unset "${!CMAKE_@}"
 export CXX=none # CMake needs no compiler for C++
@@ -18,7 +18,7 @@ build() {
   local to=$work/$1
   cmake -S "$top" -B "$to" "${@:2}"
   cmake --build "$to"
-  prints '100% tests passed, 0 tests failed out of ' ctest --output-on-failure --test-dir "$to"
+  prints '100% tests passed, 0 tests failed out of 2' ctest --output-on-failure --test-dir "$to"
 }
 
 # The files of an installation, as paths from the prefix.
@@ -26,11 +26,11 @@ files_in() {
   local libdir=$1
   printf './%s\n' "$libdir"/libmultihash_c.{a,so,so."$major",so."$version"} \
     "$libdir"/cmake/multihash_c/multihash_c-config{,-release,-version}.cmake "$libdir/pkgconfig/multihash_c.pc" \
-    "$document"/{README.md,changelog,copyright} "$bin/mh_show" "$man/man1/mh_show.1"
+    "$document"/{README.md,changelog,copyright} bin/mh_show share/man/man{1/mh_show.1,3/multihash.3}
   find "$c/examples" -type f -printf "./$document/examples/%f\n"
   find "$c/include" -type f -printf "./$include/%f\n"
-  { exported; sed -nE 's/^static inline .*\b(multihash_\w+)\(.*/\1/p' "$c"/include/*.h; echo multihash; } |
-    sed "s,.*,./$man/man3/&.3,"
+  { exported; sed -nE 's/^static inline .*\b(multihash_\w+)\(.*/\1/p' "$c"/include/*.h; } |
+    sed "s,.*,./share/man/man3/&.3,"
 }
 
 # pkg-config finds the version, the headers and the library, and names nothing more.
@@ -46,39 +46,23 @@ has_flags() {
   [ "${flags[*]:2}" = -lmultihash_c ]
 }
 
-# A shared library exports the functions of the header, each with its version of a map.
-exports_exactly() {
-  awk '/^MULTIHASH_C/ { node = $1 } /^    multihash_/ { sub(/;/, "", $1); print $1 "@@" node }' "$2" | sort \
-    > "$work/versions"
-  sed 's/@.*//' "$work/versions" | diff <(exported) -
-  readelf -W --dyn-syms "$1" | awk '$7 ~ /^[0-9]+$/ && $4 != "SECTION" { print $8 }' | sort | diff "$work/versions" -
-}
-
 # A shared library has read-only relocations, a stack that is no code, and the names that the other words say: of the
-# library itself, and of those that it needs.
-has_segments() {
+# library itself, and of those that it needs. It exports the functions of two headers, each with a version.
+has_shared_library() {
   readelf -W -d -l "$1" | awk '$1 == "GNU_STACK" { print $1, $7 } $1 == "GNU_RELRO" { print $1 }
     $2 == "(FLAGS)" { print $3 } $2 ~ /SONAME|NEEDED/ { gsub(/[][]/, ""); print $NF }' | sort |
-    diff <(printf '%s\n' BIND_NOW GNU_RELRO "GNU_STACK RW" "${@:2}") -
+    diff <(printf '%s\n' BIND_NOW GNU_RELRO "GNU_STACK RW" "${@:2}" libc.so.6 "libmultihash_c.so.$major") -
+  readelf -W --dyn-syms "$1" | awk '$7 ~ /^[0-9]+$/ && $4 != "OBJECT" { print $8 }' | sed 's/@@MULTIHASH_C_.*//' | sort |
+    diff <({ exported; grep -oP 'multihash_ffi_\w+(?=\()' "$c/include/multihash_ffi.h"; } | sort) -
 }
 
-# The shared library has its name and its exports. Other words are libraries that it needs.
-has_shared_library() {
-  has_segments "$1" "${@:2}" libc.so.6 "libmultihash_c.so.$major"
-  exports_exactly "$1" bindings/c/src/multihash_c.map
-}
-
-# A prefix has what it should have, with that folder for libraries. CMake has given two documents other names.
-is_installed() {
+# An installation has what it should, with that folder for libraries, and its test passes. CMake has given two documents
+# other names.
+works() {
   env -C "$1" find . ! -type d | sort | diff <(files_in "$2" | sort) -
   cmp CHANGES "$1/$document/changelog"
   cmp LICENSE "$1/$document/copyright"
   (cd "$work" || exit; has_flags "$1" "$2")
   has_shared_library "$1/$2/libmultihash_c.so"
-}
-
-# An installation has what it should, and its test passes.
-works() {
-  is_installed "$@"
   "$1/$document/examples/test.sh" "$1"
 }

@@ -46,7 +46,6 @@ STATED = (
     (r"encoding \| 2 to (\d+)", HEADER, r"MULTIHASH_LENGTH_MAX (\d+)"),
     (r"varints[^|]*\| 2 to (\d+)", HEADER, r"MULTIHASH_HEAD_MAX (\d+)"),
     (r"SCALE[^|]*\| 9 to (\d+)", HEADER, r"MULTIHASH_SCALE_LENGTH_MAX (\d+)"),
-    (r"`MULTIHASH_C_2\.0`\s+for\s+`(\w+)`", "bindings/c/src/multihash_c.map", r"(?s)_2\.0 {\nglobal:\n    (.*?);\n}"),
     (r"input has at most ([\d,]+)", "crates/mh_show/src/run.rt", r"MOST_INPUT: usize = (.*);"),
     (r"error, and exits with status (\d+)", "crates/mh_show/src/run.rt", r"tell\(alloc, err, &e\);\s+(\d+)"),
     (r"digest of at most (\d+)", "crates/mh_show/src/show.rt", r"Multihash::<(\d+)>::from_bytes"),

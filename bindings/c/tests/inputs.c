@@ -1,5 +1,5 @@
 /* The inputs of the tests: buffers, each with exactly its length, so that sanitizers see an access after its end; and
- * random inputs, the same ones on every machine, or, if FUZZ is defined, those of libFuzzer. */
+ * random inputs, the same ones on every machine. */
 #ifndef _GNU_SOURCE
 #define _GNU_SOURCE
 #endif
@@ -41,23 +41,6 @@ uint8_t *sparse(uint64_t length)
 #endif
 }
 
-#define HEAD 9
-
-int LLVMFuzzerTestOneInput(const uint8_t *data, size_t size);
-
-/* The first byte is a limit, and the next eight are a code. The others are what is decoded, and a digest. */
-int LLVMFuzzerTestOneInput(const uint8_t *data, size_t size)
-{
-    uint64_t code;
-    if (size < HEAD) return 0;
-    memcpy(&code, data + 1, sizeof code);
-    uint8_t *input = copy_of(data + HEAD, size - HEAD);
-    check_input(code, input, size - HEAD, data[0]);
-    release(input);
-    return 0;
-}
-
-#ifndef FUZZ
 #define LONGEST 300
 
 static uint64_t state;
@@ -115,13 +98,11 @@ void draw_inputs(uint64_t seed, unsigned long count)
 {
     state = seed + 1;
     for (unsigned long i = 0; i < count; i++) {
-        uint8_t bytes[HEAD + 2 * LONGEST];
-        size_t length = draw_input(bytes + HEAD);
+        uint8_t bytes[2 * LONGEST];
+        size_t length = draw_input(bytes);
         uint64_t code = number();
-        memcpy(bytes + 1, &code, sizeof code);
-        bytes[0] = (uint8_t)below(256);
-        LLVMFuzzerTestOneInput(bytes, HEAD + length);
+        uint8_t *input = copy_of(bytes, length);
+        check_input(code, input, length, below(256));
+        release(input);
     }
 }
-
-#endif

@@ -1,0 +1,46 @@
+/* SPDX-License-Identifier: MIT
+ * Copyright (c) 2026 The Gilmekhus developers */
+
+/* The library for languages that load it and compile no C, such as Ruby, PHP, LuaJIT and Python's ctypes. The shared
+ * library has these functions. This file has no directives of the preprocessor, so PHP and LuaJIT read it as it is.
+ *
+ * multihash_ffi_X does what multihash_X does, with the same preconditions. It returns the status, and writes the other
+ * fields of the result to `result`, in their order, each in eight bytes. multihash_compare and multihash_version return
+ * numbers, so call them as they are. */
+
+/* size, code, digest_offset, digest_length, taken */
+uint32_t multihash_ffi_from_bytes(const uint8_t *bytes, size_t bytes_length, uint64_t *result);
+uint32_t multihash_ffi_from_prefix(const uint8_t *prefix, size_t prefix_length, size_t whole_length, uint64_t *result);
+uint32_t multihash_ffi_read(const uint8_t *bytes, size_t bytes_length, uint64_t *result);
+uint32_t multihash_ffi_read_limit(const uint8_t *bytes, size_t bytes_length, size_t limit, uint64_t *result);
+uint32_t multihash_ffi_scale_decode(const uint8_t *bytes, size_t bytes_length, uint64_t *result);
+
+/* size, count, taken. An item of `out` is a code in eight bytes, and two `size_t`: the digest's offset and length. */
+uint32_t multihash_ffi_read_many(const uint8_t *bytes, size_t bytes_length, void *out, size_t out_length,
+                                 uint64_t *result);
+
+/* code, digest_length, taken */
+uint32_t multihash_ffi_head(const uint8_t *bytes, size_t bytes_length, uint64_t *result);
+
+/* value, length */
+uint32_t multihash_ffi_read_varint(const uint8_t *bytes, size_t bytes_length, uint64_t *result);
+
+/* size, length */
+uint32_t multihash_ffi_encoded_len(uint64_t code, size_t digest_length, uint64_t *result);
+uint32_t multihash_ffi_encode(uint64_t code, const uint8_t *digest, size_t digest_length, uint8_t *out,
+                              size_t out_length, uint64_t *result);
+uint32_t multihash_ffi_scale_encode(uint64_t code, const uint8_t *digest, size_t digest_length, uint8_t *out,
+                                    size_t out_length, uint64_t *result);
+uint32_t multihash_ffi_write_varint(uint64_t value, uint8_t *out, size_t out_length, uint64_t *result);
+
+/* Static strings; the name of an unknown code is a null pointer. */
+const char *multihash_ffi_status_text(uint32_t status);
+const char *multihash_ffi_name(uint64_t code);
+
+int multihash_ffi_is_incomplete(uint32_t status);
+
+/* The messages, of at most 128 bytes with the zero byte. `made` are the numbers that an encoder has written. */
+int multihash_ffi_message(char *text, size_t text_size, const uint8_t *bytes, size_t bytes_length, size_t limit);
+int multihash_ffi_scale_message(char *text, size_t text_size, const uint8_t *bytes, size_t bytes_length);
+int multihash_ffi_encode_message(char *text, size_t text_size, uint32_t status, const uint64_t *made, uint64_t code,
+                                 size_t out_length);
