@@ -93,6 +93,13 @@ on_machine() {
     build_and_run "$2" "$3" "$2-gcc" "${c_flags[@]}" -O2 -static "${tests[@]}" "$source"
 }
 
+# The tests on Windows. Wine keeps its files below the folder of this test; its server ends with it.
+in_wine() {
+  local -x WINEPREFIX=$work/wine WINEDEBUG=-all
+  build_and_run windows.exe wine x86_64-w64-mingw32-gcc "${c_flags[@]}" -O2 -static "${tests[@]}" "$source"
+  { wineserver -k || true; }
+}
+
 # What LuaJIT calls of the two sources, which are a library without more.
 other_languages() {
   cc -O2 -fPIC -shared -I "$c/include" "$c"/src/*.c -o "$work/libffi.so"
@@ -166,8 +173,7 @@ needs=--all on_machine riscv64 riscv64-linux-gnu qemu-riscv64
 on_machine "armhf, 32 bits" arm-linux-gnueabihf qemu-arm
 on_machine "aarch64" aarch64-linux-gnu qemu-aarch64
 on_machine "s390x, big-endian" s390x-linux-gnu qemu-s390x
-WINEPREFIX=$work/wine WINEDEBUG=-all on_machine "Windows" x86_64-w64-mingw32 wine
-{ WINEPREFIX=$work/wine wineserver -k || true; } 2> /dev/null
+needs="x86_64-w64-mingw32-gcc wine" try "Windows" in_wine
 try "the first programs of the page" page_programs
 try "the reader of a stream" stream_example
 needs=/usr/include/openssl/evp.h try "the example that hashes" verify_example
