@@ -1,8 +1,9 @@
 #!/usr/bin/env python3
 """The version of the library and its packages: multihash.h has it, and other files state the same.
 
-    tools/version.py --check           compares the files with the header
-    tools/version.py VERSION [DATE]    writes a later one: what CHANGES has as not released is released, today or then
+    tools/version.py --check             compares the files with the header
+    tools/version.py VERSION             writes a later one, which is not released, after one that is or in its place
+    tools/version.py --release [DATE]    writes the date when the version is released, today or then
 """
 import datetime
 import re
@@ -17,12 +18,12 @@ LINES = (
     (HEADER, '#define MULTIHASH_VERSION "{version}"'),
     (HEADER, "#define MULTIHASH_VERSION_NUMBER {number}\n"),
     ("bindings/c/README.md", "find_package(multihash_c {major}.{minor} "),
+    ("bindings/c/README.md", "/multihash-{version}.tar.gz)"),
     ("bindings/c/README.md", "`libmultihash_c.so.{major}`"),
     ("bindings/c/PACKAGING.md", "`libmultihash-c{major}`"),
     ("bindings/c/debian/control", "\nPackage: libmultihash-c{major}\n"),
     ("bindings/c/debian/control", "\nDepends: libmultihash-c{major} (="),
-    ("bindings/c/debian/rules", "libmultihash_c.so.{major} libmultihash-c{major} "),
-    ("bindings/js/core.js", "export const version = '{version}';"),
+    ("bindings/c/debian/symbols", "libmultihash_c.so.{major} libmultihash-c{major} "),
     ("bindings/js/package.json", '"version": "{version}",'),
     ("bindings/python/src/verified_multihash/__init__.py", '__version__ = "{version}"'),
     ("bindings/rust/verified-multihash/Cargo.toml", '\nversion = "{version}"\n'),
@@ -34,12 +35,11 @@ LINES = (
     ("crates/multihash_c/src/version.rt", "const MINOR: u32 = {minor};"),
     ("crates/multihash_c/src/version.rt", "const PATCH: u32 = {patch};"),
 )
-# The release that comes first in CHANGES, and what comes before it until it is released.
-RELEASE = re.compile(r"^(\d+\.\d+\.\d+) \((\d{4}-\d\d-\d\d)\)$", re.M)
-PENDING = re.compile(r"^Not released.*$", re.M)
-# Debian's changelog has an entry of each release; its person is that of the entry before.
+# The headings of CHANGES, of which the first is of the version.
+HEADING = re.compile(r"^(\d+\.\d+\.\d+)(?:, not released| \((\d{4}-\d\d-\d\d)\))$", re.M)
+# Debian's changelog has an entry of each version; its person is that of the entry before.
 ENTRY = re.compile(r"multihash-c \(([\d.]*)-1\) (?:.*\n)*? -- (.*>)  (.*)\n")
-NEW = "multihash-c ({}-1) unstable; urgency=medium\n\n  * New version.\n\n -- {}  {:%a, %d %b %Y} 00:00:00 +0000\n\n"
+NEW = "multihash-c ({}-1) unstable; urgency=medium\n\n  * New version.\n\n -- {}  {}\n\n"
 texts = {path: (TOP / path).read_text("utf-8") for path in [CHANGES, DEBIAN, *dict(LINES)]}
 
 
@@ -62,26 +62,39 @@ def errors(version: str) -> Iterator[str]:
     for (path, _), line in zip(LINES, lines(version)):
         if texts[path].count(line) != 1:
             yield f"{path} does not have once: {line.strip()}"
-    released, date = RELEASE.findall(texts[CHANGES])[0]
+    stated, date = HEADING.findall(texts[CHANGES])[0]
     packaged, _, time = ENTRY.findall(texts[DEBIAN])[0]
-    day = datetime.date.fromisoformat(date).strftime("%a, %d %b %Y ")
-    if released != version:
-        yield f"{CHANGES}: the last release is {released}, not {version}"
-    if packaged != version or not time.startswith(day):
-        yield f"{DEBIAN}: the last release is {packaged} of {time}, not {version} of {day}"
+    if stated != version:
+        yield f"{CHANGES}: the first version is {stated}, not {version}"
+    if packaged != version or not time.startswith(day_of(date)):
+        yield f"{DEBIAN}: the first version is {packaged} of {time}, not {version} of {date}"
 
 
-def write(old: str, new: str, day: datetime.date) -> None:
-    """Writes a later version in place of another."""
-    if parts(new) <= parts(old) or not PENDING.search(texts[CHANGES]):
-        sys.exit(f"version.py: not later than {old}, or nothing in {CHANGES} is not released: {new}")
+def day_of(date: str) -> str:
+    """Returns a date as in Debian's changelog, or nothing for none."""
+    return datetime.date.fromisoformat(date).strftime("%a, %d %b %Y ") if date else ""
+
+
+def begin(old: str, new: str) -> None:
+    """Writes a later version in place of another, or before one that is released."""
+    if parts(new) <= parts(old):
+        sys.exit(f"version.py: not later than {old}: {new}")
     for (path, _), before, after in zip(LINES, lines(old), lines(new)):
         texts[path] = texts[path].replace(before, after)
-    texts[CHANGES] = PENDING.sub(f"{new} ({day})", texts[CHANGES], count=1)
-    texts[DEBIAN] = NEW.format(new, ENTRY.findall(texts[DEBIAN])[0][1], day) + texts[DEBIAN]
-    for path, text in texts.items():
-        (TOP / path).write_text(text, "utf-8")
-    print("now run: tools/generate c, tools/generate js")
+    heading = f"{new}, not released"
+    if HEADING.findall(texts[CHANGES])[0][1]:
+        heading += "\n\n\\g<0>"
+        texts[DEBIAN] = NEW.format(new, *ENTRY.findall(texts[DEBIAN])[0][1:]) + texts[DEBIAN]
+    else:
+        texts[DEBIAN] = texts[DEBIAN].replace(f"({old}-1)", f"({new}-1)", 1)
+    texts[CHANGES] = HEADING.sub(heading, texts[CHANGES], count=1)
+
+
+def release(version: str, date: str) -> None:
+    """Writes a date of release."""
+    texts[CHANGES] = HEADING.sub(f"{version} ({date})", texts[CHANGES], count=1)
+    time = ENTRY.findall(texts[DEBIAN])[0][2]
+    texts[DEBIAN] = texts[DEBIAN].replace(time, f"{day_of(date)}00:00:00 +0000", 1)
 
 
 def main() -> None:
@@ -89,12 +102,15 @@ def main() -> None:
     match sys.argv[1:]:
         case ["--check"]:
             sys.exit("\n".join(errors(version)) or 0)
-        case [new, *date] if not new.startswith("-") and len(date) < 2:
-            if error := "\n".join(errors(version)):
-                sys.exit(error)
-            write(version, new, datetime.date.fromisoformat(date[0]) if date else datetime.date.today())
+        case ["--release", *date] if len(date) < 2:
+            release(version, date[0] if date else str(datetime.date.today()))
+        case [new] if not new.startswith("-"):
+            begin(version, new)
         case _:
             sys.exit(__doc__)
+    for path, text in texts.items():
+        (TOP / path).write_text(text, "utf-8")
+    print("now run: tools/generate all")
 
 
 if __name__ == "__main__":

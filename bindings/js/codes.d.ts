@@ -1,4 +1,4 @@
-// Names of hash functions in the multicodec table. Made by tools/generate names.
+// Names of hash functions in the multicodec table. Made by tools/generate tables.
 
 /** The codes of the hash functions, by their names: those listed here, and BLAKE2 and Skein of other lengths. */
 export const CODES: Readonly<Record<string, number | undefined>> & {

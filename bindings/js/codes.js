@@ -1,4 +1,4 @@
-// Names of hash functions in the multicodec table. Made by tools/generate names.
+// Names of hash functions in the multicodec table. Made by tools/generate tables.
 
 const family = (name, first, count) =>
   Object.fromEntries(Array.from({ length: count }, (_, index) => [`${name}-${8 * (index + 1)}`, first + index]));

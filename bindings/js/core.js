@@ -2,18 +2,8 @@
 import { checkedLength, checkedWide, isBytes, shown, viewOf, wrongType } from './arguments.js';
 import { MultihashError, encodingError, forJSON, reasonOf, scaleReasonOf } from './errors.js';
 import * as library from './library.js';
+import { DIGEST_MAX, HEAD_MAX, LENGTH_MAX } from './limits.js';
 import { INCOMPLETE, STATUSES } from './statuses.js';
-
-/** The maximum length of a digest, in bytes. */
-export const DIGEST_MAX = 255;
-/** The maximum length of the two varints before a digest, in bytes. */
-export const HEAD_MAX = 18;
-/** The maximum length of an encoding, in bytes. */
-export const LENGTH_MAX = 266;
-/** The maximum length of a SCALE encoding, in bytes. */
-export const SCALE_LENGTH_MAX = 264;
-/** The version of the library. */
-export const version = '1.0.0';
 
 // The longest prefix of an input that a result depends on, except for the number of trailing bytes.
 const PREFIX_MAX = HEAD_MAX + DIGEST_MAX;

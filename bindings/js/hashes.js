@@ -1,7 +1,8 @@
 // Hash functions of node:crypto or WebCrypto, which make and verify multihashes.
 import { bufferOf, checkedLength, checkedOptions, isBytes, shown, viewOf, wrongType } from './arguments.js';
 import { CODES, NAMES } from './codes.js';
-import { DIGEST_MAX, Multihash, decode } from './core.js';
+import { Multihash, decode } from './core.js';
+import { DIGEST_MAX } from './limits.js';
 import { MultihashError } from './errors.js';
 import { sourceOf } from './sources.js';
 

@@ -2,17 +2,7 @@
 import type { STATUSES } from './statuses.js';
 
 export * from './hashes.js';
-
-/** The maximum length of a digest, in bytes. */
-export const DIGEST_MAX: 255;
-/** The maximum length of the two varints before a digest, in bytes. */
-export const HEAD_MAX: 18;
-/** The maximum length of an encoding, in bytes. */
-export const LENGTH_MAX: 266;
-/** The maximum length of a SCALE encoding, in bytes. */
-export const SCALE_LENGTH_MAX: 264;
-/** The version of the library: three numbers separated by dots. */
-export const version: string;
+export * from './limits.js';
 
 /**
  * A whole number of 64 bits. A result is a `number` up to `Number.MAX_SAFE_INTEGER`, and a `bigint` above. An argument

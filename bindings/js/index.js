@@ -1,8 +1,8 @@
 // What the package exports.
 export {
-  DIGEST_MAX, HEAD_MAX, LENGTH_MAX, SCALE_LENGTH_MAX, Multihash, compare, decode, encode, encodedLength, head, read,
-  readMany, scaleDecode, scaleEncode, version,
+  Multihash, compare, decode, encode, encodedLength, head, read, readMany, scaleDecode, scaleEncode,
 } from './core.js';
 export { MultihashError } from './errors.js';
 export * from './hashes.js';
+export * from './limits.js';
 export { MultihashReader } from './reader.js';

@@ -1,6 +1,7 @@
 // MultihashReader, which decodes the multihashes of a stream one after the other.
 import { checkedLength, checkedOptions, checkedWide } from './arguments.js';
-import { DIGEST_MAX, itemsAt, lengthOf, multihashOf, readAt } from './core.js';
+import { itemsAt, lengthOf, multihashOf, readAt } from './core.js';
+import { DIGEST_MAX } from './limits.js';
 import { sourceOf } from './sources.js';
 
 const NONE = new Uint32Array();

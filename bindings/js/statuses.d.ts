@@ -1,4 +1,4 @@
-// The statuses of multihash.h. Made by tools/generate statuses.
+// The statuses of multihash.h. Made by tools/generate tables.
 
 /** Their names, by their numbers. */
 export const STATUSES: readonly [

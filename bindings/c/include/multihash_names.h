@@ -1,8 +1,8 @@
 /* SPDX-License-Identifier: MIT
  * Copyright (c) 2026 The Gilmekhus developers
- * Made by tools/generate names. */
+ * Made by tools/generate tables. */
 
-/* multihash_names.h has the names of hash functions in the multicodec table. */
+/* The names of hash functions in the multicodec table. */
 #ifndef MULTIHASH_NAMES_H
 #define MULTIHASH_NAMES_H
 

@@ -126,7 +126,7 @@ async function unreadStreams({ Multihash, MultihashReader, hashers, sha256, veri
 
 /** The names and numbers that *.d.ts state, and what package.json does. */
 function declared(module) {
-  const texts = ['index.d.ts', 'hashes.d.ts', 'codes.d.ts'].map((file) => bytesOf(file).toString()).join('');
+  const texts = ['index.d.ts', 'hashes.d.ts', 'codes.d.ts', 'limits.d.ts'].map((file) => bytesOf(file).toString()).join('');
   const stated = [...texts.matchAll(/^export (?:const|class|function) (\w+)(?:: (\d+);)?/gm)];
   same(`${Object.keys(module).sort()}`, `${stated.map(([, name]) => name).sort()}`, 'the names that *.d.ts have');
   for (const [, name, value] of stated) if (value) same(module[name], Number(value), name);

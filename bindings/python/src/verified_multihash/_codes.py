@@ -1,4 +1,4 @@
-"""Names of hash functions in the multicodec table. Made by tools/generate names."""
+"""Names of hash functions in the multicodec table. Made by tools/generate tables."""
 
 from typing import Dict
 

@@ -1,4 +1,4 @@
-//! Codes of hash functions in the multicodec table, and their names. Made by tools/generate names.
+//! Codes of hash functions in the multicodec table, and their names. Made by tools/generate tables.
 //!
 //! # Examples
 //!

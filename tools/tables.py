@@ -1,0 +1,238 @@
+#!/usr/bin/env python3
+"""For `tools/generate tables`: writes the files of packages that have statuses, limits and the version of multihash.h,
+reasons of mh_show.c, and names of hash functions, of hashes.tsv and codes.tsv of crates/vectors/data.
+
+    tools/tables.py FOLDER      writes them below a folder, by their paths in the repository
+"""
+import re
+import sys
+import textwrap
+from collections.abc import Sequence
+from pathlib import Path
+
+TOP = Path(__file__).resolve().parents[1]
+DATA = TOP / "crates/vectors/data"
+HEADER, PROGRAM = (
+    (TOP / "bindings/c" / name).read_text("utf-8") for name in ("include/multihash.h", "examples/mh_show.c")
+)
+VERSION = re.findall(r'#define MULTIHASH_VERSION "(.*)"', HEADER)[0]
+# The name, the number and what it is the maximum of.
+LIMITS = re.findall(r"#define MULTIHASH_(\w+_MAX) (\d+) +/\* of (.*) \*/", HEADER)
+# The name, the number, the name in lower case, and the comment, whose lines begin with asterisks.
+STATUSES = [
+    (name, number, name.lower(), " ".join(comment.replace("\n     *", "").split()))
+    for comment, name, number in re.findall(r"/\*((?:(?!\*/).)*)\*/\s*MULTIHASH_(\w+) = (\d+)", HEADER, re.S)
+]
+INCOMPLETE = re.findall(r"status == MULTIHASH_(\w+)", HEADER)
+REASONS = re.findall(r'case MULTIHASH_(\w+):\s*return (".*");', PROGRAM)
+LISTS = [line.split("\t") for name in ("hashes.tsv", "codes.tsv") for line in (DATA / name).open(encoding="utf-8")]
+NAMES = {int(code, 16): name.strip() for code, name, *_ in LISTS if code != "code"}
+
+
+def rows(*lines: str, of: Sequence[tuple[str, ...]] = STATUSES) -> str:
+    """Returns the lines for each row, which has what their braces stand for."""
+    return "\n".join(line.format(*row) for row in of for line in lines)
+
+
+def names(one: str, family: str = "") -> str:
+    """Returns a line for each name by its code, and one for each family, whose digests have 8, 16, .. bits: the lists have
+    its first and its last name. Without a line for families these are names as others."""
+    stems = {name[:-2] for name in NAMES.values() if family and name.endswith("-8")}
+    lines: list[str] = []
+    for code, name in sorted(NAMES.items()):
+        stem, _, bits = name.rpartition("-")
+        if stem not in stems:
+            lines += [one.format(name=name, code=code, constant=name.upper().replace("-", "_"))] if one else []
+        elif bits == "8":
+            count = max(other for other in NAMES if NAMES[other].startswith(f"{stem}-")) - code + 1
+            numbers = textwrap.wrap(" ".join(str(8 * length) for length in range(1, count + 1)), 100)
+            bits = "".join(f"\n        {line}" for line in numbers)
+            lines += [family.format(name=stem, code=code, count=count, bits=bits)]
+    return "\n".join(lines)
+
+
+FILES = {
+    "js/limits.js": f"""// Limits and the version of multihash.h. Made by tools/generate tables.
+
+/** The version of the library. */
+export const version = '{VERSION}';
+{rows("/** The maximum length of {2}, in bytes. */", "export const {0} = {1};", of=LIMITS)}
+""",
+    "js/limits.d.ts": f"""// Limits and the version of multihash.h. Made by tools/generate tables.
+
+/** The version of the library: three numbers separated by dots. */
+export const version: string;
+{rows("/** The maximum length of {2}, in bytes. */", "export const {0}: {1};", of=LIMITS)}
+""",
+    "js/statuses.js": f"""// The statuses of multihash.h. Made by tools/generate tables.
+
+/** Their names, by their numbers. */
+export const STATUSES = [
+{rows("  '{2}',")}
+];
+
+/** Those of truncated input. */
+export const INCOMPLETE = {[name.lower() for name in INCOMPLETE]};
+""",
+    "js/statuses.d.ts": f"""// The statuses of multihash.h. Made by tools/generate tables.
+
+/** Their names, by their numbers. */
+export const STATUSES: readonly [
+{rows("  /* {3} */", "  '{2}',")}
+];
+
+/** Those of truncated input. */
+export const INCOMPLETE: readonly string[];
+""",
+    "js/codes.js": f"""// Names of hash functions in the multicodec table. Made by tools/generate tables.
+
+const family = (name, first, count) =>
+  Object.fromEntries(Array.from({{ length: count }}, (_, index) => [`${{name}}-${{8 * (index + 1)}}`, first + index]));
+
+/** The code of each hash function by its name. */
+export const CODES = Object.freeze({{
+  __proto__: null,
+{names("  '{name}': {code:#x},", "  ...family('{name}', {code:#x}, {count}),")}
+}});
+
+/** The name of each code. */
+export const NAMES = {{ __proto__: null }};
+for (const [name, code] of Object.entries(CODES)) NAMES[code] = name;
+Object.freeze(NAMES);
+""",
+    "js/codes.d.ts": f"""// Names of hash functions in the multicodec table. Made by tools/generate tables.
+
+/** The codes of the hash functions, by their names: those listed here, and BLAKE2 and Skein of other lengths. */
+export const CODES: Readonly<Record<string, number | undefined>> & {{
+{names("  readonly '{name}': {code:#x};")}
+}};
+/** The names of these functions, by their codes. */
+export const NAMES: Readonly<Record<number, string | undefined>>;
+""",
+    "python/src/verified_multihash/_status.py": f'''"""The statuses of multihash.h. Made by tools/generate tables."""
+
+import enum
+
+
+class Status(enum.IntEnum):
+    """Why a call failed, with the numbers of the C library. OK and NO_ROOM are not raised.
+
+{rows("    {0}: {3}")}
+    """
+
+    __module__ = "verified_multihash"  # where pickled values find it
+{rows("    {0} = {1}")}
+
+
+INCOMPLETE = ({", ".join("Status." + name for name in INCOMPLETE)})
+
+# What mh_show prints: the words of the Rust crate multihash.
+REASONS = {{
+{rows("    Status.{}: {},", of=REASONS)}
+}}
+''',
+    "python/src/verified_multihash/_codes.py": f'''"""Names of hash functions in the multicodec table. Made by tools/generate tables."""
+
+from typing import Dict
+
+
+def _family(name: str, first: int, count: int) -> Dict[str, int]:
+    """The codes of a function whose digests have 8, 16, .. bits."""
+    return {{"%s-%d" % (name, 8 * (index + 1)): first + index for index in range(count)}}
+
+
+CODES = {{
+{names('    "{name}": 0x{code:X},', '    **_family("{name}", 0x{code:X}, {count}),')}
+}}
+''',
+    "rust/verified-multihash/src/codes.rs": f"""//! Codes of hash functions in the multicodec table, and their names. Made by tools/generate tables.
+//!
+//! # Examples
+//!
+//! ```
+//! use verified_multihash::{{codes, Multihash}};
+//!
+//! let multihash = Multihash::<64>::wrap(codes::SHA2_256, &[0xab; 32])?;
+//! assert_eq!(codes::name(multihash.code()), Some("sha2-256"));
+//! assert_eq!(codes::code("blake2b-160"), Some(0xb214));
+//! # Ok::<(), verified_multihash::Error>(())
+//! ```
+
+/// Returns the name of a code, or `None` if no hash function has the code.
+pub fn name(code: u64) -> Option<&'static str> {{
+    names().find_map(|(first, names)| names.get(usize::try_from(code.checked_sub(*first)?).ok()?)).copied()
+}}
+
+/// Returns the code of a name, or `None` if no hash function has the name.
+pub fn code(name: &str) -> Option<u64> {{
+    names().find_map(|(first, names)| Some(first + names.iter().position(|other| *other == name)? as u64))
+}}
+
+/// The names of a code and of the next ones.
+type Names = (u64, &'static [&'static str]);
+
+fn names() -> impl Iterator<Item = &'static Names> {{
+    NAMES.iter().chain(FAMILIES)
+}}
+
+macro_rules! codes {{
+    ($($constant:ident $name:literal $code:literal)*) => {{
+        $(#[doc = concat!("The code of `", $name, "`.")] pub const $constant: u64 = $code;)*
+        const NAMES: &[Names] = &[$(($code, &[$name])),*];
+    }};
+}}
+
+macro_rules! families {{
+    ($($name:literal $first:literal: $($bits:literal)*;)*) => {{
+        const FAMILIES: &[Names] = &[$(($first, &[$(concat!($name, "-", $bits)),*])),*];
+    }};
+}}
+
+codes! {{
+{names('    {constant} "{name}" {code:#x}')}
+}}
+
+families! {{
+{names("", '    "{name}" {code:#x}:{bits};')}
+}}
+""",
+    "c/include/multihash_names.h": f"""/* SPDX-License-Identifier: MIT
+ * Copyright (c) 2026 The Gilmekhus developers
+ * Made by tools/generate tables. */
+
+/* The names of hash functions in the multicodec table. */
+#ifndef MULTIHASH_NAMES_H
+#define MULTIHASH_NAMES_H
+
+#include "multihash.h"
+
+#ifdef __cplusplus
+extern "C" {{
+#endif
+
+/* Returns the name of the hash function of a code, a static string such as "sha2-256". Returns a null pointer for other
+ * codes, such as those of BLAKE2 and Skein whose digests have a length that is not listed here. */
+static inline const char *multihash_name(uint64_t code)
+{{
+    switch (code) {{
+{names('    case {code:#x}: return "{name}";')}
+    default: return NULL;
+    }}
+}}
+
+#ifdef __cplusplus
+}}
+#endif
+
+#endif
+""",
+}
+
+
+if __name__ == "__main__":
+    if len(sys.argv) != 2:
+        sys.exit(__doc__)
+    for path, text in FILES.items():
+        made = Path(sys.argv[1], "bindings", path)
+        made.parent.mkdir(parents=True, exist_ok=True)
+        made.write_text(text, "utf-8")
