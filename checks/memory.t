@@ -1,5 +1,5 @@
 #!/usr/bin/env python3
-"""Makes each allocation fail in turn, in crates/tests and mh_show, as memory.rs and test_memory.py do in packages.
+"""Makes each allocation fail in turn, in mh_show and the tests of Rattle, as memory.rs and test_memory.py do in packages.
 
 It runs each by itself while its Nth allocation fails, N counted upwards until it makes fewer. A test in which one
 failed, and that found all as it should be, fails with FAILED; mh_show has to print that it is out of memory, and
@@ -36,6 +36,7 @@ TESTS = {
     # 3 for 4, 8 and 16 items, 1, again 3 for items that are counted; 1, 2 and 1 for the forms
     "allocating_examples": 11,
     "calls_over_slices_need_no_memory": 0,
+    "an_odd_line_needs_no_memory": 0,
 }
 # inputs of mh_show, the last of which cannot be read, how many allocations it makes, and what it prints then
 SHOWN = {"example": (8, "code 22"), "0041": (5, "mh_show: Invalid"), "0": (4, "mh_show: not hex")}
@@ -82,12 +83,13 @@ def others(tests: Iterable[str]) -> str:
 
 def results(work: Path) -> Iterator[tap.Result]:
     counted = Counted(work)
-    program = tap.program("tests", "test")
-    listed = subprocess.run([program, "--list"], stdout=subprocess.PIPE, text=True).stdout
-    tests = {path.rpartition("::")[2]: path for path in re.findall(r"(?m)^(\S+): test$", listed)}
+    tests: dict[str, list[str]] = {}
+    for program in (tap.program(crate, "test") for crate in ("tests", "mh_show")):
+        listed = subprocess.run([program, "--list"], stdout=subprocess.PIPE, text=True).stdout
+        tests |= {path.rpartition("::")[2]: [program, path] for path in re.findall(r"(?m)^(\S+): test$", listed)}
     yield "the tests are those listed", others(tests)
     for name, number in TESTS.items():
-        yield name, counted.error_of([program, tests.get(name, "")], number, *FORMS)
+        yield name, counted.error_of(tests[name], number, *FORMS)
     show = tap.program("mh_show")
     for text, (number, printed) in SHOWN.items():
         stdin = {"example": tap.CRATES / "mh_show/stdin", "a folder": Path("/")}.get(text, work / "input")

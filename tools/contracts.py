@@ -25,8 +25,8 @@ This page shows the public items of the crates [theorems](#theorems), [multihash
 clauses. `tools/generate contracts` writes it, and CI compares it with the sources: a difference here is a changed
 promise. [What contracts see](../crates/multihash/CALLING.md#what-contracts-see) says how to read a clause.
 
-The functions of `laws.rt` and `pins.rt` have empty bodies. Their clauses state laws of the definitions, and what
-callers can know about the library's own readers and writers.
+The functions of `laws.rt` and `pins.rt` have empty bodies, but for three of `multihash`, which return a constant. Their
+clauses state laws of the definitions, and what callers can know about the library's own readers and writers.
 """
 
 

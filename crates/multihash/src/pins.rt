@@ -1,5 +1,5 @@
 //! What callers can know of each implementation beyond the laws of its trait, as the contracts of
-//! functions that do nothing. If an implementation exposed less, its proof here would fail.
+//! functions that do nothing, or return a constant. If an implementation exposed less, its proof here would fail.
 ghost use Rattle.std.specs.Prelude.{◌≡◌, ◌↔◌, ℕ, List, [], Some, true, false};
 ghost use Rattle.multihash.specs.Multihash.{pair_of};
 ghost use Rattle.multihash.specs.Writing.{AdvancesPast, AppendsAtEnd};

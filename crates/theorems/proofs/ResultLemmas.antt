@@ -1,13 +1,13 @@
 -- What the library's definitions say of results and errors, in the words of `Results`.
 use Rattle.std.proofs.Common.{◌≡◌, ◌≢◌, ◌⊎◌, ◌<◌, ℕ, Bool, Some, Result, Ok, Err, refl, inl, inr, sym, ap, ◌∙◌, subst, IsTrue}
-use Rattle.multihash.specs.Fault.{OutOfMemory, WriteZero, IsOutOfMemoryFault}
+use Rattle.multihash.specs.Fault.{OutOfMemory, IsOutOfMemoryFault}
 use Rattle.multihash.specs.Multihash.{Fields}
 use Rattle.multihash.specs.Outcome.{IsResultOf}
 use Rattle.multihash.specs.Refusal.{Refusal, of_io, IsIo, IsOutOfMemory, IsReaderError}
 use Rattle.multihash.specs.Varint.{insufficient, overflow, not_minimal}
 use Rattle.multihash.specs.Verdict.{Verdict, accepted, invalid_size, invalid_code, malformed, unexpected_eof, IsIncomplete}
 use Rattle.multihash.specs.Writing.{IsWriterFaultOrFull}
-use Rattle.theorems.specs.Results.{verdict_of, IsOwnError}
+use Rattle.theorems.specs.Results.{verdict_of, IsOwnError, IsWriterError}
 
 -- a result is the verdict's
 pub verdict_stated : {S : ℕ} (r : Result (Fields S) Refusal) (v : Verdict) → IsResultOf r v → verdict_of r ≡ Some v
@@ -31,19 +31,15 @@ pub own_error : (e : Refusal) → IsReaderError e → IsOwnError e
 own_error e (error, is, inl (text, other)) = inr (text, is ∙ ap of_io other)
 own_error e (error, is, inr memory) = inl (is ∙ ap of_io memory)
 
--- an error of writing: out of memory, the writer's own, or it is full
-pub write_error : (allocates : Bool) (before after : ℕ) (full Other : Type 0) (e : Refusal)
-    → IsIo (IsWriterFaultOrFull allocates before after full) e
-    → (e ≡ of_io OutOfMemory) ⊎ ((before < after) × IsOwnError e)
-    ⊎ ((e ≡ of_io WriteZero) × (after ≡ before) × full) ⊎ Other
-write_error allocates before after full Other e (error, is, inr (zero, same, is_full)) =
-    inr (inr (inl (is ∙ ap of_io zero, same, is_full)))
-write_error allocates before after full Other e (error, is, inl fault) = caused fault.cause where
+-- an error of writing
+pub write_error : (allocates : Bool) (before after : ℕ) (is_full : Type 0) (e : Refusal)
+    → IsIo (IsWriterFaultOrFull allocates before after is_full) e → IsWriterError allocates before after is_full e
+write_error allocates before after is_full e (error, is, inr (zero, same, full)) = inr (inl (same, full, is ∙ ap of_io zero))
+write_error allocates before after is_full e (error, is, inl fault) = caused fault.cause where
   caused : (before < after) ⊎ (IsTrue allocates × IsOutOfMemoryFault error × (after ≡ before))
-      → (e ≡ of_io OutOfMemory) ⊎ ((before < after) × IsOwnError e)
-      ⊎ ((e ≡ of_io WriteZero) × (after ≡ before) × full) ⊎ Other
-  caused (inl rose) = inr (inl (rose, own_error e (error, is, fault.kind)))
-  caused (inr (allocating, memory, same)) = inl (is ∙ ap of_io memory)
+      → IsWriterError allocates before after is_full e
+  caused (inl rose) = inl (rose, own_error e (error, is, fault.kind))
+  caused (inr (allocating, memory, same)) = inr (inr (same, allocating, is ∙ ap of_io memory))
 
 -- a verdict that is neither of the two of a truncated input is not incomplete
 pub is_complete : (v : Verdict) → v ≢ malformed insufficient → v ≢ unexpected_eof → ¬ (IsIncomplete v)

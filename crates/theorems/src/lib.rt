@@ -1,6 +1,13 @@
-//! The main theorems, as the contracts of four functions. Each returns what it made, so a body that does
-//! not do the work fails its contract. No contract can state that an allocation succeeds: `list_through`
-//! may run out of memory.
+//! The main theorems, as the contracts of four functions. Each returns what it made, so a body of one of the
+//! first three that does not do the work fails its contract. No contract can state that an allocation
+//! succeeds: so `list_through` may return out of memory in place of reading the list back, and in place of
+//! writing it if the writer allocates. To any other writer it writes the whole list unless that one fails or
+//! is full.
+//!
+//! The clauses see a reader by the ghost members `rest` and `failures` of `Read`, and a writer by `appended`,
+//! `full`, `failures` and `allocates` of `Write`. `crates/multihash/src/no_std_io/traits.rt` says what they
+//! are, and states the laws of every reader and writer: `ReadLaws`, `ReadExactLaws`, `WriteLaws`,
+//! `WriteAllLaws`, `appends_nothing` and `appends_concatenated`.
 //!
 //! The clauses need these definitions, and words of Rattle's `std`. Each definition is made of those before it.
 //! They are in the modules of `crates/multihash/specs` that are named first, those of `Results` in
@@ -18,10 +25,10 @@
 //! - `Multihash`: `Fields`, `pair_of`
 //! - `Fault`: `Fault`
 //! - `Refusal`: `Refusal`
-//! - `Results`: `verdict_of`, `IsOwnError`
+//! - `Results`: `verdict_of`, `IsOwnError`, `IsWriterError`
 #![tactic(auto)]
 
-ghost use Rattle.std.specs.Prelude.{◌≡◌, ◌≢◌, ◌<◌, ◌⊎◌, ◌↔◌, ℕ, List, ◌++◌, map, All, Some, IfSome, IsOkAnd, IsErr, IsErrAnd, IsTrue, MatchResult};
+ghost use Rattle.std.specs.Prelude.{◌≡◌, ◌≢◌, ◌<◌, ◌⊎◌, ◌↔◌, ℕ, List, ◌++◌, map, All, Some, IfSome, IsOkAnd, IsErrAnd, IsTrue, MatchResult};
 ghost use Rattle.multihash.specs.Bytes.{ExactlyOne, IsPrefix, IsStrictPrefix};
 ghost use Rattle.multihash.specs.Varint.{insufficient};
 ghost use Rattle.multihash.specs.Pair.{Pair, FitsBuffer};
@@ -30,9 +37,9 @@ ghost use Rattle.multihash.specs.Verdict.{Verdict, malformed, unexpected_eof, Be
 ghost use Rattle.multihash.specs.Settling.{Settles, IsShortestSettling};
 ghost use Rattle.multihash.specs.Streams.{AreConcatenated};
 ghost use Rattle.multihash.specs.Multihash.{pair_of};
-ghost use Rattle.multihash.specs.Fault.{WriteZero, OutOfMemory};
+ghost use Rattle.multihash.specs.Fault.{OutOfMemory};
 ghost use Rattle.multihash.specs.Refusal.{of_io};
-ghost use Rattle.theorems.specs.Results.{verdict_of, IsOwnError};
+ghost use Rattle.theorems.specs.Results.{verdict_of, IsOwnError, IsWriterError};
 
 use multihash::no_std_io::{Read, Write};
 use multihash::{Error, Multihash, laws, list};
@@ -79,6 +86,11 @@ pub fn read_verdict<const S: usize, R: Read>(r: &mut R) -> Result<Multihash<S>, 
         ⊎ HasVerdict S rest (malformed insufficient) ⊎ HasVerdict S rest unexpected_eof →
         (consumed left : List ℕ) × (R.rest r.new ≡ Some left) × (rest ≡ consumed ++ left)
         × ((front : List ℕ) → IsPrefix front consumed → ¬ (Settles S front))) }
+
+    // If it is truncated, no prefix of it settles a verdict, whatever was consumed.
+    ensures truncated { IfSome (R.rest r.old) (λ rest. HasVerdict S rest (malformed insufficient)
+        ⊎ HasVerdict S rest unexpected_eof →
+        (front : List ℕ) → IsPrefix front rest → ¬ (Settles S front)) }
 {
     laws::one_verdict();
     laws::settles();
@@ -115,14 +127,17 @@ pub fn list_through<const S: usize, const T: usize, W: Write, R: Read>(
     w: &mut W,
     r: &mut R,
 ) -> Result<Vec<Multihash<T>>, Error>
-    // The encodings of the items were appended, in order, or, at an error, a strict prefix of them.
+    // The encodings of the items were appended, in order, or, at an error of the writer, a strict prefix of
+    // them.
     ensures written { (bytes : List ℕ) × AreConcatenated (map pair_of items.now) bytes
-        × (W.appended w.old bytes w.new ⊎ (IsErr result
+        × (W.appended w.old bytes w.new
+        ⊎ (IsErrAnd result
+        (IsWriterError W.allocates (W.failures w.old) (W.failures w.new) (W.full w.new))
         × ((part : List ℕ) × IsStrictPrefix part bytes × W.appended w.old part w.new))) }
 
     // If the reader's input is the encodings and then `more`, and the digests fit the new capacity, the same
-    // pairs are read in order, and `more` is left. Otherwise memory ran out, the writer failed, the writer
-    // was full, or the reader failed.
+    // pairs are read in order, and `more` is left. Otherwise the error is out of memory, one of the writer,
+    // or one of the reader itself.
     ensures back { (more : List ℕ) →
         ((bytes : List ℕ) → AreConcatenated (map pair_of items.now) bytes →
         R.rest r.old ≡ Some (bytes ++ more)) →
@@ -130,8 +145,7 @@ pub fn list_through<const S: usize, const T: usize, W: Write, R: Read>(
         MatchResult result (λ list. (map pair_of list.items ≡ map pair_of items.now)
         × (R.rest r.new ≡ Some more))
         (λ e. (e ≡ of_io OutOfMemory)
-        ⊎ ((W.failures w.old < W.failures w.new) × IsOwnError e)
-        ⊎ ((e ≡ of_io WriteZero) × (W.failures w.new ≡ W.failures w.old) × W.full w.new)
+        ⊎ IsWriterError W.allocates (W.failures w.old) (W.failures w.new) (W.full w.new) e
         ⊎ ((R.failures r.old < R.failures r.new) × IsOwnError e)) }
 {
     list::write_list(items, w)?;

@@ -25,6 +25,7 @@ fn main(rt: HostRuntime) -> Result<()> {
     values::print_default(&mut page);
     values::print_truncated(&mut page);
     values::print_tail(&mut page);
+    values::print_orders(&mut page);
     values::print_same_values(&mut page);
     json::print_values(&mut page);
     streams::print_lists(&mut page);

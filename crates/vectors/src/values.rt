@@ -116,6 +116,27 @@ pub fn print_tail(page: &mut Page) {
     );
 }
 
+fn print_order<const S: usize>(page: &mut Page)
+    requires { S < 2 ^ 16 }
+{
+    page.put("Order of values of capacity ");
+    page.put(S);
+    page.heading("");
+    rows!(page;
+        row "wrap(0, \"zzz\") against wrap(1, \"\")" => compared::<S>(value(0, "zzz"), value(1, ""));
+        row "wrap(0, \"b\") against wrap(0, \"aa\")" => compared::<S>(value(0, "b"), value(0, "aa"));
+        row "wrap(0, \"ab\") against wrap(0, \"ac\")" => compared::<S>(value(0, "ab"), value(0, "ac"));
+        row "wrap(0, \"ab\").truncate(1) against wrap(0, \"a\")"
+            => compared::<S>(value::<S>(0, "ab").truncate(1), value(0, "a"));
+        row "wrap(1, \"a\") against wrap(0, \"a\")" => compared::<S>(value(1, "a"), value(0, "a"));
+    );
+}
+
+pub fn print_orders(page: &mut Page) {
+    print_order::<4>(page);
+    print_order::<12>(page);
+}
+
 fn print_same(page: &mut Page, code: u64, digest: &str) {
     page.put("wrap::<4>(0, \"ab\").same_as(&wrap::<300>");
     page.put_pair(value::<300>(code, digest));

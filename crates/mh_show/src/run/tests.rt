@@ -3,6 +3,7 @@
 ghost use Rattle.std.specs.Prelude.{◌≡◌, ◌≤◌, IfOk};
 
 use super::run;
+use crate::show::{ShowError, show};
 use std::io;
 use std::io::{ErrorKind, Read, Write};
 use std::process::Abort;
@@ -232,4 +233,12 @@ fn a_write_that_is_interrupted_is_the_last(rt: HostRuntime) {
 fn a_write_of_zero_bytes_is_the_last(rt: HostRuntime) {
     expect_not_written(&rt, End::Nothing);
     expect_cut_line(&rt, End::Nothing);
+}
+
+// `memory.t` makes each allocation of this test fail: there is none.
+#[test]
+fn an_odd_line_needs_no_memory(rt: HostRuntime) {
+    for text in [b"0".as_slice(), b"0\n", b"016"] {
+        assert!(&rt; matches!(show(rt.alloc(), text), Err(ShowError::NotHex)));
+    }
 }

@@ -1,4 +1,4 @@
-use Rattle.std.proofs.Common.{◌≡◌, ◌≢◌, ◌↔◌, ◌⊎◌, ◌<◌, ◌++◌, ℕ, List, Option, Some, Result, Ok, Err, IfSome, IsErrAnd, IsOkAnd, inl, inr, sym, ◌∙◌, subst}
+use Rattle.std.proofs.Common.{◌≡◌, ◌≢◌, ◌↔◌, ◌⊎◌, ◌<◌, ◌++◌, ℕ, List, Option, Some, None, Result, Ok, Err, IfSome, IsErrAnd, IsOkAnd, inl, inr, sym, ◌∙◌, subst}
 use Rattle.std.proofs.lemmas.Option.{IfSome_then}
 use Rattle.multihash.specs.Bytes.{ExactlyOne, IsPrefix}
 use Rattle.multihash.specs.Varint.{insufficient}
@@ -52,6 +52,12 @@ one_taken S before after old new shortest settled = IfSome_then old settled
           (subst (λ front. Consumes (Some rest) front new) (one.only took.front took.shortest) took.consumes),
     ))
 
+-- the two verdicts of a truncated input are incomplete
+truncated_incomplete : (S : ℕ) (rest : List ℕ) → HasVerdict S rest (malformed insufficient) ⊎ HasVerdict S rest unexpected_eof
+    → (v : Verdict) × HasVerdict S rest v × IsIncomplete v
+truncated_incomplete S rest (inl short) = (malformed insufficient, short, tt)
+truncated_incomplete S rest (inr eof) = (unexpected_eof, eof, tt)
+
 -- nothing that was consumed settles
 none_settles : (S before after : ℕ) (old new : Option (List ℕ))
     → IfSome old (λ rest. (before < after) ⊎ ((v : Verdict) × HasVerdict S rest v × IsIncomplete v) →
@@ -66,8 +72,16 @@ none_settles S before after old new unsettled = IfSome_then old unsettled
       early : (rest : List ℕ) → (before < after) ⊎ HasVerdict S rest (malformed insufficient) ⊎ HasVerdict S rest unexpected_eof
           → (before < after) ⊎ ((v : Verdict) × HasVerdict S rest v × IsIncomplete v)
       early rest (inl failed) = inl failed
-      early rest (inr (inl short)) = inr (malformed insufficient, short, tt)
-      early rest (inr (inr eof)) = inr (unexpected_eof, eof, tt)
+      early rest (inr truncated) = inr (truncated_incomplete S rest truncated)
+
+-- no prefix of a truncated input settles
+truncated_unsettled : (S : ℕ) (old : Option (List ℕ))
+    → ((S : ℕ) (input : List ℕ) (v : Verdict) → HasVerdict S input v → IsIncomplete v → (front : List ℕ) → IsPrefix front input → ¬ (Settles S front))
+    → IfSome old (λ rest. HasVerdict S rest (malformed insufficient) ⊎ HasVerdict S rest unexpected_eof →
+    (front : List ℕ) → IsPrefix front rest → ¬ (Settles S front))
+truncated_unsettled S None none = tt
+truncated_unsettled S (Some rest) none = λ truncated front prefix.
+    let v = truncated_incomplete S rest truncated in none S rest v.0 v.1 v.2 front prefix
 
 -- a pair is the result exactly if its encoding is at the front and it fits
 returns_pair : (S : ℕ) (input : List ℕ) (r : Result (Fields S) Refusal) (v : Verdict) → HasVerdict S input v → IsResultOf r v
@@ -95,4 +109,5 @@ returns g c = let read = c.read.ensures in record {
   canonical = pair_returned g.row.S _ _ _ c.read.result c.one_verdict.ensures.read_unique read.verdict;
   settled = one_taken g.row.S _ _ _ _ c.settles.ensures.one_shortest read.settled;
   unsettled = none_settles g.row.S _ _ _ _ read.unsettled;
+  truncated = truncated_unsettled g.row.S _ c.settles.ensures.none;
 }
