@@ -1,4 +1,4 @@
--- Reading and writing two parts: for `Both`, `Counted`, `OneOf`, `write_two`, `write_three`, and `storage`.
+-- Reading and writing two parts: for `Both`, `Counted`, `Choice`, `write_two`, `write_three`, and `storage`.
 use Rattle.std.proofs.Common.{ℕ, List, ◌++◌, Option, refl}
 use Rattle.multihash.specs.Consuming.{ConsumesSome}
 use Rattle.multihash.proofs.ReadingLemmas.{Consumes-concatenated}

@@ -10,16 +10,16 @@ use Rattle.frame.specs.declared.error.FrameError.TheVariants.{TooLong as FrameTo
 use Rattle.form.specs.ByteCount.{HasCounted}
 use Rattle.form.specs.Form.{Then, AreSame}
 use Rattle.form.specs.FormError.{IsFailed, IsTruncated, IsErrorOfFrame, form_error_text}
-use Rattle.form.specs.OneOf.{AreSameCase}
+use Rattle.form.specs.Case.{AreSameCase}
 use Rattle.form.specs.Rejecting.{IsShortest, ShowsMalformed, ShowsError, IsUndecided, StopsAt, ReadStops, IsReadError, IsWholeError}
 use Rattle.form.specs.Stream.{rest_from, AppendsValues, AppendsUpTo, AppendsThenStops}
 use Rattle.multihash.specs.Streams.{AreParts}
 use Rattle.form.specs.declared.byte_count.ByteCount.{ByteCount}
-use Rattle.form.specs.declared.case.Case.{Case}
-use Rattle.form.specs.declared.case.OtherCase.{OtherCase}
+use Rattle.form.specs.declared.case.Case.TheVariants.{This, Other}
+use Rattle.form.specs.declared.case.Others.{Others}
+use Rattle.form.specs.declared.case.Tagged.{Tagged}
 use Rattle.form.specs.declared.error.FormError.{FormError}
 use Rattle.form.specs.declared.error.FormError.TheVariants.{Failed, TooMany, TooLong, OtherTag, Trailing}
-use Rattle.form.specs.declared.one_of.OneOf.TheVariants.{First, Second}
 
 -- ---- parts
 
@@ -37,8 +37,9 @@ more_items same = same
 other_item : ¬ (AreSame (λ (m n : ℕ). m ≡ n) (1 ∷ 2 ∷ []) (1 ∷ 3 ∷ []))
 other_item same = omega (arith, same.1.0)
 
-other_case : (M N : ℕ) (x : Case ℕ M) (y : OtherCase ℕ M N) → ¬ (AreSameCase (λ (m n : ℕ). ⊤) (λ (m n : ℕ). ⊤) (First x) (Second y))
-other_case M N x y same = same
+other_case : (M : ℕ) {b : _} (x : Tagged ℕ M) (y : Others ℕ M b)
+    → ¬ (AreSameCase (λ (m n : ℕ). ⊤) (λ (m n : ℕ). ⊤) (This x) (Other y))
+other_case M x y same = same
 
 -- ---- errors
 

@@ -1,4 +1,5 @@
 pub mod BothLemmas
+pub mod CaseLemmas
 pub mod CountedLemmas
 pub mod FormLemmas
 mod FormVectors

@@ -1,4 +1,4 @@
--- The laws of two parts follow from those of each: for `Both`, `Counted` and `OneOf`.
+-- The laws of two parts follow from those of each: for `Both`, `Counted` and `Choice`.
 use Rattle.std.proofs.Common.{◌≡◌, ◌<◌, ℕ, List, ◌++◌, length, length-append, arith, refl, sym, ap, ◌∙◌, append_assoc}
 use Rattle.form.specs.Form.{Then}
 

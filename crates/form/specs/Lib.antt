@@ -1,8 +1,9 @@
 pub mod ByteCount
+pub mod Case
+pub mod CaseLaws
 pub mod Form
 pub mod FormError
 pub mod FormLaws
-pub mod OneOf
 pub mod PartLaws
 pub mod RejectLaws
 pub mod Rejecting

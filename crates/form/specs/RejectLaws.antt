@@ -17,12 +17,9 @@ use Rattle.multihash.proofs.CallingLemmas.{front_error_unique, encoding_no_error
 use Rattle.form.specs.Form.{Then}
 use Rattle.form.specs.FormLaws.{then_unique, then_some}
 use Rattle.form.specs.PartLaws.{number_unique, number_some}
-use Rattle.form.specs.OneOf.{IsOneOf}
-use Rattle.form.specs.Rejecting.{IsShortest, ShowsMalformed, ShowsError, RejectsNumber, RejectsMultihash, RejectsInTurn, RejectsNumberThen, RejectsItem, RejectsOtherTag, RejectsTooLong, RejectsCounted, RejectsCase}
+use Rattle.form.specs.Rejecting.{IsShortest, ShowsMalformed, ShowsError, RejectsNumber, RejectsMultihash, RejectsInTurn, RejectsNumberThen, RejectsItem, RejectsOtherTag, RejectsTooLong, RejectsCounted}
 use Rattle.form.specs.declared.error.FormError.{FormError}
 use Rattle.form.specs.declared.error.FormError.TheVariants.{Failed, TooMany, TooLong, OtherTag}
-use Rattle.form.specs.declared.one_of.OneOf.{OneOf}
-use Rattle.form.specs.declared.one_of.OneOf.TheVariants.{First, Second}
 
 -- ---- the shortest bytes that show an error
 
@@ -183,7 +180,7 @@ module _ {A E : Type 0} (IsPart : A → List ℕ → Type 0) (Rejects : E → Li
 -- ---- the parts
 
 -- one error at the same place
-here_unique : (g e f : FormError) (a b r s : List ℕ) → e ≡ g → f ≡ g → a ≡ [] → b ≡ [] → a ++ r ≡ b ++ s → (e ≡ f) × (r ≡ s)
+pub here_unique : (g e f : FormError) (a b r s : List ℕ) → e ≡ g → f ≡ g → a ≡ [] → b ≡ [] → a ++ r ≡ b ++ s → (e ≡ f) × (r ≡ s)
 here_unique g e f a b r s is also none empty cut =
     (is ∙ sym also, sym (ap (λ (l : List ℕ). l ++ r) none) ∙ cut ∙ ap (λ (l : List ℕ). l ++ s) empty)
 
@@ -230,40 +227,3 @@ module _ {A : Type 0} (IsPart : A → List ℕ → Type 0) (Rejects : FormError 
       next n a b r s (inl x) (inr y) cut = absurd (omega (arith, x.0, y.0))
       next n a b r s (inr x) (inl y) cut = absurd (omega (arith, x.0, y.0))
       next n a b r s (inr x) (inr y) cut = items_rejects_unique IsPart Rejects Same unique not_both n e f (one e f) a b r s x.1 y.1 cut
-
-module _ {A B : Type 0} {M N : ℕ} (IsA : A → List ℕ → Type 0) (IsB : B → List ℕ → Type 0) (RejectsA RejectsB : FormError → List ℕ → Type 0) where
-  pub one_of_not_both : ((x : A) (e : FormError) (a b r s : List ℕ) → IsA x a → RejectsA e b → a ++ r ≡ b ++ s → ⊥)
-      → ((x : B) (e : FormError) (a b r s : List ℕ) → IsB x a → RejectsB e b → a ++ r ≡ b ++ s → ⊥)
-      → (x : OneOf A B M N) (e : FormError) (a b r s : List ℕ) → IsOneOf IsA IsB x a → RejectsNumberThen (RejectsCase RejectsA RejectsB M N) e b
-      → a ++ r ≡ b ++ s → ⊥
-  one_of_not_both one two (First x) e = from_not_both (RejectsCase RejectsA RejectsB M N) (IsA x.value) M e next
-    where
-      next : (a b r s : List ℕ) → IsA x.value a → RejectsCase RejectsA RejectsB M N M e b → a ++ r ≡ b ++ s → ⊥
-      next a b r s is (inl other) cut = other.0 refl
-      next a b r s is (inr (inl first)) cut = one x.value e a b r s is first.1 cut
-      next a b r s is (inr (inr second)) cut = second.0 refl
-  one_of_not_both one two (Second x) e = from_not_both (RejectsCase RejectsA RejectsB M N) (IsB x.value) N e next
-    where
-      next : (a b r s : List ℕ) → IsB x.value a → RejectsCase RejectsA RejectsB M N N e b → a ++ r ≡ b ++ s → ⊥
-      next a b r s is (inl other) cut = other.1 refl
-      next a b r s is (inr (inl first)) cut = x.other (sym first.0)
-      next a b r s is (inr (inr second)) cut = two x.value e a b r s is second.2 cut
-
-pub one_of_rejects_unique : (M N : ℕ) (RejectsA RejectsB : FormError → List ℕ → Type 0)
-    → ((e f : FormError) (a b r s : List ℕ) → RejectsA e a → RejectsA f b → a ++ r ≡ b ++ s → (e ≡ f) × (r ≡ s))
-    → ((e f : FormError) (a b r s : List ℕ) → RejectsB e a → RejectsB f b → a ++ r ≡ b ++ s → (e ≡ f) × (r ≡ s))
-    → (e f : FormError) (a b r s : List ℕ) → RejectsNumberThen (RejectsCase RejectsA RejectsB M N) e a
-    → RejectsNumberThen (RejectsCase RejectsA RejectsB M N) f b → a ++ r ≡ b ++ s → (e ≡ f) × (r ≡ s)
-one_of_rejects_unique M N RejectsA RejectsB one two e f = from_unique (RejectsCase RejectsA RejectsB M N) e f next
-  where
-    next : (n : ℕ) (a b r s : List ℕ) → RejectsCase RejectsA RejectsB M N n e a → RejectsCase RejectsA RejectsB M N n f b → a ++ r ≡ b ++ s
-        → (e ≡ f) × (r ≡ s)
-    next n a b r s (inl x) (inl y) cut = here_unique (OtherTag n) e f a b r s x.2 y.2 x.3 y.3 cut
-    next n a b r s (inl x) (inr (inl y)) cut = absurd (x.0 y.0)
-    next n a b r s (inl x) (inr (inr y)) cut = absurd (x.1 y.1)
-    next n a b r s (inr (inl x)) (inl y) cut = absurd (y.0 x.0)
-    next n a b r s (inr (inl x)) (inr (inl y)) cut = one e f a b r s x.1 y.1 cut
-    next n a b r s (inr (inl x)) (inr (inr y)) cut = absurd (y.0 x.0)
-    next n a b r s (inr (inr x)) (inl y) cut = absurd (y.1 x.1)
-    next n a b r s (inr (inr x)) (inr (inl y)) cut = absurd (x.0 y.0)
-    next n a b r s (inr (inr x)) (inr (inr y)) cut = two e f a b r s x.2 y.2 cut

@@ -75,11 +75,18 @@ abbrev pub RejectsCounted : {A : Type 0} → (A → List ℕ → Type 0) → (Fo
 RejectsCounted IsPart Rejects MAX n e rest =
     ((MAX < n) × (e ≡ TooMany n) × (rest ≡ [])) ⊎ ((n ≤ MAX) × RejectsItem IsPart Rejects n e rest)
 
--- a number that is neither tag, which itself shows the error; otherwise what follows the tag
-abbrev pub RejectsCase : (First Second : FormError → List ℕ → Type 0) → (M N n : ℕ) → FormError → List ℕ
-    → Type 0
-RejectsCase First Second M N n e rest = ((n ≢ M) × (n ≢ N) × (e ≡ OtherTag n) × (rest ≡ []))
-    ⊎ ((n ≡ M) × First e rest) ⊎ ((n ≢ M) × (n ≡ N) × Second e rest)
+-- the value has the tag n, and the bytes follow it
+abbrev pub IsCase : {A : Type 0} → (A → ℕ) → (A → List ℕ → Type 0) → ℕ → A → List ℕ → Type 0
+IsCase tag_of IsValue n x bytes = (tag_of x ≡ n) × IsValue x bytes
+
+-- what follows the tag M, or, after another tag, one of the other cases
+abbrev pub RejectsCase : (FormError → List ℕ → Type 0) → (ℕ → FormError → List ℕ → Type 0) → (M n : ℕ)
+    → FormError → List ℕ → Type 0
+RejectsCase Rejects RejectsOther M n e rest = ((n ≡ M) × Rejects e rest) ⊎ ((n ≢ M) × RejectsOther n e rest)
+
+-- a number that is the tag of no case, which itself shows the error
+abbrev pub RejectsNoCase : ℕ → FormError → List ℕ → Type 0
+RejectsNoCase n e rest = (e ≡ OtherTag n) × (rest ≡ [])
 
 -- ---- what reading consumed
 

@@ -1,20 +1,136 @@
-//! The two variants of [`OneOf`](crate::OneOf), each with its tag in its type.
+//! Cases of a choice: a tag and what follows it, and other cases.
 ghost use Rattle.std.specs.Prelude.{◌≢◌, ◌<◌};
 ghost use Rattle.multihash.specs.Varint.{varint_limit};
 
-/// The first case of [`OneOf`](crate::OneOf), with the tag `M`.
+use crate::cases::Cases;
+use crate::{Form, FormError, Number};
+use multihash::no_std_io::{Read, Write};
+use std::alloc::Global;
+
+/// An `A` with the tag `M`, or one of the other cases `C`.
 #[derive(Debug, Drop)]
-pub struct Case<A, const M: u64> {
+pub enum Case<A, const M: u64, C: Cases> {
+    /// The tag `M`, and an `A`.
+    This(Tagged<A, M>),
+    /// Another tag, and its value.
+    Other(Others<C, M>),
+}
+
+/// What follows the tag `M`, which is below 2^63.
+#[derive(Debug, Drop)]
+pub struct Tagged<A, const M: u64> {
     /// What follows the tag.
     pub value: A,
     pub ghost in_range: { M < varint_limit },
 }
 
-/// The second case of [`OneOf`](crate::OneOf), with the tag `N`, which is not the tag `M` of the first one.
+/// One of the cases `C`, whose tag is not `M`.
 #[derive(Debug, Drop)]
-pub struct OtherCase<B, const M: u64, const N: u64> {
-    /// What follows the tag.
-    pub value: B,
-    pub ghost in_range: { N < varint_limit },
-    pub ghost other: { M ≢ N },
+pub struct Others<C: Cases, const M: u64> {
+    /// The case.
+    pub case: C,
+    pub ghost other: { C.tag_of case ≢ M },
+}
+
+/// No case, of which there is no value: what comes after the last case.
+#[derive(Debug, Drop)]
+pub enum NoCase {}
+
+impl<A: Form, const M: u64, C: Cases> Cases for Case<A, M, C> {
+    ghost use Rattle.std.specs.Prelude.{◌≡◌, ◌⊎◌};
+    ghost use Rattle.form.specs.Rejecting.{RejectsCase};
+    ghost use Rattle.form.specs.Case.{case_tag, IsCaseValue, AreSameCase};
+    ghost use Rattle.form.specs.CaseLaws.{case_in_range, case_same_tag, case_exists, case_unique, case_not_both, case_rejects_unique, case_one};
+
+    ghost tag_of = { case_tag C.tag_of };
+
+    ghost is_value = { IsCaseValue A.is_form C.is_value };
+
+    ghost same = { AreSameCase A.same C.same };
+
+    ghost rejects_with = { λ n e. ((n ≡ M) × A.rejects_with e) ⊎ ((n ≢ M) × C.rejects_with n e) };
+
+    ghost rejects = { RejectsCase A.rejects C.rejects M };
+
+    fn tag(&self) -> Number {
+        match self {
+            Case::This(_) => Number { value: M },
+            Case::Other(others) => others.case.tag(),
+        }
+    }
+
+    fn write_value<W: Write>(&self, w: &mut W) -> Result<(), FormError> {
+        match self {
+            Case::This(tagged) => tagged.value.write(w),
+            Case::Other(others) => others.case.write_value(w),
+        }
+    }
+
+    fn read_value<R: Read>(alloc: Global, r: &mut R, tag: Number) -> Result<Self, FormError> {
+        if tag.value == M {
+            let value = A::read(alloc, r)?;
+            return Ok(Case::This(Tagged { value }));
+        }
+        let case = C::read_value(alloc, r, tag)?;
+        Ok(Case::Other(Others { case }))
+    }
+
+    ghost in_range = { case_in_range C.tag_of C.in_range };
+
+    ghost same_tag = { case_same_tag C.tag_of A.same C.same C.same_tag };
+
+    ghost exists = { case_exists A.is_form C.is_value A.exists C.exists };
+
+    ghost unique = { case_unique A.is_form C.is_value C.tag_of (λ y. y.other) A.same C.same A.unique C.unique };
+
+    ghost not_both = { case_not_both A.is_form C.is_value C.tag_of (λ y. y.other) A.rejects C.rejects
+        A.not_both C.not_both };
+
+    ghost rejects_unique = { case_rejects_unique M A.rejects C.rejects A.rejects_unique C.rejects_unique };
+
+    ghost one = { case_one A.is_form C.is_value A.same C.same A.one C.one };
+}
+
+impl Cases for NoCase {
+    ghost use Rattle.std.specs.Prelude.{◌≡◌};
+    ghost use Rattle.form.specs.declared.error.FormError.TheVariants.{OtherTag};
+    ghost use Rattle.form.specs.Rejecting.{RejectsNoCase};
+    ghost use Rattle.form.specs.Case.{no_case};
+    ghost use Rattle.form.specs.CaseLaws.{no_case_rejects_unique};
+
+    ghost tag_of = { no_case };
+
+    ghost is_value = { λ _ _. ⊥ };
+
+    ghost same = { λ _ _. ⊥ };
+
+    ghost rejects_with = { λ n e. e ≡ OtherTag n };
+
+    ghost rejects = { RejectsNoCase };
+
+    fn tag(&self) -> Number {
+        match *self {}
+    }
+
+    fn write_value<W: Write>(&self, _w: &mut W) -> Result<(), FormError> {
+        match *self {}
+    }
+
+    fn read_value<R: Read>(_alloc: Global, _r: &mut R, tag: Number) -> Result<Self, FormError> {
+        Err(FormError::OtherTag(tag.value))
+    }
+
+    ghost in_range = { λ x. no_case x };
+
+    ghost same_tag = { λ x. no_case x };
+
+    ghost exists = { λ x. no_case x };
+
+    ghost unique = { λ x. no_case x };
+
+    ghost not_both = { λ x. no_case x };
+
+    ghost rejects_unique = { no_case_rejects_unique };
+
+    ghost one = { λ x. no_case x };
 }

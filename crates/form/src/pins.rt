@@ -10,12 +10,14 @@ ghost use Rattle.multihash.specs.Refusal.{IsAnyVarintError, IsEof, IsOutOfMemory
 ghost use Rattle.frame.specs.Frame.{IsFramed};
 ghost use Rattle.form.specs.Form.{Then, AreSame};
 ghost use Rattle.form.specs.FormError.{IsFailed};
-ghost use Rattle.form.specs.Rejecting.{RejectsNumber, RejectsMultihash, RejectsInTurn, RejectsNumberThen, RejectsOtherTag, RejectsTooLong, RejectsCounted, RejectsCase};
+ghost use Rattle.form.specs.Rejecting.{RejectsNumber, RejectsMultihash, RejectsInTurn, RejectsNumberThen, RejectsOtherTag, RejectsTooLong, RejectsCounted, RejectsCase, RejectsNoCase};
 ghost use Rattle.form.specs.declared.error.FormError.TheVariants.{TooMany, TooLong, OtherTag};
-ghost use Rattle.form.specs.declared.one_of.OneOf.TheVariants.{First, Second};
+ghost use Rattle.form.specs.declared.case.Case.TheVariants.{This, Other};
 
-use crate::case::{Case, OtherCase};
-use crate::{Block, Both, Bytes, Counted, Form, FormError, Number, OneOf, Tag};
+use crate::{
+    Block, Both, Bytes, Case, Cases, Choice, Counted, Form, FormError, NoCase, Number, Others, Tag,
+    Tagged,
+};
 use multihash::Multihash;
 
 fn multihashes<const S: usize>(x: &Multihash<S>, y: &Multihash<S>, e: &FormError)
@@ -82,23 +84,36 @@ fn pairs<A: Form + Drop, B: Form>(x: &Both<A, B>, y: &Both<A, B>, e: &FormError)
         ↔ RejectsInTurn A.is_form A.rejects (λ _. B.rejects) e.now bytes }
 {}
 
-fn choices<A: Form + Drop, B: Form + Drop, const M: u64, const N: u64>(
-    x: &Case<A, M>,
-    y: &OtherCase<B, M, N>,
-    e: &FormError,
-)
-    ensures first { (bytes : List ℕ) → ⟦<OneOf<A, B, M, N> as Form>⟧.is_form (First x.now) bytes
-        ↔ Then (IsVarint M) (A.is_form x.now.value) bytes }
-    ensures second { (bytes : List ℕ) → ⟦<OneOf<A, B, M, N> as Form>⟧.is_form (Second y.now) bytes
-        ↔ Then (IsVarint N) (B.is_form y.now.value) bytes }
-    ensures same_first { ⟦<OneOf<A, B, M, N> as Form>⟧.same (First x.now) (First x.now)
+fn choices<C: Cases>(x: &Choice<C>, y: &Choice<C>, e: &FormError)
+    ensures is_form { (bytes : List ℕ) → ⟦<Choice<C> as Form>⟧.is_form x.now bytes
+        ↔ Then (IsVarint (C.tag_of x.now.case)) (C.is_value x.now.case) bytes }
+    ensures same { ⟦<Choice<C> as Form>⟧.same x.now y.now ↔ C.same x.now.case y.now.case }
+    ensures rejects_with { ⟦<Choice<C> as Form>⟧.rejects_with e.now →
+        IsFailed IsAnyVarintError e.now ⊎ ((n : ℕ) × C.rejects_with n e.now) }
+    ensures rejects { (bytes : List ℕ) →
+        ⟦<Choice<C> as Form>⟧.rejects e.now bytes ↔ RejectsNumberThen C.rejects e.now bytes }
+{}
+
+fn cases<A: Form, const M: u64, C: Cases>(x: &Tagged<A, M>, y: &Others<C, M>, e: &FormError)
+    ensures this_tag { ⟦<Case<A, M, C> as Cases>⟧.tag_of (This x.now) ≡ M }
+    ensures other_tag { ⟦<Case<A, M, C> as Cases>⟧.tag_of (Other y.now) ≡ C.tag_of y.now.case }
+    ensures this { (bytes : List ℕ) → ⟦<Case<A, M, C> as Cases>⟧.is_value (This x.now) bytes
+        ↔ A.is_form x.now.value bytes }
+    ensures other { (bytes : List ℕ) → ⟦<Case<A, M, C> as Cases>⟧.is_value (Other y.now) bytes
+        ↔ C.is_value y.now.case bytes }
+    ensures same_this { ⟦<Case<A, M, C> as Cases>⟧.same (This x.now) (This x.now)
         ↔ A.same x.now.value x.now.value }
-    ensures same_second { ⟦<OneOf<A, B, M, N> as Form>⟧.same (Second y.now) (Second y.now)
-        ↔ B.same y.now.value y.now.value }
-    ensures not_same { ¬ (⟦<OneOf<A, B, M, N> as Form>⟧.same (First x.now) (Second y.now)) }
-    ensures rejects_with { ⟦<OneOf<A, B, M, N> as Form>⟧.rejects_with e.now →
-        A.rejects_with e.now ⊎ B.rejects_with e.now ⊎ IsFailed IsAnyVarintError e.now
-        ⊎ ((n : ℕ) × (e.now ≡ OtherTag n) × (n ≢ M) × (n ≢ N)) }
-    ensures rejects { (bytes : List ℕ) → ⟦<OneOf<A, B, M, N> as Form>⟧.rejects e.now bytes
-        ↔ RejectsNumberThen (RejectsCase A.rejects B.rejects M N) e.now bytes }
+    ensures same_other { ⟦<Case<A, M, C> as Cases>⟧.same (Other y.now) (Other y.now)
+        ↔ C.same y.now.case y.now.case }
+    ensures not_same { ¬ (⟦<Case<A, M, C> as Cases>⟧.same (This x.now) (Other y.now)) }
+    ensures rejects_with { (n : ℕ) → ⟦<Case<A, M, C> as Cases>⟧.rejects_with n e.now →
+        ((n ≡ M) × A.rejects_with e.now) ⊎ ((n ≢ M) × C.rejects_with n e.now) }
+    ensures rejects { (n : ℕ) (bytes : List ℕ) → ⟦<Case<A, M, C> as Cases>⟧.rejects n e.now bytes
+        ↔ RejectsCase A.rejects C.rejects M n e.now bytes }
+{}
+
+fn no_cases(e: &FormError)
+    ensures rejects_with { (n : ℕ) → ⟦<NoCase as Cases>⟧.rejects_with n e.now → e.now ≡ OtherTag n }
+    ensures rejects { (n : ℕ) (bytes : List ℕ) →
+        ⟦<NoCase as Cases>⟧.rejects n e.now bytes ↔ RejectsNoCase n e.now bytes }
 {}

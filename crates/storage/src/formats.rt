@@ -11,14 +11,18 @@ ghost use Rattle.form.specs.Stream.{rest_from, AppendsUpTo, AppendsSame};
 ghost use Rattle.form.specs.declared.error.FormError.TheVariants.{Trailing};
 ghost use Rattle.storage.specs.Formats.{IsNode};
 
-use form::{Block, Both, Bytes, Counted, Form, FormError, Number, OneOf, Stream, Tag};
+use form::{
+    Block, Both, Bytes, Case, Choice, Counted, Form, FormError, NoCase, Number, Stream, Tag,
+};
 use multihash::Multihash;
 use multihash::no_std_io::{Read, Write};
 use std::alloc::Global;
 
 /// A content identifier: of version 1 with a codec and a multihash, or of version 0, a bare multihash of
 /// SHA2-256. So the first number is the version 1 or the code 0x12, which the length 32 and the digest follow.
-pub type Identifier = OneOf<Both<Number, Multihash<64>>, Both<Tag<32>, Bytes<32>>, 1, 0x12>;
+pub type Identifier = Choice<
+    Case<Both<Number, Multihash<64>>, 1, Case<Both<Tag<32>, Bytes<32>>, 0x12, NoCase>>,
+>;
 
 /// An entry of a log: its number, the multihash of its block, and the block.
 pub type LogEntry = Both<Number, Both<Multihash<64>, Block<1_000_000>>>;

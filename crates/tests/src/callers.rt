@@ -5,7 +5,7 @@ use crate::expect::{check, check_eq, expect_ok};
 use examples::loops;
 use examples::std_reader::StdReader;
 use fakes::{Cuts, FailAt};
-use form::{FormError, OneOf, Stream, all_from_bytes};
+use form::{Case, FormError, Stream, all_from_bytes};
 use multihash::Multihash;
 use multihash::no_std_io::Read;
 use std::alloc::Global;
@@ -110,9 +110,12 @@ fn a_known_content_is_verified(rt: HostRuntime) {
 // Its digest comes after that many bytes.
 fn expect_identifier(rt: &impl Abort, alloc: Global, bytes: &[u8], at: usize) {
     let id = expect_ok!(rt; formats::read_identifier(alloc, bytes));
-    let digest = match &id {
-        OneOf::First(case) => case.value.second.digest(),
-        OneOf::Second(case) => case.value.second.bytes.as_slice(),
+    let digest = match &id.case {
+        Case::This(tagged) => tagged.value.second.digest(),
+        Case::Other(others) => match &others.case {
+            Case::This(tagged) => tagged.value.second.bytes.as_slice(),
+            Case::Other(others) => match others.case {},
+        },
     };
     check_eq!(rt; digest, bytes.get(at..).unwrap_or(&[]));
     check_eq!(rt; expect_ok!(rt; form::to_bytes(alloc, &id)).as_slice(), bytes);

@@ -1,0 +1,65 @@
+//! One of any number of formats, which the tag at the start of the encoding determines.
+use crate::cases::Cases;
+use crate::{Form, FormError, Number};
+use multihash::no_std_io::{Read, Write};
+use multihash::varint;
+use std::alloc::Global;
+
+/// One of the cases of `C`, such as `Case<Bytes<4>, 4, Case<Bytes<2>, 6, NoCase>>`. The encoding is the varint of its
+/// tag, and the encoding of its value.
+///
+/// `read` returns the errors of [`varint::read`], [`FormError::OtherTag`] with the number that comes next if that is
+/// the tag of no case, and the errors of what follows.
+#[derive(Debug, Drop)]
+pub struct Choice<C> {
+    /// The case.
+    pub case: C,
+}
+
+impl<C: Cases> Form for Choice<C> {
+    ghost use Rattle.std.specs.Prelude.{◌⊎◌, ℕ};
+    ghost use Rattle.multihash.specs.Varint.{IsVarint};
+    ghost use Rattle.multihash.specs.Refusal.{IsAnyVarintError};
+    ghost use Rattle.multihash.proofs.VarintLemmas.{varint_some};
+    ghost use Rattle.form.specs.Form.{Then};
+    ghost use Rattle.form.specs.FormError.{IsFailed};
+    ghost use Rattle.form.specs.Rejecting.{RejectsNumberThen};
+    ghost use Rattle.form.specs.FormLaws.{then_exists, then_some};
+    ghost use Rattle.form.specs.PartLaws.{number_exists};
+    ghost use Rattle.form.specs.RejectLaws.{from_not_both, from_unique, from_rejects_some};
+    ghost use Rattle.form.specs.CaseLaws.{choice_unique, choice_one};
+
+    ghost is_form = { λ x. Then (IsVarint (C.tag_of x.case)) (C.is_value x.case) };
+
+    ghost same = { λ x y. C.same x.case y.case };
+
+    ghost rejects_with = { λ e. IsFailed IsAnyVarintError e ⊎ ((n : ℕ) × C.rejects_with n e) };
+
+    ghost rejects = { RejectsNumberThen C.rejects };
+
+    fn write<W: Write>(&self, w: &mut W) -> Result<(), FormError> {
+        self.case.tag().write(w)?;
+        self.case.write_value(w)
+    }
+
+    fn read<R: Read>(alloc: Global, r: &mut R) -> Result<Self, FormError> {
+        let tag = varint::read(r)?;
+        let case = C::read_value(alloc, r, Number { value: tag })?;
+        Ok(Choice { case })
+    }
+
+    ghost exists = { λ x. then_exists (number_exists (C.tag_of x.case) (C.in_range x.case)) (C.exists x.case) };
+
+    ghost unique = { λ x y. choice_unique C.tag_of C.is_value C.same C.unique x.case y.case };
+
+    ghost not_both = { λ x e. from_not_both C.rejects (C.is_value x.case) (C.tag_of x.case) e
+        (C.not_both x.case e) };
+
+    ghost rejects_unique = { λ e f. from_unique C.rejects e f (λ n. C.rejects_unique n e f) };
+
+    ghost rejects_some = { from_rejects_some C.rejects };
+
+    ghost one = { λ x y. choice_one C.tag_of C.is_value C.same C.same_tag C.one x.case y.case };
+
+    ghost some = { λ x. then_some (varint_some (C.tag_of x.case)) };
+}
