@@ -1,6 +1,6 @@
 #!/usr/bin/env python3
 """For `tools/generate tables`: writes the files of packages that have statuses, limits and the version of multihash.h,
-reasons of mh_show.c, and names of hash functions, of hashes.tsv and codes.tsv of crates/vectors/data.
+and names of hash functions, of hashes.tsv and codes.tsv of crates/vectors/data.
 
     tools/tables.py FOLDER      writes them below a folder, by their paths in the repository
 """
@@ -12,19 +12,17 @@ from pathlib import Path
 
 TOP = Path(__file__).resolve().parents[1]
 DATA = TOP / "crates/vectors/data"
-HEADER, PROGRAM = (
-    (TOP / "bindings/c" / name).read_text("utf-8") for name in ("include/multihash.h", "examples/mh_show.c")
-)
+HEADER = (TOP / "bindings/c/include/multihash.h").read_text("utf-8")
 VERSION = re.findall(r'#define MULTIHASH_VERSION "(.*)"', HEADER)[0]
 # The name, the number and what it is the maximum of.
 LIMITS = re.findall(r"#define MULTIHASH_(\w+_MAX) (\d+) +/\* of (.*) \*/", HEADER)
-# The name, the number, the name in lower case, and the comment, whose lines begin with asterisks.
+TEXTS = dict(re.findall(r'case MULTIHASH_(\w+):\s*return (".*");', HEADER))
+# The name, the number, the name in lower case, the comment, whose lines begin with asterisks, and the text.
 STATUSES = [
-    (name, number, name.lower(), " ".join(comment.replace("\n     *", "").split()))
+    (name, number, name.lower(), " ".join(comment.replace("\n     *", "").split()), TEXTS[name])
     for comment, name, number in re.findall(r"/\*((?:(?!\*/).)*)\*/\s*MULTIHASH_(\w+) = (\d+)", HEADER, re.S)
 ]
 INCOMPLETE = re.findall(r"status == MULTIHASH_(\w+)", HEADER)
-REASONS = re.findall(r'case MULTIHASH_(\w+):\s*return (".*");', PROGRAM)
 LISTS = [line.split("\t") for name in ("hashes.tsv", "codes.tsv") for line in (DATA / name).open(encoding="utf-8")]
 NAMES = {int(code, 16): name.strip() for code, name, *_ in LISTS if code != "code"}
 
@@ -126,9 +124,9 @@ class Status(enum.IntEnum):
 
 INCOMPLETE = ({", ".join("Status." + name for name in INCOMPLETE)})
 
-# What mh_show prints: the words of the Rust crate multihash.
-REASONS = {{
-{rows("    Status.{}: {},", of=REASONS)}
+# What multihash_status_text returns.
+TEXTS = {{
+{rows("    Status.{0}: {4},")}
 }}
 ''',
     "python/src/verified_multihash/_codes.py": f'''"""Names of hash functions in the multicodec table. Made by tools/generate tables."""

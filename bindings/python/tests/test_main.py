@@ -1,10 +1,12 @@
-"""The command: that it prints what mh_show prints but its own name, and ends with its status."""
+"""The command: that it prints what mh_show prints and ends with its status, with the package's own reasons."""
 
 import re
 import subprocess
 import sys
 import unittest
 from pathlib import Path
+
+from verified_multihash import MultihashError, decode, read
 
 HEX = "1620644bcc7e564373040999aac89e7622f3ca71fba1d972fd94a31c3bfbf24e3938"
 SHOWN = "code 22\nsize 32\ndigest %s\n" % HEX[4:]
@@ -27,6 +29,17 @@ def error_of(reason):
     return "python -m verified_multihash: %s\n" % reason if reason else ""
 
 
+def own_reason(text, reason):
+    """The reason that the package has for a text, in place of that of mh_show."""
+    if reason in ("", "not hexadecimal", "input not read"):
+        return reason
+    data = bytes.fromhex(text)
+    try:
+        return read(data, 64), decode(data)
+    except MultihashError as error:
+        return str(error)
+
+
 def run(*words, **given):
     """The status, and what was printed to both outputs."""
     given = {"input": "", "stdout": subprocess.PIPE, "stderr": subprocess.PIPE, "errors": "surrogateescape", **given}
@@ -39,14 +52,15 @@ class Main(unittest.TestCase):
     def test_rows(self):
         for text, output, reason, status in rows():
             with self.subTest(text=text[:80]):
-                self.assertEqual(run(input=text), (int(status), output, error_of(reason)))
+                self.assertEqual(run(input=text), (int(status), output, error_of(own_reason(text, reason))))
 
     def test_argument(self):
         for text in (HEX, HEX.upper(), HEX + "\n"):
             self.assertEqual(run(text, input="zz"), (0, SHOWN, ""))
         for text, _, reason, _ in rows():
             if text in ("", "0041", "zz"):
-                self.assertEqual(run(text, input=HEX), (1, "", error_of(reason)))
+                self.assertEqual(run(text, input=HEX), (1, "", error_of(own_reason(text, reason))))
+        self.assertEqual(run("1205"), (1, "", error_of("the input ends before the digest (0 of 5 bytes)")))
         for words, text in (("\udcff",), HEX), ((), "\udcff"):  # a byte that is no UTF-8
             self.assertEqual(run(*words, input=text), (1, "", error_of("not hexadecimal")))
 

@@ -3,16 +3,15 @@
     python -m verified_multihash [HEX]
 
 reads HEX, or else standard input to its end: an encoding in hexadecimal, with a digest of at most 64 bytes. It prints
-the code, the digest's length and the digest. If that fails it prints the reason to standard error, with status 1.
-With -h or --help it prints this.
+the code, the digest's length and the digest. If that fails it prints the reason to standard error, in the words of
+this package, with status 1. With -h or --help it prints this.
 """
 
 import os
 import re
 import sys
 
-from . import MultihashError, Status, _core, read
-from ._status import REASONS
+from . import decode, read
 
 MOST_INPUT = 65536
 
@@ -33,9 +32,8 @@ def _shown(text: bytes) -> bytes:
     if not re.fullmatch(b"([0-9A-Fa-f]{2})*\n?", text):
         raise ValueError("not hexadecimal")
     data = bytes.fromhex(text.decode())
-    multihash, taken = read(data, limit=64)
-    if taken < len(data):
-        raise MultihashError(Status.INVALID_SIZE, len(data) - taken)
+    read(data, limit=64)
+    multihash = decode(data)
     lines = "code %d\nsize %d\ndigest %s\n"
     return (lines % (multihash.code, len(multihash.digest), multihash.hexdigest() or "-")).encode()
 
@@ -60,10 +58,6 @@ def main() -> int:
         return 0
     except OSError:
         pass
-    except MultihashError as error:
-        reason = REASONS.get(error.status, _core.status_text(error.status))
-        if error.status is Status.INVALID_SIZE:
-            reason = "Invalid multihash size %d." % error.size
     except ValueError as error:
         reason = str(error)
     try:

@@ -29,10 +29,14 @@ class Status(enum.IntEnum):
 
 INCOMPLETE = (Status.INSUFFICIENT, Status.UNEXPECTED_EOF)
 
-# What mh_show prints: the words of the Rust crate multihash.
-REASONS = {
-    Status.INSUFFICIENT: "not enough input bytes",
-    Status.OVERFLOW: "input bytes exceed maximum",
-    Status.NOT_MINIMAL: "encoding is not minimal",
-    Status.UNEXPECTED_EOF: "failed to fill whole buffer",
+# What multihash_status_text returns.
+TEXTS = {
+    Status.OK: "ok",
+    Status.INSUFFICIENT: "the input ends before or inside a varint",
+    Status.OVERFLOW: "a varint has more than nine bytes",
+    Status.NOT_MINIMAL: "a varint is not minimal: it ends in a zero byte",
+    Status.INVALID_SIZE: "the digest or the input is too long",
+    Status.INVALID_CODE: "the code is 2^63 or more",
+    Status.UNEXPECTED_EOF: "the input ends before the end of the digest",
+    Status.NO_ROOM: "the buffer is too small",
 }
