@@ -94,19 +94,22 @@ under_sanitizers() {
 }
 
 # A folder that was installed before is installed as it is now, also if a file is older than its build. Without PKG-INFO
-# it is that of a clone, and takes the library for C from the folders above it.
+# it is that of a clone: it takes the library for C from the folders above it, and nothing is written there.
 built_before() {
   local folder=$work/above/folder/sdist
   cp -r --parents LICENSE bindings/c crates/{mh_show/rows.tsv,vectors/data} "$work/above"
-  sed -i 's/"ok"/"Later."/' "$work/above/bindings/c/src/multihash.c"
+  sed -i 's/the input is empty/Later./' "$work/above/bindings/c/include/multihash_message.h"
   echo 'later = "Later."' >> "$folder/src/verified_multihash/__init__.py"
   sed -i 's/The library for C/Later/' "$folder/src/core.c"
   touch -d @315532800 "$folder"/src/{core.c,verified_multihash/__init__.py}
   imports "$folder"
-  "$python" -c 'from verified_multihash import _core, later; assert _core.__doc__ == later != _core.status_text(0)'
+  "$python" -c 'from verified_multihash import _core, later; assert _core.__doc__ == later'
+  rejects "the input is empty" "$python" -m verified_multihash ""
   rm "$folder/PKG-INFO"
+  find "$work/above" | sort > "$work/before"
   imports "$folder"
-  "$python" -c 'from verified_multihash import _core, later; assert _core.status_text(0) == later'
+  find "$work/above" | sort | diff "$work/before" -
+  rejects Later. "$python" -m verified_multihash ""
 }
 
 # The package is typed, and the module has the names of its stub. mypy accepts typed.py and the examples of README.md,

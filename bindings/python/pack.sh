@@ -42,10 +42,7 @@ wheel() (
   cp "$work/$machine"/*.whl "$out"
 )
 
-mkdir "$work/repository"
-tar -c --exclude='*.egg-info' -C "$here/../.." LICENSE bindings/python bindings/c/{include,src} \
-  crates/mh_show/rows.tsv crates/vectors/data | tar -x -C "$work/repository"
-build -s -o "$work" "$work/repository/bindings/python"
+build -s -o "$work" "$here"
 name=verified_multihash-$(sed -n 's/^__version__ = "\(.*\)"$/\1/p' "$here/src/verified_multihash/__init__.py")
 mkdir "$work/$name"
 tar xf "$work"/*.tar.gz -C "$work/$name" --strip-components=1

@@ -1,12 +1,15 @@
 """Builds the extension module with the library for C, from source.
 
-The folder of the repository takes what it needs of other folders, and an sdist has it.
+An sdist has all that it needs. The folder of the repository is built in a copy, which gets the rest from other folders,
+so nothing is written into a clone. An editable installation is built in the folder itself.
 """
 
 import os
 import re
 import shutil
+import sys
 import sysconfig
+import tempfile
 
 from setuptools import Extension, setup
 
@@ -22,31 +25,39 @@ COPIES = {
     "tests/values.tsv": "crates/vectors/data/values.tsv",
     "tests/verdicts.tsv": "crates/vectors/data/verdicts.tsv",
 }
+here = os.getcwd()
+copy = tempfile.TemporaryDirectory()
 if not os.path.exists("PKG-INFO"):
+    if "editable_wheel" not in sys.argv:
+        ignored = shutil.ignore_patterns("*.egg-info", "*.so", "build")
+        shutil.copytree(here, copy.name, ignore=ignored, dirs_exist_ok=True)
+        os.chdir(copy.name)
     os.makedirs("multihash_c", exist_ok=True)
     for name, path in COPIES.items():
-        shutil.copyfile("../../" + path, name)
+        shutil.copyfile(os.path.join(here, "../..", path), name)
 
 with open("pyproject.toml") as file:
     [minor] = map(int, re.findall(r'requires-python = ">=3\.(\d+)"', file.read()))
 system = sysconfig.get_platform().partition("-")[0]
+is_stable = sys.implementation.name == "cpython"  # others have no stable ABI
 
 core = Extension(
     "verified_multihash._core",
     ["src/arguments.c", "src/core.c", "src/reader.c", "src/value.c", "multihash_c/multihash.c"],
     include_dirs=["multihash_c"],
-    define_macros=[("Py_LIMITED_API", "0x03%02x0000" % minor)],
+    define_macros=[("Py_LIMITED_API", "0x03%02x0000" % minor)] if is_stable else [],
     extra_compile_args=["/std:c11"] if system.startswith("win") else ["-std=c11", "-fvisibility=hidden"],
     extra_link_args=["-Wl,-z,now"] if system == "linux" else [],
-    py_limited_api=True,
+    py_limited_api=is_stable,
 )
 # The files of an earlier build may be as new as those here, or newer.
 setup(
     license="MIT",
     ext_modules=[core],
     options={
-        "bdist_wheel": {"py_limited_api": "cp3%d" % minor},
+        "bdist_wheel": {"py_limited_api": "cp3%d" % minor} if is_stable else {},
         "build_ext": {"force": True},
         "build_py": {"force": True},
     },
 )
+os.chdir(here)
