@@ -18,6 +18,7 @@ HERE = Path(__file__).resolve().parent
 DATA = next(path for path in (HERE / "../../../crates/vectors/data", HERE) if path.exists())
 # code, name and digest of abc
 ROWS = [line.split("\t") for line in (DATA / "hashes.tsv").read_text("ascii").splitlines()[1:]]
+UNSUPPORTED = hashes.UnsupportedHashError
 # functions that some builds of hashlib lack, by the names that they have there
 OPTIONAL = {
     "keccak-256": "keccak_256", "md4": "md4", "md5": "md5", "ripemd-160": "ripemd160", "sm3-256": "sm3",
@@ -32,7 +33,7 @@ class Hashes(unittest.TestCase):
         for code, name, text in ROWS:
             try:
                 found = hashes.digest(b"abc", name)
-            except ValueError:
+            except UNSUPPORTED:
                 self.assertRaises(ValueError, hashlib.new, OPTIONAL[name])
                 continue
             self.assertEqual((found.code, found.hexdigest()), (int(code, 16), text))
@@ -54,7 +55,30 @@ class Hashes(unittest.TestCase):
     def test_other_names(self):
         for name in {*hashes.CODES} - {name for _, name, _ in ROWS}:
             if not name.startswith("blake2"):
-                self.assertRaisesRegex(ValueError, name, hashes.digest, b"abc", name)
+                for key in (name, hashes.CODES[name]):
+                    self.assertRaisesRegex(UNSUPPORTED, name, hashes.digest, b"abc", key)
+
+    def test_own_functions(self):
+        """Functions of a caller, for codes that hashlib has not, that have no name, and in place of its own."""
+        with self.assertRaises(UNSUPPORTED) as raised:
+            hashes.verify(Multihash(0x1E, bytes(32)), b"abc")
+        self.assertNotIsInstance(raised.exception, MultihashError)
+        functions = {code: hashlib.sha1 for code in (0x1E, 0x300000, 0x12, 0x56, 0x18)}
+        right = hashes.digest(b"abc", "sha1").digest
+        for code in functions:
+            found = hashes.digest(b"abc", code, functions)
+            self.assertEqual(found, Multihash(code, right))
+            self.assertEqual(hashes.digest_file(io.BytesIO(b"abc"), code, functions=functions), found)
+            self.assertIs(hashes.verify(found, b"abc", functions), True)
+            self.assertIs(hashes.verify(bytes(found), b"abd", functions=functions), False)
+            self.assertIs(hashes.verify_file(found, io.BytesIO(b"abc"), functions), True)
+        self.assertEqual(hashes.Hasher("blake3", functions).multihash().digest, hashlib.sha1().digest())
+        self.assertEqual(hashes.digest(b"abc", "sha1", functions), hashes.digest(b"abc", 0x11))
+        for given in (None, {}, {0x11: hashlib.sha256}):
+            self.assertRaises(UNSUPPORTED, hashes.digest, b"abc", 0x300000, given)
+            self.assertRaises(UNSUPPORTED, hashes.verify, Multihash(0x300000, b""), b"abc", given)
+        long = Mock(**{"return_value.digest.return_value": bytes(256)})
+        self.assertRaises(MultihashError, hashes.digest, b"abc", 0x1E, {0x1E: long})
 
     def test_parts(self):
         """Data in parts, or read from a file in parts, have the multihash of the whole."""
@@ -78,9 +102,16 @@ class Hashes(unittest.TestCase):
                 self.assertIs(hashes.verify_file(claimed, io.BytesIO(whole[:-1])), False)
         self.assertIs(hashes.verify_file(Multihash(0, b"abc"), io.BytesIO(data)), False)
         self.assertRaises(MultihashError, hashes.digest_file, io.BytesIO(data), "identity")
-        for error, turn in ((BlockingIOError, None), (TypeError, 3), (RuntimeError, StopIteration), (OSError, OSError)):
+        wrong = [(TypeError, it) for it in (3, 0, "", [])]
+        for error, turn in ((BlockingIOError, None), (RuntimeError, StopIteration), (OSError, OSError), *wrong):
             file = Mock(read=Mock(side_effect=[b"ab", turn]))
             self.assertRaises(error, hashes.verify_file, hashes.digest(b"ab", "sha1"), file)
+
+    def test_false_parts(self):
+        """A buffer that is false, as an array of one zero is in numpy, does not end a file."""
+        part = type("Part", (bytearray,), {"__bool__": lambda _: False})(b"a")
+        file = Mock(read=Mock(side_effect=[part, b"bc", b""]))
+        self.assertEqual(hashes.digest_file(file, "sha1"), hashes.digest(b"abc", "sha1"))
 
     def test_constant(self):
         for names in (hashes.CODES, hashes.NAMES):
@@ -103,10 +134,10 @@ class Hashes(unittest.TestCase):
 
     def test_errors(self):
         for code in (1, 0xB200, 0xB241 + 32):
-            self.assertRaisesRegex(ValueError, "code %#x" % code, hashes.verify, Multihash(code, b""), b"")
+            self.assertRaisesRegex(UNSUPPORTED, "code %#x" % code, hashes.verify, Multihash(code, b""), b"")
         for name in ("sha256", "sha2_256", "", "blake2b-512 "):
             self.assertRaises(ValueError, hashes.digest, b"abc", name)
-        for wrong in (None, 0x12, ("sha1", "md5"), bytearray()):
+        for wrong in (None, 18.0, ("sha1", "md5"), bytearray()):
             self.assertRaises(TypeError, hashes.digest, b"abc", wrong)
         hasher = hashes.Hasher("identity")
         hasher.update(bytes(255))

@@ -1,12 +1,18 @@
-"""Names of codes, and multihashes of data, computed by hashlib. Nothing here is proved."""
+"""Names of codes, and multihashes of data, computed by hashlib or by your own functions. Nothing here is proved.
+
+Where a call has the parameter `functions`, it maps codes to functions that hashlib lacks, or that are used in place of
+its own. Each takes no arguments and returns an object with the methods `update(data)` and `digest()`, as the functions
+of hashlib do: `functions={0x1E: blake3.blake3}`.
+"""
 
 from __future__ import annotations
 
 import functools
 import hashlib
 import hmac
+from operator import methodcaller
 from types import MappingProxyType
-from typing import TYPE_CHECKING, Any, Callable, Iterable, Iterator, Mapping, Union
+from typing import TYPE_CHECKING, Any, Callable, Iterable, Iterator, Mapping, Optional, Protocol, Union
 
 from . import DIGEST_MAX, Multihash, MultihashError, Status, _codes, _Readable, decode
 
@@ -15,7 +21,7 @@ if TYPE_CHECKING:
 else:
     from . import Buffer
 
-__all__ = ["CODES", "NAMES", "Hasher", "digest", "digest_file", "verify", "verify_file"]
+__all__ = ["CODES", "NAMES", "Hasher", "UnsupportedHashError", "digest", "digest_file", "verify", "verify_file"]
 
 
 # The hash functions of the multicodec table: the code of each name, and the name of each code.
@@ -23,7 +29,30 @@ CODES: Mapping[str, int] = MappingProxyType(_codes.CODES)
 NAMES: Mapping[int, str] = MappingProxyType({code: name for name, code in CODES.items()})
 
 _IN_HASHLIB = {"dbl-sha2-256": "sha256", "ripemd-160": "ripemd160", "sm3-256": "sm3"}
-_SHAKE_LENGTHS = {"shake-128": 32, "shake-256": 64}
+# How the digest is made, where it is not by `digest()`.
+_DIGESTS: Mapping[str, Callable[[Any], bytes]] = {
+    "shake-128": methodcaller("digest", 32),
+    "shake-256": methodcaller("digest", 64),
+    "dbl-sha2-256": lambda made: hashlib.sha256(made.digest()).digest(),
+}
+
+
+class UnsupportedHashError(ValueError):
+    """There is no function for a code: the name of the code is not known, or this build of hashlib lacks the function.
+
+    So data can be neither hashed nor verified, which says nothing about them.
+    """
+
+
+class _Hash(Protocol):
+    def update(self, data: bytes, /) -> object:
+        """Appends data."""
+
+    def digest(self) -> bytes:
+        """Returns the digest of all data so far."""
+
+
+_Functions = Mapping[int, Callable[[], _Hash]]
 
 
 class _Identity:
@@ -64,10 +93,11 @@ def _bytes_like(data: Buffer, name: str = "data", hints: Mapping[str, str] = _HI
 
 
 @functools.lru_cache(maxsize=None)
-def _maker(name: str) -> Callable[[], Any]:
-    """Returns what makes an object of hashlib, or raises ValueError."""
-    if name not in CODES:
-        raise ValueError("name must be in hashes.CODES, such as 'sha2-256', not %.60r" % name)
+def _maker(code: int) -> Callable[[], Any]:
+    """Returns what makes an object of hashlib."""
+    if code not in NAMES:
+        raise UnsupportedHashError("no hash function is known for the code %#x" % code)
+    name = NAMES[code]
     kind, _, bits = name.partition("-")
     if kind == "identity":
         return _Identity
@@ -77,23 +107,28 @@ def _maker(name: str) -> Callable[[], Any]:
     try:
         make()
     except ValueError:
-        raise ValueError("hashlib does not have %s here" % name) from None
+        raise UnsupportedHashError("hashlib does not have %s here, whose code is %#x" % (name, code)) from None
     return make
 
 
 class Hasher:
-    """Makes the multihash of data that is passed in parts, by the function of a name.
+    """Makes the multihash of data that is passed in parts, by the function of a name or a code.
 
-    Raises ValueError if the name is not in CODES, or if this build of hashlib does not have the function.
+    Raises UnsupportedHashError if neither `functions` nor this build of hashlib has the function. Raises ValueError if
+    the name is not in CODES.
     """
 
-    __slots__ = ("_name", "_hash")
+    __slots__ = ("_code", "_hash", "_digest")
 
-    def __init__(self, name: str) -> None:
-        if not isinstance(name, str):
-            raise TypeError("name must be a str such as 'sha2-256', not %s" % type(name).__name__)
-        self._name = name
-        self._hash = _maker(name)()
+    def __init__(self, name: Union[str, int], functions: Optional[_Functions] = None) -> None:
+        if not isinstance(name, (str, int)):
+            raise TypeError("name must be a str such as 'sha2-256', or a code, not %s" % type(name).__name__)
+        if isinstance(name, str) and name not in CODES:
+            raise ValueError("name must be in hashes.CODES, such as 'sha2-256', not %.60r" % name)
+        self._code = CODES[name] if isinstance(name, str) else name
+        own = functions and functions.get(self._code)
+        self._hash: Any = own() if own else _maker(self._code)()
+        self._digest = _DIGESTS.get("" if own else NAMES[self._code], methodcaller("digest"))
 
     def update(self, data: Buffer) -> None:
         """Appends data. Raises MultihashError if "identity" gets more than DIGEST_MAX bytes."""
@@ -101,11 +136,7 @@ class Hasher:
 
     def multihash(self) -> Multihash:
         """Returns the multihash of all data so far."""
-        length = _SHAKE_LENGTHS.get(self._name)
-        found = self._hash.digest(length) if length else self._hash.digest()
-        if self._name == "dbl-sha2-256":
-            found = hashlib.sha256(found).digest()
-        return Multihash(CODES[self._name], found)
+        return Multihash(self._code, self._digest(self._hash))
 
 
 def _parts(file: _Readable) -> Iterator[Buffer]:
@@ -122,36 +153,34 @@ def _parts(file: _Readable) -> Iterator[Buffer]:
         yield part
 
 
-def _digest(parts: Iterable[Buffer], name: str) -> Multihash:
-    hasher = Hasher(name)
+def _digest(parts: Iterable[Buffer], name: Union[str, int], functions: Optional[_Functions]) -> Multihash:
+    hasher = Hasher(name, functions)
     for part in parts:
         hasher.update(part)
     return hasher.multihash()
 
 
-def digest(data: Buffer, name: str) -> Multihash:
-    """Returns the multihash of data, hashed with the named function.
+def digest(data: Buffer, name: Union[str, int], functions: Optional[_Functions] = None) -> Multihash:
+    """Returns the multihash of data, hashed with the function of a name or a code.
 
-    Raises ValueError if the name is not in CODES, or if this build of hashlib does not have the function. Raises
-    MultihashError for "identity" and more than DIGEST_MAX bytes.
+    Raises UnsupportedHashError if neither `functions` nor this build of hashlib has the function. Raises ValueError if
+    the name is not in CODES, and MultihashError for "identity" and more than DIGEST_MAX bytes.
     """
-    return _digest([data], name)
+    return _digest([data], name, functions)
 
 
-def digest_file(file: _Readable, name: str) -> Multihash:
+def digest_file(file: _Readable, name: Union[str, int], functions: Optional[_Functions] = None) -> Multihash:
     """Returns the multihash of the bytes of a binary file up to its end, as `digest` does, with 256 KiB in memory."""
-    return _digest(_parts(file), name)
+    return _digest(_parts(file), name, functions)
 
 
-def _verify(multihash: Union[Multihash, Buffer], parts: Iterable[Buffer]) -> bool:
+def _verify(multihash: Union[Multihash, Buffer], parts: Iterable[Buffer], functions: Optional[_Functions]) -> bool:
     try:
         claimed = multihash if isinstance(multihash, Multihash) else decode(multihash)
     except TypeError:
         expected = "multihash must be a Multihash or its encoding (Multihash.fromhex takes text), not %s"
         raise TypeError(expected % type(multihash).__name__) from None
-    if claimed.code not in NAMES:
-        raise ValueError("cannot verify: no hash function is known for the code %#x" % claimed.code)
-    hasher = Hasher(NAMES[claimed.code])
+    hasher = Hasher(claimed.code, functions)
     for part in parts:
         try:
             hasher.update(part)
@@ -160,15 +189,15 @@ def _verify(multihash: Union[Multihash, Buffer], parts: Iterable[Buffer]) -> boo
     return hmac.compare_digest(claimed.digest, hasher.multihash().digest)
 
 
-def verify(multihash: Union[Multihash, Buffer], data: Buffer) -> bool:
+def verify(multihash: Union[Multihash, Buffer], data: Buffer, functions: Optional[_Functions] = None) -> bool:
     """Returns whether data has this multihash: a Multihash or its encoding. Returns False for a truncated digest.
 
-    Raises ValueError if the code is not in NAMES, or if this build of hashlib does not have the function. The time
+    Raises UnsupportedHashError if neither `functions` nor this build of hashlib has a function for the code. The time
     that it takes to compare digests of equal lengths does not depend on their bytes.
     """
-    return _verify(multihash, [_bytes_like(data)])  # checked first: if the arguments are swapped, data is wrong
+    return _verify(multihash, [_bytes_like(data)], functions)  # first: if the arguments are swapped, data is wrong
 
 
-def verify_file(multihash: Union[Multihash, Buffer], file: _Readable) -> bool:
+def verify_file(multihash: Union[Multihash, Buffer], file: _Readable, functions: Optional[_Functions] = None) -> bool:
     """Returns whether the bytes of a binary file up to its end have this multihash, as `verify` does."""
-    return _verify(multihash, _parts(file))
+    return _verify(multihash, _parts(file), functions)
