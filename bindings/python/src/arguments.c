@@ -55,48 +55,29 @@ static void raise_negative(const char *name, PyObject *number)
     Py_XDECREF(shown);
 }
 
-/* The number of bytes of a memoryview, which is negative with an error set. */
-static Py_ssize_t length_of_view(PyObject *view)
+int get_buffer(PyObject *argument, const char *name, int flags, Py_buffer *view)
 {
-    PyObject *length = attribute_of(view, "nbytes");
-    Py_ssize_t number = length == NULL ? -1 : PyLong_AsSsize_t(length);
-    Py_XDECREF(length);
-    return number;
-}
-
-/* Copies at least `most` first bytes of a memoryview, or all of them. */
-static PyObject *front_of_view(PyObject *view, Py_ssize_t whole, Py_ssize_t most)
-{
-    if (whole <= most) return PyBytes_FromObject(view);
-    PyObject *front = PySequence_GetSlice(view, 0, most);
-    if (front == NULL && PyErr_ExceptionMatches(PyExc_TypeError)) { /* it has no dimensions */
-        PyErr_Clear();
-        return PyBytes_FromObject(view);
-    }
-    PyObject *copied = front == NULL ? NULL : PyBytes_FromObject(front);
-    Py_XDECREF(front);
-    return copied;
+    int found = PyObject_GetBuffer(argument, view, flags);
+    if (found < 0) rename_error(name, "a bytes-like object", argument); /* a number, a text or a list */
+    return found;
 }
 
 int get_input(PyObject *argument, const char *name, Py_ssize_t most, input *to)
 {
+    Py_buffer view;
     Py_ssize_t whole = -1;
     if (PyBytes_CheckExact(argument)) {
-        to->owner = argument;
-        Py_INCREF(argument);
-    } else if (Py_TYPE(argument) == &PyByteArray_Type) {
-        whole = PyByteArray_Size(argument);
-        to->owner = PyBytes_FromStringAndSize(PyByteArray_AsString(argument), whole < most ? whole : most);
-        if (to->owner == NULL) return -1;
+        Py_INCREF(to->owner = argument);
+    } else if (get_buffer(argument, name, PyBUF_FULL_RO, &view) < 0) {
+        return -1;
     } else {
-        PyObject *view = PyMemoryView_FromObject(argument); /* rejects numbers, texts and lists */
-        if (view == NULL) {
-            rename_error(name, "a bytes-like object", argument);
-            return -1;
+        int is_flat = PyBuffer_IsContiguous(&view, 'C');
+        whole = view.len;
+        to->owner = PyBytes_FromStringAndSize(is_flat ? view.buf : NULL, is_flat && whole > most ? most : whole);
+        if (to->owner != NULL && !is_flat && PyBuffer_ToContiguous(PyBytes_AsString(to->owner), &view, whole, 'C') < 0) {
+            Py_CLEAR(to->owner);
         }
-        whole = length_of_view(view);
-        to->owner = whole < 0 ? NULL : front_of_view(view, whole, most);
-        Py_DECREF(view);
+        PyBuffer_Release(&view);
         if (to->owner == NULL) return -1;
     }
     to->bytes = (const uint8_t *)PyBytes_AsString(to->owner);
@@ -105,17 +86,29 @@ int get_input(PyObject *argument, const char *name, Py_ssize_t most, input *to)
     return 0;
 }
 
-/* CPython's parser takes a seventh of the usual call. */
-int get_arguments(PyObject *arguments, PyObject *named, const char *format, char **names, PyObject **first,
-                  PyObject **second)
+/* CPython's parser, which takes longer, parses arguments with names and wrong ones. */
+int get_arguments(PyObject *const *given, Py_ssize_t count, PyObject *named, const char *format, char **names,
+                  PyObject **first, PyObject **second)
 {
-    Py_ssize_t most = second == NULL ? 1 : 2, least = format[1] == '|' ? 1 : most, count = PyTuple_Size(arguments);
-    if (named != NULL || count < least || count > most) {
-        return PyArg_ParseTupleAndKeywords(arguments, named, format, names, first, second);
+    Py_ssize_t most = second == NULL ? 1 : 2, least = format[1] == '|' ? 1 : most;
+    if (named == NULL && least <= count && count <= most) {
+        *first = given[0];
+        if (count == 2) *second = given[1];
+        return 1;
     }
-    *first = PyTuple_GetItem(arguments, 0);
-    if (count == 2) *second = PyTuple_GetItem(arguments, 1);
-    return 1;
+    PyObject *tuple = PyTuple_New(count), *others = PyDict_New();
+    int is_right = tuple != NULL && others != NULL;
+    for (Py_ssize_t at = 0; is_right && at < count; at++) {
+        Py_INCREF(given[at]);
+        PyTuple_SetItem(tuple, at, given[at]);
+    }
+    for (Py_ssize_t at = 0; is_right && named != NULL && at < PyTuple_Size(named); at++) {
+        is_right = PyDict_SetItem(others, PyTuple_GetItem(named, at), given[count + at]) == 0;
+    }
+    is_right = is_right && PyArg_ParseTupleAndKeywords(tuple, others, format, names, first, second);
+    Py_XDECREF(tuple);
+    Py_XDECREF(others);
+    return is_right;
 }
 
 int get_number(PyObject **argument, const char *name, uint64_t *number)
@@ -143,14 +136,10 @@ int get_size(PyObject **argument, const char *name, size_t *size)
     return 0;
 }
 
-int get_pair(PyObject *arguments, PyObject *named, const char *format, PyObject **code, uint64_t *number,
-             input *digest)
+int get_pair(PyObject **code, PyObject *bytes, uint64_t *number, input *digest)
 {
-    static char *names[] = {"code", "digest", NULL};
-    PyObject *argument;
-    if (!get_arguments(arguments, named, format, names, code, &argument)) return -1;
     if (get_number(code, "code", number) < 0) return -1;
-    if (get_input(argument, "digest", MULTIHASH_DIGEST_MAX, digest) == 0) return 0;
+    if (get_input(bytes, "digest", MULTIHASH_DIGEST_MAX, digest) == 0) return 0;
     Py_DECREF(*code);
     return -1;
 }

@@ -1,43 +1,28 @@
-/* The functions of verified_multihash over the library for C, its errors and the module. Its state is the type, and the
- * class of errors. */
+/* The functions of verified_multihash over the library for C, its errors and the module. */
 #include "core.h"
-
-long version;
 
 /* ---- the state and errors */
 
-typedef struct state {
-    PyObject *type;
-    PyObject *error; /* MultihashError, and its slot */
-    newfunc new_error;
-    PyObject *statuses; /* the members of Status by their numbers, */
-    PyObject *names;    /* and the names of an error's attributes */
-} state;
-
 #define FIELDS 4 /* of an error: its status, size, code and taken */
 
-static struct PyModuleDef definition;
-
-PyObject *module_of_type(PyTypeObject *type)
+PyTypeObject *type_in_c(PyTypeObject *type)
 {
-    PyObject *module = attribute_of((PyObject *)type, "_core");
-    if (module == NULL) return NULL;
-    Py_DECREF(module);
-    if (PyModule_GetDef(module) == &definition) return module;
-    return PyErr_Format(PyExc_TypeError, "not the module of a Multihash: %R", module);
+    for (PyTypeObject *base; (base = PyType_GetSlot(type, Py_tp_base)) != &PyBaseObject_Type; type = base) continue;
+    return type;
+}
+
+const state *state_of(PyTypeObject *type)
+{
+    return PyType_GetModuleState(type_in_c(type));
 }
 
 /* Raises a MultihashError, without its __init__, which takes longer. It steals the references to the numbers and the
  * text, of which a null one has raised an error. */
-static PyObject *raise_error(PyObject *module, multihash_status status, PyObject *size, PyObject *code, size_t taken,
+static PyObject *raise_error(const state *own, multihash_status status, PyObject *size, PyObject *code, size_t taken,
                              PyObject *text)
 {
-    const state *own = module == NULL ? NULL : PyModule_GetState(module);
-    if (own != NULL && own->statuses == NULL) {
-        PyErr_SetString(PyExc_RuntimeError, "verified_multihash was not imported");
-        own = NULL;
-    }
-    int is_ready = own != NULL && size != NULL && code != NULL && text != NULL;
+    int is_ready = own->statuses != NULL && size != NULL && code != NULL && text != NULL;
+    if (own->statuses == NULL) PyErr_SetString(PyExc_RuntimeError, "verified_multihash was not imported");
     PyObject *count = is_ready ? PyLong_FromSize_t(taken) : NULL, *error = NULL;
     PyObject *values[] = {count == NULL ? NULL : PyTuple_GetItem(own->statuses, (Py_ssize_t)status), size, code, count};
     PyObject *arguments = values[0] == NULL ? NULL : PyTuple_Pack(5, values[0], size, code, count, text);
@@ -56,8 +41,14 @@ static PyObject *raise_error(PyObject *module, multihash_status status, PyObject
     return NULL;
 }
 
+/* The error of a varint, whose text is that of the status. */
+static PyObject *varint_error(const state *own, multihash_status status)
+{
+    return raise_error(own, status, PyLong_FromLong(0), PyLong_FromLong(0), 0, PyUnicode_FromString(""));
+}
+
 /* The texts are those of multihash_encode_message, whose numbers have 64 bits. */
-PyObject *encoding_error(PyObject *module, multihash_status status, PyObject *length, PyObject *code)
+PyObject *encoding_error(const state *own, multihash_status status, PyObject *length, PyObject *code)
 {
     static const char *texts[] = {"the code %U is 2^63 or more", "the digest has %U bytes, and the limit is %d"};
     int is_size = status == MULTIHASH_INVALID_SIZE;
@@ -66,7 +57,7 @@ PyObject *encoding_error(PyObject *module, multihash_status status, PyObject *le
     PyObject *shown = wrong == NULL ? NULL : shown_number(wrong);
     PyObject *text = shown == NULL ? NULL : PyUnicode_FromFormat(texts[is_size], shown, MULTIHASH_DIGEST_MAX);
     Py_XDECREF(shown);
-    return raise_error(module, status, is_size ? wrong : none, is_size ? none : wrong, 0, text);
+    return raise_error(own, status, is_size ? wrong : none, is_size ? none : wrong, 0, text);
 }
 
 /* Why an input is rejected. The limit of a digest is null for SCALE, whose messages depend on no more than was copied. */
@@ -102,70 +93,60 @@ static PyObject *set_error(PyObject *module, PyObject *arguments)
 
 /* ---- decoding */
 
-static PyTypeObject *type_of_module(PyObject *module)
-{
-    return (PyTypeObject *)((state *)PyModule_GetState(module))->type;
-}
-
 static const size_t longest = MULTIHASH_DIGEST_MAX;
 
-PyObject *decoded(PyObject *module, const input *from, multihash_decoded found, const size_t *limit)
+PyObject *decoded(const state *own, const input *from, multihash_decoded found, const size_t *limit)
 {
     if (found.status != MULTIHASH_OK) {
         PyObject *size = PyLong_FromUnsignedLongLong(found.size), *code = PyLong_FromUnsignedLongLong(found.code);
-        return raise_error(module, found.status, size, code, found.taken, message_of(from, limit));
+        return raise_error(own, found.status, size, code, found.taken, message_of(from, limit));
     }
     const char *digest = (const char *)from->bytes + found.digest_offset;
     PyObject *code = PyLong_FromUnsignedLongLong(found.code);
     PyObject *copied = code == NULL ? NULL : PyBytes_FromStringAndSize(digest, (Py_ssize_t)found.digest_length);
-    return new_multihash(type_of_module(module), found.code, code, copied);
+    return new_multihash(own->type, found.code, code, copied);
 }
 
 /* The same for an input, which it steals, with the number of bytes consumed. */
 static PyObject *decoded_front(PyObject *module, input *from, multihash_decoded found, const size_t *limit)
 {
-    PyObject *multihash = decoded(module, from, found, limit);
+    PyObject *multihash = decoded(PyModule_GetState(module), from, found, limit);
     Py_DECREF(from->owner);
     return multihash == NULL ? NULL : Py_BuildValue("Nn", multihash, (Py_ssize_t)found.taken);
 }
 
-PyObject *decoded_whole(PyObject *module, input *from)
-{
-    PyObject *multihash =
-        decoded(module, from, multihash_from_prefix(from->bytes, from->length, from->whole), &longest);
-    Py_DECREF(from->owner);
-    return multihash;
-}
-
-static PyObject *decode(PyObject *module, PyObject *arguments, PyObject *named)
+static PyObject *decode(PyObject *module, GIVEN)
 {
     static char *names[] = {"data", NULL};
     PyObject *data;
     input from;
-    if (!get_arguments(arguments, named, "O:decode", names, &data, NULL)) return NULL;
+    if (!get_arguments(given, count, named, "O:decode", names, &data, NULL)) return NULL;
     if (get_input(data, "data", MULTIHASH_LENGTH_MAX, &from) < 0) return NULL;
-    return decoded_whole(module, &from);
+    multihash_decoded found = multihash_from_prefix(from.bytes, from.length, from.whole);
+    PyObject *multihash = decoded(PyModule_GetState(module), &from, found, &longest);
+    Py_DECREF(from.owner);
+    return multihash;
 }
 
-static PyObject *read_front(PyObject *module, PyObject *arguments, PyObject *named)
+static PyObject *read_front(PyObject *module, GIVEN)
 {
     static char *names[] = {"data", "limit", NULL};
     PyObject *data, *most = NULL;
     size_t limit = longest;
     input from;
-    if (!get_arguments(arguments, named, "O|O:read", names, &data, &most)) return NULL;
+    if (!get_arguments(given, count, named, "O|O:read", names, &data, &most)) return NULL;
     if (most != NULL && get_size(&most, "limit", &limit) < 0) return NULL;
     Py_XDECREF(most);
     if (get_input(data, "data", MULTIHASH_LENGTH_MAX, &from) < 0) return NULL;
     return decoded_front(module, &from, multihash_read_limit(from.bytes, from.length, limit), &limit);
 }
 
-static PyObject *scale_decode(PyObject *module, PyObject *arguments, PyObject *named)
+static PyObject *scale_decode(PyObject *module, GIVEN)
 {
     static char *names[] = {"data", NULL};
     PyObject *data;
     input from;
-    if (!get_arguments(arguments, named, "O:scale_decode", names, &data, NULL)) return NULL;
+    if (!get_arguments(given, count, named, "O:scale_decode", names, &data, NULL)) return NULL;
     if (get_input(data, "data", MULTIHASH_SCALE_LENGTH_MAX, &from) < 0) return NULL;
     return decoded_front(module, &from, multihash_scale_decode(from.bytes, from.length), NULL);
 }
@@ -178,56 +159,113 @@ static PyObject *head(PyObject *module, PyObject *data)
     PyObject *text = found.status == MULTIHASH_OK ? NULL : message_of(&from, &longest);
     Py_DECREF(from.owner);
     if (found.status != MULTIHASH_OK) {
-        return raise_error(module, found.status, PyLong_FromLong(0), PyLong_FromLong(0), found.taken, text);
+        const state *own = PyModule_GetState(module);
+        return raise_error(own, found.status, PyLong_FromLong(0), PyLong_FromLong(0), found.taken, text);
     }
     unsigned long long code = found.code, length = found.digest_length;
     return Py_BuildValue("KKn", code, length, (Py_ssize_t)found.taken);
+}
+
+static PyObject *read_varint(PyObject *module, GIVEN)
+{
+    static char *names[] = {"data", NULL};
+    PyObject *data;
+    input from;
+    if (!get_arguments(given, count, named, "O:read_varint", names, &data, NULL)) return NULL;
+    if (get_input(data, "data", MULTIHASH_VARINT_LENGTH_MAX, &from) < 0) return NULL;
+    multihash_varint found = multihash_read_varint(from.bytes, from.length);
+    Py_DECREF(from.owner);
+    if (found.status != MULTIHASH_OK) return varint_error(PyModule_GetState(module), found.status);
+    return Py_BuildValue("Kn", (unsigned long long)found.value, (Py_ssize_t)found.length);
+}
+
+/* Decodes the multihashes of a buffer into `items`, a bytearray, and returns the last result, with the numbers of all. A
+ * failed allocation has raised an error. */
+static multihash_batch read_items(const uint8_t *bytes, size_t length, PyObject *items)
+{
+    multihash_batch part, all = {MULTIHASH_OK, 0, 0, 0};
+    for (size_t capacity = length / 32 + 1;; capacity *= 2) {
+        if (PyByteArray_Resize(items, (Py_ssize_t)(capacity * sizeof(multihash_item))) < 0) return all;
+        multihash_item *to = (multihash_item *)(void *)PyByteArray_AsString(items) + all.count;
+        part = multihash_read_many(bytes + all.taken, length - all.taken, to, capacity - all.count);
+        for (size_t at = 0; all.taken > 0 && at < part.count; at++) to[at].digest_offset += all.taken;
+        all = (multihash_batch){part.status, part.size, all.count + part.count, all.taken + part.taken};
+        if (all.count < capacity) break;
+    }
+    PyByteArray_Resize(items, (Py_ssize_t)(all.count * sizeof(multihash_item)));
+    return all;
+}
+
+static PyObject *read_many(PyObject *module, PyObject *arguments)
+{
+    Py_buffer view;
+    PyObject *data, *items = PyByteArray_FromStringAndSize(NULL, 0);
+    int is_final;
+    if (items == NULL || !PyArg_ParseTuple(arguments, "Op:read_many", &data, &is_final) ||
+        get_buffer(data, "data", PyBUF_SIMPLE, &view) < 0) {
+        Py_XDECREF(items);
+        return NULL;
+    }
+    multihash_batch all = read_items(view.buf, (size_t)view.len, items);
+    if (all.status != MULTIHASH_OK && (is_final || !multihash_is_incomplete(all.status))) {
+        size_t rest = (size_t)view.len - all.taken;
+        input from = {NULL, (const uint8_t *)view.buf + all.taken, rest, rest};
+        multihash_decoded found = multihash_read(from.bytes, rest);
+        found.taken = all.taken;
+        decoded(PyModule_GetState(module), &from, found, &longest);
+    }
+    PyBuffer_Release(&view);
+    if (!PyErr_Occurred()) return Py_BuildValue("Nn", items, (Py_ssize_t)all.taken);
+    Py_DECREF(items);
+    return NULL;
 }
 
 /* ---- encoding */
 
 typedef multihash_encoded encoder(uint64_t, const uint8_t *, size_t, uint8_t *, size_t);
 
-static PyObject *encoded(PyObject *module, encoder *function, const char *format, PyObject *arguments, PyObject *named)
+static PyObject *encoded(PyObject *module, encoder *function, const char *format, GIVEN)
 {
+    static char *names[] = {"code", "digest", NULL};
     uint8_t out[MULTIHASH_LENGTH_MAX];
-    PyObject *code;
+    PyObject *code, *bytes;
     uint64_t number;
     input digest;
-    if (get_pair(arguments, named, format, &code, &number, &digest) < 0) return NULL;
+    if (!get_arguments(given, count, named, format, names, &code, &bytes)) return NULL;
+    if (get_pair(&code, bytes, &number, &digest) < 0) return NULL;
     /* What is longer was not copied whole. */
     multihash_encoded made = digest.whole > MULTIHASH_DIGEST_MAX
                                  ? multihash_encoded_len(number, digest.whole)
                                  : function(number, digest.bytes, digest.whole, out, sizeof out);
     Py_DECREF(digest.owner);
     if (made.status != MULTIHASH_OK) {
-        return encoding_error(module, made.status, PyLong_FromSize_t(digest.whole), code);
+        return encoding_error(PyModule_GetState(module), made.status, PyLong_FromSize_t(digest.whole), code);
     }
     Py_DECREF(code);
     return PyBytes_FromStringAndSize((const char *)out, (Py_ssize_t)made.length);
 }
 
-static PyObject *encode(PyObject *module, PyObject *arguments, PyObject *named)
+static PyObject *encode(PyObject *module, GIVEN)
 {
-    return encoded(module, multihash_encode, "OO:encode", arguments, named);
+    return encoded(module, multihash_encode, "OO:encode", given, count, named);
 }
 
-static PyObject *scale_encode(PyObject *module, PyObject *arguments, PyObject *named)
+static PyObject *scale_encode(PyObject *module, GIVEN)
 {
-    return encoded(module, multihash_scale_encode, "OO:scale_encode", arguments, named);
+    return encoded(module, multihash_scale_encode, "OO:scale_encode", given, count, named);
 }
 
-static PyObject *encoded_len(PyObject *module, PyObject *arguments, PyObject *named)
+static PyObject *encoded_len(PyObject *module, GIVEN)
 {
     static char *names[] = {"code", "digest_length", NULL};
     PyObject *code, *length, *result = NULL;
     uint64_t number;
     size_t size;
-    if (!get_arguments(arguments, named, "OO:encoded_len", names, &code, &length)) return NULL;
+    if (!get_arguments(given, count, named, "OO:encoded_len", names, &code, &length)) return NULL;
     if (get_number(&code, "code", &number) < 0) return NULL;
     if (get_size(&length, "digest_length", &size) == 0) {
         multihash_encoded made = multihash_encoded_len(number, size);
-        if (made.status != MULTIHASH_OK) return encoding_error(module, made.status, length, code);
+        if (made.status != MULTIHASH_OK) return encoding_error(PyModule_GetState(module), made.status, length, code);
         result = PyLong_FromSize_t(made.length);
         Py_DECREF(length);
     }
@@ -235,34 +273,35 @@ static PyObject *encoded_len(PyObject *module, PyObject *arguments, PyObject *na
     return result;
 }
 
-static PyObject *compare(PyObject *module, PyObject *arguments, PyObject *named)
+static PyObject *encode_varint(PyObject *module, GIVEN)
+{
+    static char *names[] = {"number", NULL};
+    uint8_t out[MULTIHASH_VARINT_LENGTH_MAX];
+    PyObject *number;
+    uint64_t value;
+    if (!get_arguments(given, count, named, "O:encode_varint", names, &number, NULL)) return NULL;
+    if (get_number(&number, "number", &value) < 0) return NULL;
+    Py_DECREF(number);
+    multihash_encoded made = multihash_write_varint(value, out, sizeof out);
+    if (made.status != MULTIHASH_OK) return varint_error(PyModule_GetState(module), made.status);
+    return PyBytes_FromStringAndSize((const char *)out, (Py_ssize_t)made.length);
+}
+
+static PyObject *compare(PyObject *module, GIVEN)
 {
     static char *names[] = {"left", "right", NULL};
+    const state *own = PyModule_GetState(module);
     PyObject *sides[2];
-    if (!get_arguments(arguments, named, "OO:compare", names, &sides[0], &sides[1])) return NULL;
+    if (!get_arguments(given, count, named, "OO:compare", names, &sides[0], &sides[1])) return NULL;
     for (int side = 0; side < 2; side++) {
-        if (!PyObject_TypeCheck(sides[side], type_of_module(module))) {
-            return wrong_type(names[side], "a Multihash", sides[side]);
-        }
+        if (!PyObject_TypeCheck(sides[side], own->type)) return wrong_type(names[side], "a Multihash", sides[side]);
     }
     return PyLong_FromLong(order_of(sides[0], sides[1]));
 }
 
-static PyObject *status_text(PyObject *module, PyObject *status)
-{
-    uint8_t out[64];
-    uint64_t number;
-    (void)module;
-    if (get_number(&status, "status", &number) < 0) return NULL;
-    Py_DECREF(status);
-    multihash_status known = number > UINT32_MAX ? UINT32_MAX : (multihash_status)number;
-    multihash_encoded made = multihash_put_status_text(known, out, sizeof out);
-    return PyUnicode_FromStringAndSize((const char *)out, (Py_ssize_t)made.length);
-}
-
 /* ---- the module */
 
-#define WITH_NAMES(function) (PyCFunction)(void (*)(void))function, METH_VARARGS | METH_KEYWORDS
+#define WITH_NAMES(function) (PyCFunction)(void (*)(void))function, METH_FASTCALL | METH_KEYWORDS
 
 static PyMethodDef functions[] = {
     {"decode", WITH_NAMES(decode),
@@ -275,6 +314,12 @@ static PyMethodDef functions[] = {
      "scale_decode(data)\n--\n\n"
      "Decodes the multihash at the start of `data` from its SCALE encoding. Returns it and the length read."},
     {"head", head, METH_O, NULL},
+    {"read_many", read_many, METH_VARARGS, NULL},
+    {"read_varint", WITH_NAMES(read_varint),
+     "read_varint(data)\n--\n\n"
+     "Decodes the varint at the start of `data`. Returns the number, below 2**63, and the length of the varint."},
+    {"encode_varint", WITH_NAMES(encode_varint),
+     "encode_varint(number)\n--\n\nReturns the varint of a number below 2**63."},
     {"encode", WITH_NAMES(encode), "encode(code, digest)\n--\n\nReturns the encoding of a code and a digest."},
     {"scale_encode", WITH_NAMES(scale_encode),
      "scale_encode(code, digest)\n--\n\nReturns the SCALE encoding of a code and a digest."},
@@ -284,31 +329,26 @@ static PyMethodDef functions[] = {
     {"compare", WITH_NAMES(compare),
      "compare(left, right)\n--\n\nReturns -1, 0 or 1: the order of two multihashes."},
     {"set_error", set_error, METH_VARARGS, NULL},
-    {"status_text", status_text, METH_O, NULL},
     {NULL, NULL, 0, NULL},
 };
 
-/* Adds a type, which keeps the module, and steals the reference to it. */
-static int add_type(PyObject *module, const char *name, PyObject *type)
-{
-    if (type != NULL && PyObject_SetAttrString(type, "_core", module) == 0 &&
-        PyModule_AddObject(module, name, type) == 0) {
-        return 0;
-    }
-    Py_XDECREF(type);
-    return -1;
-}
-
 static int fill_module(PyObject *module)
 {
-    PyObject *type = PyType_FromSpec(&multihash_spec), *names = Py_BuildValue("(ss)", "code", "digest");
-    int is_wrong = type == NULL || names == NULL || PyObject_SetAttrString(type, "__match_args__", names) < 0;
+    PyObject *type = PyType_FromModuleAndSpec(module, &multihash_spec, NULL), *names = Py_BuildValue("(ss)", "code", "digest");
+    PyObject *reader = PyType_FromModuleAndSpec(module, &reader_spec, NULL);
+    PyObject *bases = reader == NULL ? NULL : PyTuple_Pack(1, reader);
+    PyObject *file_reader = bases == NULL ? NULL : PyType_FromModuleAndSpec(module, &file_reader_spec, bases);
+    ((state *)PyModule_GetState(module))->type = (PyTypeObject *)type;
+    int is_filled = type != NULL && names != NULL && file_reader != NULL &&
+                    PyObject_SetAttrString(type, "__match_args__", names) == 0 &&
+                    PyObject_SetAttrString(module, "Multihash", type) == 0 &&
+                    PyObject_SetAttrString(module, "Reader", reader) == 0 &&
+                    PyObject_SetAttrString(module, "FileReader", file_reader) == 0;
     Py_XDECREF(names);
-    ((state *)PyModule_GetState(module))->type = type;
-    if (is_wrong) return -1;
-    Py_INCREF(type);
-    if (add_type(module, "Multihash", type) < 0) return -1;
-    return add_type(module, "Reader", PyType_FromSpec(&reader_spec));
+    Py_XDECREF(reader);
+    Py_XDECREF(bases);
+    Py_XDECREF(file_reader);
+    return is_filled ? 0 : -1;
 }
 
 static int visit_state(PyObject *module, visitproc visit, void *arg)
@@ -355,13 +395,9 @@ static struct PyModuleDef definition = {
     free_state,
 };
 
-#ifdef __GNUC__
-__attribute__((visibility("default"))) /* CPython 3.8 does not say so */
-#endif
 PyMODINIT_FUNC PyInit__core(void)
 {
     PyObject *hexversion = PySys_GetObject("hexversion");
-    version = hexversion == NULL ? 0 : PyLong_AsLong(hexversion);
-    if (version >= 0x030c0000) definition.m_slots = slots_of_3_12;
+    if (hexversion != NULL && PyLong_AsLong(hexversion) >= 0x030c0000) definition.m_slots = slots_of_3_12;
     return PyModuleDef_Init(&definition);
 }

@@ -30,12 +30,17 @@ PyObject *shown_number(PyObject *number);
 /* The name of what a file returned, as an argument. */
 #define RESULT_OF_READ "the result of read"
 
+/* The buffer of any object that supports the protocol. */
+int get_buffer(PyObject *argument, const char *name, int flags, Py_buffer *view);
+
 /* Takes any object with the buffer protocol. Copies some `most` bytes of what is no bytes object. */
 int get_input(PyObject *argument, const char *name, Py_ssize_t most, input *to);
 
+/* The parameters of a function with METH_FASTCALL and METH_KEYWORDS. */
+#define GIVEN PyObject *const *given, Py_ssize_t count, PyObject *named
+
 /* One argument or two of a function, by position or name. */
-int get_arguments(PyObject *arguments, PyObject *named, const char *format, char **names, PyObject **first,
-                  PyObject **second);
+int get_arguments(GIVEN, const char *format, char **names, PyObject **first, PyObject **second);
 
 /* A whole number that is not negative, and in place of the argument a new int. One of 2^63 or more is the
  * largest, which the library rejects too. */
@@ -44,26 +49,31 @@ int get_number(PyObject **argument, const char *name, uint64_t *number);
 /* The same of a limit or a digest's length: what is larger is rejected as the largest is. */
 int get_size(PyObject **argument, const char *name, size_t *size);
 
-/* The arguments of a function: a code, as `get_number` has it, and a digest, of which no more than the longest has is
- * copied. */
-int get_pair(PyObject *arguments, PyObject *named, const char *format, PyObject **code, uint64_t *number,
-             input *digest);
+/* A code, as `get_number` has it, and a digest, of which no more than the longest has is copied. */
+int get_pair(PyObject **code, PyObject *bytes, uint64_t *number, input *digest);
 
 /* ---- core.c */
 
-extern long version; /* of CPython, as sys.hexversion */
+/* The state of the module: the type Multihash, and what makes errors. */
+typedef struct state {
+    PyTypeObject *type;
+    PyObject *error; /* MultihashError, and its slot */
+    newfunc new_error;
+    PyObject *statuses; /* the members of Status by their numbers, */
+    PyObject *names;    /* and the names of an error's attributes */
+} state;
 
-/* The module of a type, which keeps it; null is a failure that has raised an error. */
-PyObject *module_of_type(PyTypeObject *type);
+/* The type in C that a type is, or of which it is a subclass: the one whose base is object. */
+PyTypeObject *type_in_c(PyTypeObject *type);
+
+/* The state of the module of a type, which keeps it. */
+const state *state_of(PyTypeObject *type);
 
 /* Raises the error of an encoding. It steals the references to the length, which may be null, and to the code. */
-PyObject *encoding_error(PyObject *module, multihash_status status, PyObject *length, PyObject *code);
+PyObject *encoding_error(const state *own, multihash_status status, PyObject *length, PyObject *code);
 
 /* The multihash that a decoding found in an input, or its error. The limit of a digest is null for SCALE. */
-PyObject *decoded(PyObject *module, const input *from, multihash_decoded found, const size_t *limit);
-
-/* The multihash whose encoding is the whole of an input, which it steals. */
-PyObject *decoded_whole(PyObject *module, input *from);
+PyObject *decoded(const state *own, const input *from, multihash_decoded found, const size_t *limit);
 
 /* ---- value.c */
 
@@ -78,4 +88,4 @@ int order_of(PyObject *left, PyObject *right);
 
 /* ---- reader.c */
 
-extern PyType_Spec reader_spec;
+extern PyType_Spec reader_spec, file_reader_spec; /* the second one is of a subclass */

@@ -3,12 +3,14 @@
 
 typedef struct reader_object {
     PyObject_HEAD
-    PyObject *module;
-    PyObject *read; /* of the file */
+    const state *own;
+    PyObject *read;  /* of the file */
+    PyObject *digest; /* of the multihash that is next: what the file returned, if that is the whole digest */
     size_t limit;
     size_t wanted; /* the number of bytes that a call of the file was asked for which has not returned, or 0 */
     unsigned long long taken; /* bytes of the multihashes that were returned */
     char has_lost;            /* whether the file may have lost bytes */
+    multihash_front front; /* of `rest`, as far as it is known */
     size_t length; /* of the bytes that were read and belong to no multihash that was returned */
     uint8_t rest[MULTIHASH_LENGTH_MAX];
 } reader_object;
@@ -38,22 +40,22 @@ static int reader_init(PyObject *self, PyObject *arguments, PyObject *named)
 {
     static char *names[] = {"file", "limit", NULL};
     reader_object *reader = (reader_object *)self;
-    PyObject *file, *most, *module, *read;
+    PyObject *file, *most, *read;
     size_t limit;
-    if (!get_arguments(arguments, named, "OO:MultihashReader", names, &file, &most)) return -1;
+    if (!PyArg_ParseTupleAndKeywords(arguments, named, "OO:MultihashReader", names, &file, &most)) return -1;
     if (get_size(&most, "limit", &limit) < 0) return -1;
     Py_DECREF(most);
-    if ((module = module_of_type(Py_TYPE(self))) == NULL) return -1;
     if ((read = read_of(self, file)) == NULL) return -1;
     if (check_idle(reader) < 0) {
         Py_DECREF(read);
         return -1;
     }
-    if (reader->module == NULL) Py_INCREF(reader->module = module);
+    reader->own = state_of(Py_TYPE(self));
     reader->limit = limit;
     reader->length = 0;
     reader->taken = 0;
     reader->has_lost = 0;
+    Py_CLEAR(reader->digest);
     PyObject *old = reader->read; /* now: `file` may begin this reader anew, too */
     reader->read = read;
     Py_XDECREF(old);
@@ -62,8 +64,7 @@ static int reader_init(PyObject *self, PyObject *arguments, PyObject *named)
 
 static int reader_traverse(PyObject *self, visitproc visit, void *arg)
 {
-    if (version >= 0x03090000) Py_VISIT(Py_TYPE(self));
-    Py_VISIT(((reader_object *)self)->module);
+    Py_VISIT(Py_TYPE(self));
     Py_VISIT(((reader_object *)self)->read);
     return 0;
 }
@@ -71,6 +72,7 @@ static int reader_traverse(PyObject *self, visitproc visit, void *arg)
 static int reader_clear(PyObject *self)
 {
     Py_CLEAR(((reader_object *)self)->read);
+    Py_CLEAR(((reader_object *)self)->digest);
     return 0;
 }
 
@@ -79,19 +81,20 @@ static void reader_dealloc(PyObject *self)
     PyTypeObject *type = Py_TYPE(self);
     PyObject_GC_UnTrack(self);
     reader_clear(self);
-    Py_XDECREF(((reader_object *)self)->module);
     ((freefunc)PyType_GetSlot(type, Py_tp_free))(self);
     Py_DECREF(type);
 }
 
-/* The number of bytes that the multihash still needs at least, or 0 if it is rejected. */
-static size_t missing(const reader_object *reader)
+/* The number of bytes that the multihash still needs at least, or 0 if it is there or rejected. */
+static size_t missing(reader_object *reader)
 {
+    multihash_front *front = &reader->front;
+    if (reader->length == 0) front->status = MULTIHASH_INSUFFICIENT;
     if (reader->length == 0) return 2; /* an encoding has at least two bytes */
-    multihash_front found = multihash_head(reader->rest, reader->length);
-    if (found.status != MULTIHASH_OK) return found.status == MULTIHASH_INSUFFICIENT;
-    if (found.digest_length > reader->limit || found.digest_length > MULTIHASH_DIGEST_MAX) return 0;
-    return found.taken + (size_t)found.digest_length - reader->length;
+    if (front->status == MULTIHASH_INSUFFICIENT) *front = multihash_head(reader->rest, reader->length);
+    if (front->status != MULTIHASH_OK) return front->status == MULTIHASH_INSUFFICIENT;
+    if (front->digest_length > reader->limit || front->digest_length > MULTIHASH_DIGEST_MAX) return 0;
+    return front->taken + (size_t)front->digest_length - reader->length;
 }
 
 /* Begins a call of the file for the bytes that are wanted: 1, or 0 if the next result is known; negative with an error
@@ -124,8 +127,10 @@ static int end(reader_object *reader, PyObject *chunk)
     if (reader->has_lost) {
         PyErr_Format(PyExc_ValueError, "the file returned %zu bytes to read(%zu)", from.whole, most);
     } else {
+        int is_digest = reader->front.status == MULTIHASH_OK && reader->length == reader->front.taken && from.whole == most;
         memcpy(reader->rest + reader->length, from.bytes, from.whole);
         reader->length += from.whole;
+        if (is_digest) Py_INCREF(reader->digest = from.owner);
     }
     Py_DECREF(from.owner);
     return reader->has_lost ? -1 : from.whole > 0;
@@ -154,9 +159,18 @@ static int read_chunk(reader_object *reader)
 static PyObject *take_multihash(reader_object *reader)
 {
     if (reader->length == 0) Py_RETURN_NONE;
+    const multihash_front *front = &reader->front;
     input from = {NULL, reader->rest, reader->length, reader->length};
-    multihash_decoded found = multihash_read_limit(from.bytes, from.length, reader->limit);
-    PyObject *multihash = decoded(reader->module, &from, found, &reader->limit);
+    if (front->status != MULTIHASH_OK || from.length < front->taken + front->digest_length) { /* it is rejected */
+        multihash_decoded found = multihash_read_limit(from.bytes, from.length, reader->limit);
+        return decoded(reader->own, &from, found, &reader->limit);
+    }
+    PyObject *code = PyLong_FromUnsignedLongLong(front->code), *digest = reader->digest;
+    reader->digest = NULL;
+    if (digest == NULL) {
+        digest = PyBytes_FromStringAndSize((const char *)from.bytes + front->taken, (Py_ssize_t)front->digest_length);
+    }
+    PyObject *multihash = new_multihash(reader->own->type, front->code, code, digest);
     if (multihash != NULL) {
         reader->taken += reader->length;
         reader->length = 0;
@@ -212,8 +226,8 @@ static PyObject *reader_rest(PyObject *self, void *unused)
 
 static PyMethodDef reader_methods[] = {
     {"_begin", reader_begin, METH_NOARGS, NULL}, {"_end", reader_end, METH_O, NULL},
-    {"_fail", reader_fail, METH_O, NULL},        {"_next", reader_next, METH_NOARGS, NULL},
-    {"_take", reader_take, METH_NOARGS, NULL},   {NULL, NULL, 0, NULL},
+    {"_fail", reader_fail, METH_O, NULL},        {"_take", reader_take, METH_NOARGS, NULL},
+    {NULL, NULL, 0, NULL},
 };
 
 static PyMemberDef reader_members[] = {
@@ -229,7 +243,7 @@ static PyGetSetDef reader_attributes[] = {
 };
 
 static PyType_Slot reader_slots[] = {
-    {Py_tp_doc, "Reader(file, limit)\n--\n\nThe base of both readers."},
+    {Py_tp_doc, "The base of both readers."},
     {Py_tp_init, reader_init},
     {Py_tp_traverse, reader_traverse},
     {Py_tp_clear, reader_clear},
@@ -246,4 +260,38 @@ PyType_Spec reader_spec = {
     0,
     Py_TPFLAGS_DEFAULT | Py_TPFLAGS_HAVE_VERSION_TAG | Py_TPFLAGS_BASETYPE | Py_TPFLAGS_HAVE_GC,
     reader_slots,
+};
+
+/* ---- the base of MultihashReader */
+
+static PyObject *next_of_loop(PyObject *self)
+{
+    PyObject *multihash = reader_next(self, NULL);
+    if (multihash == NULL && PyErr_ExceptionMatches(PyExc_StopIteration)) { /* of the file: it would end the loop */
+        PyErr_SetString(PyExc_RuntimeError, "the file raised StopIteration");
+    }
+    if (multihash == Py_None) Py_CLEAR(multihash);
+    return multihash;
+}
+
+static PyMethodDef file_reader_methods[] = {
+    {"read", reader_next, METH_NOARGS,
+     "read($self)\n--\n\nReturns the next multihash, or None at the end of the file."},
+    {NULL, NULL, 0, NULL},
+};
+
+static PyType_Slot file_reader_slots[] = {
+    {Py_tp_doc, "The base of MultihashReader."},
+    {Py_tp_iter, PyObject_SelfIter},
+    {Py_tp_iternext, next_of_loop},
+    {Py_tp_methods, file_reader_methods},
+    {0, NULL},
+};
+
+PyType_Spec file_reader_spec = {
+    "verified_multihash._core.FileReader",
+    sizeof(reader_object),
+    0,
+    Py_TPFLAGS_DEFAULT | Py_TPFLAGS_HAVE_VERSION_TAG | Py_TPFLAGS_BASETYPE,
+    file_reader_slots,
 };

@@ -23,9 +23,7 @@ README = Path(__file__).resolve().parents[1] / "README.md"
 
 
 def parameters_of(call):
-    """The parameters that a function shows; CPython 3.8 and 3.9 find none of a class in C."""
-    is_found = call is not Multihash or sys.version_info > (3, 10)
-    return inspect.signature(call).parameters if is_found else dict.fromkeys(Multihash.__match_args__)
+    return inspect.signature(call).parameters
 
 
 class Module(unittest.TestCase):
@@ -39,7 +37,7 @@ class Module(unittest.TestCase):
         program += "import gc\ndel vm\n"
         program += "for name in [*sys.modules]: name.startswith('verified') and sys.modules.pop(name)\n"
         program += "gc.collect()\nkept = [it for it in gc.get_objects() if isinstance(it, type)]\n"
-        program += "names = {it.__name__ for it in kept} if sys.version_info > (3, 9) else set()\n"
+        program += "names = {it.__name__ for it in kept}\n"
         program += "assert not names & {'Multihash', 'MultihashError', 'Status'}, 'a module that is not used is kept'\n"
 
         def run(_):
@@ -60,7 +58,7 @@ class Module(unittest.TestCase):
         )
 
     def test_abstract_classes(self):
-        """An abstract class may be a base too: CPython 3.8 has the flag in its own headers, later ones do not."""
+        """An abstract class may be a base too: for that the types have a flag."""
         for kind in (Multihash, vm._core.Reader):
             self.assertTrue(kind.__flags__ & 1 << 18, "Py_TPFLAGS_HAVE_VERSION_TAG")
         for kind in (Multihash, vm.MultihashReader, vm.AsyncMultihashReader):
@@ -113,7 +111,7 @@ class Module(unittest.TestCase):
             by_name, by_position = call(**dict(zip(names, arguments))), call(*arguments)
             self.assertEqual((str(by_name), len(names)), (str(by_position), len(arguments)))
             self.assertEqual(getattr(parameters_of(call).get("limit"), "default", vm.DIGEST_MAX), vm.DIGEST_MAX)
-            required = [name for name, it in parameters_of(call).items() if not it or it.default is it.empty]
+            required = [name for name, it in parameters_of(call).items() if it.default is it.empty]
             few = arguments[: len(required) - 1]
             for wrong, more in (([*arguments, 1], {}), (few, {}), (arguments, {"more": 1})):
                 with self.assertRaisesRegex(TypeError, r"\b(__init__|%s)\(" % call.__name__):

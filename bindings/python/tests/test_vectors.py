@@ -13,7 +13,8 @@ from verified_multihash import MultihashError
 LIST = Path(os.environ.get("MULTIHASH_VERDICTS", Path(__file__).parent / "verdicts.tsv"))
 MORE = bytes(400)
 KINDS = (bytes, bytearray, memoryview)
-HEAD = re.compile(2 * b"([\x80-\xff]{1,8}[\1-\x7f]|[\0-\x7f])")  # two varints
+VARINT = b"([\x80-\xff]{1,8}[\1-\x7f]|[\0-\x7f])"
+HEAD = re.compile(2 * VARINT)
 
 
 class Counts:
@@ -58,6 +59,12 @@ def rows_of(path):
     return [dict(zip(columns, line)) for line in lines]
 
 
+def many(data, final=True):
+    """What read_many returns, as pairs: codes and digests."""
+    codes, offsets, lengths, taken = vm.read_many(data, final)
+    return [(code, bytes(data[at : at + size])) for code, at, size in zip(codes, offsets, lengths)], taken
+
+
 class Vectors(unittest.TestCase):
     def check_head(self, data, result, taken):
         match = HEAD.match(bytes(data))
@@ -66,6 +73,33 @@ class Vectors(unittest.TestCase):
             return
         head = "Head(code=%d, digest_length=%d, length=%d)" % (*map(number_of, match.groups()), match.end())
         self.assertEqual((str(vm.head(data)), str(vm.head(data[: match.end()]))), (head, head))
+
+    def check_varint(self, data, result):
+        match = re.match(VARINT, bytes(data))
+        wanted = (number_of(match[1]), match.end()) if match else result
+        try:
+            found = vm.read_varint(data)
+            self.assertEqual(vm.encode_varint(found[0]), match[1])
+        except MultihashError as error:
+            found = error.status.name.lower()
+        self.assertEqual(found, wanted)
+
+    def check_many(self, data, taken, found):
+        """The input after two multihashes, and followed by one if it is one."""
+        front = b"\0\1a\x81\1\0"
+        whole, wanted = front + data + bytes(vm.Multihash(2, b"")), [(0, b"a"), (129, b"")]
+        if isinstance(found, vm.Multihash) and taken == len(data):
+            self.assertEqual(many(whole), ([*wanted, (found.code, found.digest), (2, b"")], len(whole)))
+        elif data and isinstance(found, MultihashError):
+            with self.assertRaises(MultihashError) as raised:
+                vm.read_many(front + data)
+            error = raised.exception
+            self.assertEqual((shown(vm.read, data)[0], error.taken), (shown(vm.read_many, front + data)[0], len(front)))
+            self.assertEqual(str(error), str(shown(vm.read, data)[2]))
+            if found.is_incomplete:
+                self.assertEqual(many(front + data, False), (wanted, len(front)))
+            else:
+                self.assertRaises(MultihashError, vm.read_many, front + data, False)
 
     def check_file(self, data, size, result, consumed):
         for most in (1, 500):
@@ -107,8 +141,10 @@ class Vectors(unittest.TestCase):
         self.check_taken(row["read_taken"], taken, found)
         consumed = len(data) if row["read_taken"] == "-" else int(row["read_taken"])
         self.check_head(kind(data), read, consumed)
+        self.check_varint(kind(data), read)
         self.check_file(data, size, read, consumed)
         if is_for_all(read, size):
+            self.check_many(data, taken, found)
             self.assertEqual(shown(vm.decode, kind(data))[:2], (row["from_bytes"], len(data)))
             self.check_long(data, kind, read, taken)
         if is_for_all(scale, size):
@@ -123,6 +159,27 @@ class Vectors(unittest.TestCase):
         for row, kind in zip(rows_of(LIST), itertools.cycle(KINDS)):
             with self.subTest(row=row):
                 self.check_line(row, kind)
+
+
+class Many(unittest.TestCase):
+    def test_list(self):
+        """Short ones and long ones, so that their number is not what it seemed."""
+        pairs = [(row % 300, bytes(row % 5 or row % 256)) for row in range(3000)]
+        data = b"".join(itertools.starmap(vm.encode, pairs))
+        for kind in KINDS:
+            self.assertEqual(many(kind(data)), (pairs, len(data)))
+            self.assertEqual(many(kind(b"")), ([], 0))
+        self.assertEqual(many(bytes(20000)), ([(0, b"")] * 10000, 20000))
+
+    def test_columns(self):
+        data = bytearray(vm.encode(1 << 62, b"abc") + vm.encode(2, b""))
+        found = vm.read_many(data)
+        for column, numbers in zip(found, ([1 << 62, 2], [10, 15], [3, 0])):
+            self.assertEqual((column.tolist(), column.itemsize, column.readonly), (numbers, 8, True))
+            self.assertEqual((column[1], list(column), 7 in column), (numbers[1], numbers, False))
+        data += b"more"  # the columns keep no buffer of it
+        self.assertRaises(BufferError, vm.read_many, memoryview(data)[::2])
+        self.assertEqual(vm.read_many(data=b"\0\0\1", final=False).taken, 2)
 
 
 class Values(unittest.TestCase):

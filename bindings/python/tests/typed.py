@@ -1,5 +1,7 @@
 """Lines that mypy --strict accepts, and lines that it rejects: an unused `# type: ignore` is an error of its own."""
 import asyncio
+import functools
+import hashlib
 import io
 from array import array
 from typing import List, Mapping, Optional, Tuple
@@ -18,10 +20,16 @@ assert_type(
 assert_type((vm.scale_decode(ARRAY), vm.encode(18, ARRAY)), Tuple[Tuple[Multihash, int], bytes])
 assert_type((vm.scale_encode(18, ARRAY), Multihash(18, ARRAY)), Tuple[bytes, Multihash])
 assert_type((vm.encoded_len(18, 32), vm.compare(multihash, multihash)), Tuple[int, int])
+assert_type((vm.read_varint(data=ARRAY), vm.encode_varint(number=18)), Tuple[Tuple[int, int], bytes])
+assert_type((vm.read_many(data=ARRAY, final=False), vm.read_many(ARRAY).codes), Tuple[vm.Columns, memoryview])
+assert_type((vm.read_many(ARRAY).lengths[0], vm.read_many(ARRAY).taken), Tuple[int, int])
 assert_type((vm.head(DATA).code, vm.head(DATA).digest_length, vm.head(DATA).length), Tuple[int, int, int])
 vm.decode("1200")  # type: ignore[arg-type]
 vm.read(DATA, None)  # type: ignore[arg-type]
 vm.head("1200")  # type: ignore[arg-type]
+vm.read_many("1200")  # type: ignore[arg-type]
+vm.read_varint("12")  # type: ignore[arg-type]
+vm.encode_varint(DATA)  # type: ignore[arg-type]
 vm.scale_decode("1200")  # type: ignore[arg-type]
 vm.encode("sha2-256", DATA)  # type: ignore[arg-type]
 vm.encode(18, 32)  # type: ignore[arg-type]
@@ -90,6 +98,10 @@ assert_type(hashes.digest_file(file=io.BytesIO(DATA), name="sha2-256"), Multihas
 assert_type(hashes.verify_file(multihash=multihash, file=io.BytesIO(DATA)), bool)
 assert_type(hashes.verify_file(ARRAY, io.BytesIO(DATA)), bool)
 assert_type(hashes.Hasher(name="sha2-256").multihash(), Multihash)
+assert_type(hashes.digest(ARRAY, 0x1E, functions={0x1E: hashlib.sha256}), Multihash)
+assert_type(hashes.verify(ARRAY, ARRAY, functions={0x1E: functools.partial(hashlib.blake2b, digest_size=8)}), bool)
+hashes.verify(ARRAY, ARRAY, functions={"blake3": hashlib.sha256})  # type: ignore[dict-item]
+hashes.verify(ARRAY, ARRAY, functions={0x1E: bytes})  # type: ignore[dict-item]
 assert_type((hashes.CODES, hashes.NAMES), Tuple[Mapping[str, int], Mapping[int, str]])
 assert_type(vm.hashes.NAMES, Mapping[int, str])
 vm.more  # type: ignore[attr-defined]

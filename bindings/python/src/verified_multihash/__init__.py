@@ -14,11 +14,13 @@ from __future__ import annotations
 
 import importlib
 import io
+import struct
 from typing import TYPE_CHECKING, AsyncIterator, Iterator, NamedTuple, Optional, Protocol, Union
 
-from . import _core
-from ._core import Multihash, compare, decode, encode, encoded_len, read, scale_decode, scale_encode
-from ._status import INCOMPLETE, Status
+from . import _core, _value
+from ._core import Multihash, compare, decode, encode, encode_varint, encoded_len, read, read_varint, scale_decode
+from ._core import scale_encode
+from ._status import INCOMPLETE, TEXTS, Status
 
 if TYPE_CHECKING:
     from _typeshed import ReadableBuffer as Buffer
@@ -37,15 +39,17 @@ else:
 
 
 __all__ = [
-    "AsyncMultihashReader", "DIGEST_MAX", "HEAD_MAX", "LENGTH_MAX", "SCALE_LENGTH_MAX", "Head", "Multihash",
-    "MultihashError", "MultihashReader", "Status", "__version__", "compare", "decode", "encode", "encoded_len", "head",
-    "read", "read_from", "scale_decode", "scale_encode",
+    "AsyncMultihashReader", "Columns", "DIGEST_MAX", "HEAD_MAX", "Head", "LENGTH_MAX", "Multihash", "MultihashError",
+    "MultihashReader", "SCALE_LENGTH_MAX", "Status", "VARINT_LENGTH_MAX", "__version__", "compare", "decode", "encode",
+    "encode_varint", "encoded_len", "head", "read", "read_from", "read_many", "read_varint", "scale_decode",
+    "scale_encode",
 ]  # fmt: skip
 
 # The numbers of the C library.
 __version__ = "1.0.0"
 
 DIGEST_MAX = 255
+VARINT_LENGTH_MAX = 9
 HEAD_MAX = 18
 LENGTH_MAX = 266
 SCALE_LENGTH_MAX = 264
@@ -84,7 +88,7 @@ class MultihashError(ValueError):
     def __str__(self) -> str:
         """Returns the text, or else that of the C library."""
         number = self.size or self.code
-        return self.args[4] or _core.status_text(self.status) + (" (%s)" % _shown(number) if number else "")
+        return self.args[4] or TEXTS[self.status] + (" (%s)" % _shown(number) if number else "")
 
 
 # The library's errors are made by _core, as __init__ does it.
@@ -107,6 +111,18 @@ class Head(NamedTuple):
     length: int
 
 
+class Columns(NamedTuple):
+    """What `read_many` found: memoryviews with a number for each multihash, and the number of bytes consumed.
+
+    The digest of number i is `data[offsets[i] : offsets[i] + lengths[i]]`. numpy.asarray(column) copies nothing.
+    """
+
+    codes: memoryview
+    offsets: memoryview
+    lengths: memoryview
+    taken: int
+
+
 class _Readable(Protocol):
     def read(self, size: int, /) -> Optional[bytes]:
         """Returns at most `size` bytes; none at the end; None if none can be read without waiting."""
@@ -122,7 +138,21 @@ def head(data: Buffer) -> Head:
     return tuple.__new__(Head, _core.head(data))  # without the arguments of Head, which take longer
 
 
-class MultihashReader(_core.Reader):
+def read_many(data: Buffer, final: bool = True) -> Columns:
+    """Decodes concatenated encodings, without an object for each. Returns columns of numbers, and copies no digest.
+
+    `data` must be contiguous. Raises MultihashError for a multihash that is invalid, which starts at its `taken`. If
+    `final` is false, one that is incomplete at the end is no error: more bytes may follow, and `taken` is its start.
+    """
+    items, taken = _core.read_many(data, final)
+    words = memoryview(items).toreadonly()
+    size = struct.calcsize("N")  # an item of the C library is a code in eight bytes and two numbers of this size
+    codes, others = words.cast("Q"), words.cast("Q" if size == 8 else "I")
+    first, step = 8 // size, 8 // size + 2
+    return Columns(codes[:: step // first], others[first::step], others[first + 1 :: step], taken)
+
+
+class MultihashReader(_core.FileReader):
     """Reads concatenated encodings from a binary file. It consumes no byte after the multihash that it returns.
 
     `limit` is the maximum length of a digest, in bytes. `file.read` may return fewer bytes than requested. Nothing
@@ -136,22 +166,6 @@ class MultihashReader(_core.Reader):
 
     def __init__(self, file: _Readable, limit: int = DIGEST_MAX) -> None:
         super().__init__(file, limit)
-
-    def read(self) -> Optional[Multihash]:
-        """Returns the next multihash, or None at the end of the file."""
-        return self._next()
-
-    def __iter__(self) -> Iterator[Multihash]:
-        return self
-
-    def __next__(self) -> Multihash:
-        try:
-            multihash = self.read()
-        except StopIteration as error:  # of the file: raised here it would end a loop
-            raise RuntimeError("the file raised StopIteration") from error
-        if multihash is None:
-            raise StopIteration
-        return multihash
 
 
 class AsyncMultihashReader(_core.Reader):
@@ -200,6 +214,6 @@ def read_from(file: _Readable, limit: int = DIGEST_MAX) -> Optional[Multihash]:
     file does not block and has no bytes yet.
     """
     try:
-        return _core.Reader(file, limit)._next()
+        return _core.FileReader(file, limit).read()
     except BlockingIOError as error:
         raise io.UnsupportedOperation("the file does not block: use a MultihashReader") from error

@@ -1,8 +1,7 @@
 # The functions and types in C. Editors show these texts, and help() those of the module, which are the same.
-from typing import Awaitable, Callable, ClassVar, Literal, Optional, Tuple, Type, Union
+from typing import Awaitable, Callable, ClassVar, Literal, Optional, Self, Tuple, Type, Union
 
 from _typeshed import ReadableBuffer as Buffer
-from typing_extensions import Self
 
 class Multihash:
     """A code below 2**63, which identifies the hash function, and a digest of at most DIGEST_MAX bytes.
@@ -46,8 +45,13 @@ class Reader:
     def _begin(self) -> int: ...
     def _end(self, chunk: object, /) -> bool: ...
     def _fail(self, error: BaseException, /) -> None: ...
-    def _next(self) -> Optional[Multihash]: ...
     def _take(self) -> Optional[Multihash]: ...
+
+class FileReader(Reader):
+    def __iter__(self) -> Self: ...
+    def __next__(self) -> Multihash: ...
+    def read(self) -> Optional[Multihash]:
+        """Returns the next multihash, or None at the end of the file."""
 
 def decode(data: Buffer) -> Multihash:
     """Decodes `data`, which must be exactly one multihash."""
@@ -62,6 +66,13 @@ def scale_decode(data: Buffer) -> Tuple[Multihash, int]:
     """Decodes the multihash at the start of `data` from its SCALE encoding. Returns it and the length read."""
 
 def head(data: Buffer, /) -> Tuple[int, int, int]: ...
+def read_many(data: Buffer, final: bool, /) -> Tuple[bytearray, int]: ...
+def read_varint(data: Buffer) -> Tuple[int, int]:
+    """Decodes the varint at the start of `data`. Returns the number, below 2**63, and the length of the varint."""
+
+def encode_varint(number: int) -> bytes:
+    """Returns the varint of a number below 2**63."""
+
 def encode(code: int, digest: Buffer) -> bytes:
     """Returns the encoding of a code and a digest."""
 
@@ -75,4 +86,3 @@ def compare(left: Multihash, right: Multihash) -> int:
     """Returns -1, 0 or 1: the order of two multihashes."""
 
 def set_error(error: Type[ValueError], statuses: Tuple[int, ...], names: Tuple[str, ...], /) -> None: ...
-def status_text(status: int, /) -> str: ...

@@ -1,0 +1,59 @@
+"""The methods of Multihash that are in Python: they become attributes of the type in C."""
+
+from __future__ import annotations
+
+import re
+from typing import Any, Type, TypeVar
+
+from ._core import Multihash, decode
+
+Own = TypeVar("Own", bound=Multihash)
+
+
+def fromhex(cls: Type[Own], text: str, /) -> Own:
+    """Decodes the multihash whose encoding is all of a text in hexadecimal."""
+    if not isinstance(text, str):
+        raise TypeError("text must be a str (decode takes bytes), not %s" % type(text).__name__)
+    try:
+        data = bytes.fromhex(text)
+    except ValueError:
+        digits = re.sub(r"\s", "", text, flags=re.ASCII)
+        if len(digits) % 2 == 0 or re.search("[^0-9A-Fa-f]", digits):
+            raise
+        raise ValueError("the text has an odd number of hexadecimal digits, %d" % len(digits)) from None
+    found = decode(data)
+    return found if type(found) is cls else cls(found.code, found.digest)
+
+
+def __repr__(self: Multihash) -> str:
+    return "%s.fromhex(%r)" % (type(self).__qualname__, Multihash.hex(self))
+
+
+def __format__(self: Multihash, format_spec: str) -> str:
+    """Formats what str returns."""
+    return format(str(self), format_spec)
+
+
+def __getnewargs__(self: Multihash) -> tuple[int, bytes]:
+    """For pickle and copy: returns the code and the digest."""
+    return self.code, self.digest
+
+
+def __reduce_ex__(self: Multihash, protocol: int) -> Any:
+    """For pickle and copy: what `object` does from the second protocol on, which keeps the attributes of a subclass."""
+    return object.__reduce_ex__(self, 2)
+
+
+def __replace__(self: Own, /, **changes: Any) -> Own:
+    """For copy.replace: returns one with another code or digest."""
+    for name in changes.keys() - {"code", "digest"}:
+        if type(self).__new__ is Multihash.__new__:  # no subclass with other parameters
+            raise TypeError("a Multihash has no field %s: code or digest" % name)
+    fields: dict[str, Any] = {"code": self.code, "digest": self.digest, **changes}
+    return type(self)(**fields)
+
+
+for method in (__repr__, __format__, __getnewargs__, __reduce_ex__, __replace__):
+    method.__qualname__ = "Multihash." + method.__name__
+    setattr(Multihash, method.__name__, method)
+setattr(Multihash, "fromhex", classmethod(fromhex))
