@@ -4,7 +4,7 @@
 # _testcapi, build, setuptools, venv and wheel.
 # shellcheck source=checks/lib/tap.sh
 . "$(dirname "$0")/lib/tap.sh"
-here=$PWD/bindings/python
+top=$PWD here=$PWD/bindings/python
 require cc /usr/bin/python3 /usr/include/python3*/Python.h python:{_testcapi,build,ensurepip,setuptools,wheel}
 python=$work/venv/bin/python
 export MULTIHASH_VERDICTS=$PWD/crates/vectors/data/verdicts.tsv
@@ -60,16 +60,7 @@ drawn() {
 same_cid() {
   cd "$work"
   echo hello > file
-  "$python" - << 'END' > cid
-import base64, pathlib
-from verified_multihash import hashes
-
-content = pathlib.Path("file").read_bytes()
-size = len(content)
-block = bytes([10, size + 6, 8, 2, 18, size]) + content + bytes([24, size])  # dag-pb, as IPFS has files
-multihash = bytes(hashes.digest(block, "sha2-256"))
-print("b" + base64.b32encode(b"\x01\x70" + multihash).decode().lower().rstrip("="))
-END
+  "$python" "$top/checks/lib/cid_of.py" file > cid
   ipfs_cid file | grep -F "\"$(cat cid)\""
 }
 
@@ -117,13 +108,7 @@ built_before() {
 types() {
   local strict=(mypy --strict --cache-dir "$work/mypy" --python-executable "$python")
   cd "$work"
-  python3 - "$here/README.md" > page.py << 'END'
-import doctest, sys
-
-for example in doctest.DocTestParser().get_examples(open(sys.argv[1]).read()):
-    is_wrong = (example.exc_msg or "").startswith("TypeError")
-    print(example.source.rstrip() + "  # type: ignore" * is_wrong)
-END
+  python3 "$top/checks/lib/page_examples.py" "$here/README.md" > page.py
   "${strict[@]}" -p verified_multihash
   "${strict[@]}" --disallow-any-explicit -m verified_multihash -m verified_multihash._core
   PYTHONPATH=$("$python" -c 'import sysconfig; print(sysconfig.get_path("purelib"))') \

@@ -75,37 +75,6 @@ test_targets() {
   done
 }
 
-# Each file has the code of its source without the lines that begin so, up to where their brackets are closed, and
-# without these words; but for lines that are added.
-only_removed() {
-  python3 - << 'END'
-import re, sys
-from pathlib import Path
-source, package = Path("crates/multihash/src"), Path("bindings/rust/verified-multihash/src")
-lines = re.compile(r"(pub )?ghost |requires|ensures|#!?\[tactic|#\[derive\(Drop\)|impl.* (Model for|for Vec<)|"
-    r"use std::(marker::Model|alloc::Global)|(pub )?mod (json|laws|pins);")
-words = r", Drop\b|\b: Drop\b|<W: fmt::Write>|<W>|,? *\balloc: Global,?|\balloc, |\bpub (?=buffer|filled)"
-made = {path for path in package.rglob("*.rs") if "// Made by tools/generate rust." in path.read_text()}
-names = "|".join(path.stem for path in {*package.glob("*.rs")} - made)
-added = (rf"use crate::rattle::|#!\[|#\[cfg\(feature|extern crate|#\[doc\(hidden|"
-    rf"(pub )?mod ({names});|pub use crate::({names})::")
-def code(path, is_left_out):
-    text, depth, is_clause = "", 0, False
-    for line in map(str.strip, path.read_text().splitlines()):
-        if not line.startswith("//") and (depth or is_left_out(line)):
-            is_clause = is_clause if depth else line.startswith(("requires", "ensures"))
-            depth += sum(map(line.count, "([{")) - sum(map(line.count, ")]}"))
-            text += ";" * (is_clause and not depth and line.endswith(";"))  # of a function without a body
-        elif not line.startswith("//"):
-            text += line
-    return re.sub(rf"\s|{words}", "", text)
-for path in sorted(made):
-    place = source / path.relative_to(package).with_suffix(".rt")
-    if code(path, re.compile(added).match) != code(place, lines.match):
-        sys.exit(f"{path} has other code than {place}")
-END
-}
-
 # A command of Cargo prints this and nothing else, but for versions and paths.
 prints_all() { in_crate "${@:2}" | sed 's/ v[0-9].*//' | diff - <(printf '%b\n' "$1"); }
 
@@ -160,7 +129,7 @@ needs=$bare try "the tests without std" without_std
 needs="/usr/bin/cargo /usr/bin/rustc $crates" try "the tests with Debian's Rust" debians_rust
 needs="$cargo $registry/cid-0.5* $registry/multihash-0.11* $registry/unsigned-varint-0.5*" try "beside other crates" \
   tests tests/neighbours cargo test
-try "the proved source" only_removed
+try "the proved source" python3 checks/lib/removed.py
 needs=$cargo try "the packed packages" rust_packed
 needs=$bare try "the switch from upstream's package" rust_switch
 needs="$bare cargo-clippy" try "lints" rust_lints
