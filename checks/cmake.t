@@ -6,8 +6,8 @@
 # shellcheck source=checks/lib/tap.sh
 . "$(dirname "$0")/lib/tap.sh"
 require cc cmake python3 readelf pkg-config
-# shellcheck source=checks/lib/installed.sh
-. checks/lib/installed.sh
+# shellcheck source=checks/lib/cmake.sh
+. checks/lib/cmake.sh
 prefix="$work/a #prefix's"
 libdir=lib/$(cc -print-multiarch) libdir=${libdir%/} # where CMake finds it too
 

@@ -4,8 +4,8 @@
 # rust.t make them, which test them.
 # shellcheck source=checks/lib/tap.sh
 . "$(dirname "$0")/lib/tap.sh"
-# shellcheck source=checks/lib/installed.sh
-. checks/lib/installed.sh
+# shellcheck source=checks/lib/cmake.sh
+. checks/lib/cmake.sh
 upstream=$(sed -n 's/^version = "\(.*\)"/\1/p' bindings/rust/multihash/Cargo.toml)
 node=$(sed -n 's/.*"node": ">=\(.*\)".*/\1/p' bindings/js/package.json)
 oldest=$(sed -n 's/^rust-version = "\(.*\)"/\1/p' bindings/rust/multihash/Cargo.toml)

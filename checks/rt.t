@@ -11,7 +11,7 @@ passes() {
   all=$(cat <(grep '^[a-z]' crates.txt) <(ls crates/*/must-fail/*.edit) | wc -l)
   tail -n 1 "$work/out" | diff - <(echo "$all passed, 0 failed")
   # For the checks that read what it built.
-  [ -z "${KEPT-}" ] || touch "$KEPT/built"
+  [ -z "${RUN_FOLDER-}" ] || touch "$RUN_FOLDER/built"
 }
 
 # The logic is the one that the pages name. Another kit of the same logic proves the same.

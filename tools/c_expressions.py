@@ -51,14 +51,14 @@ class Expressions:
     def __init__(self, program: Program, it: Item, made: Signature) -> None:
         self.program, self.it, self.made, self.depth = program, it, made, 0
         self.known: dict[str, Value] = {}
-        self.taken = set("auto char default double float int long short signed switch unsigned void volatile".split())
+        self.used = set("auto char default double float int long short signed switch unsigned void volatile".split())
         self.mutable: set[str] = set()
         self.slices: list[str] = []  # the names of slices and of their lengths
         self.is_bounded = False  # by a comment, or as an index
 
     def fresh(self, name: str) -> str:
-        found = next(it for it in (name, *(f"{name}_{n}" for n in range(2, 99))) if it not in self.taken)
-        self.taken.add(found)
+        found = next(it for it in (name, *(f"{name}_{n}" for n in range(2, 99))) if it not in self.used)
+        self.used.add(found)
         return found
 
     def name(self, name: str, kind: Type) -> Value:

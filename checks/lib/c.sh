@@ -1,5 +1,5 @@
 # shellcheck shell=bash
-# For c_library.t, generated.t and installed.sh, after tap.sh: options of C compilers, whose warnings are errors, and
+# For c_library.t, generated.t and cmake.sh, after tap.sh: options of C compilers, whose warnings are errors, and
 # the tests of the library for C.
 # shellcheck disable=SC2034,SC2154 # what others use, or have set
 warnings=(-Wall -Wextra -Wpedantic -Wconversion -Wsign-conversion -Wshadow -Wcast-qual -Werror)

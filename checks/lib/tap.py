@@ -40,7 +40,7 @@ def left_out(what: str, gone: list[str]) -> Result:
 def program(crate: str, word: str = "run") -> str:
     """Returns a program of a crate or of its tests. It is built, and run on no input, if no 'rt ci' of this run did."""
     path = CRATES / crate / "out" / (f"{crate}_tests" if word == "test" else crate)
-    if not Path(os.environ.get("KEPT", "/none"), "built").exists():
+    if not Path(os.environ.get("RUN_FOLDER", "/none"), "built").exists():
         path.unlink(missing_ok=True)
         subprocess.run(["rt", word, "--jobs", "1"], cwd=CRATES / crate, stdin=subprocess.DEVNULL, stdout=sys.stderr)
     return str(path)

@@ -103,7 +103,7 @@ static void check_message(const char *const *column)
     release(input);
 }
 
-/* The other calls than multihash_read_limit have the results for the capacity 255. Columns of other encodings may
+/* The other calls than multihash_read_limit have the results for the limit 255. Columns of other encodings may
  * follow. */
 static void check_line(char *text)
 {
