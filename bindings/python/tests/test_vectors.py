@@ -10,7 +10,10 @@ from pathlib import Path
 import verified_multihash as vm
 from verified_multihash import MultihashError
 
-LIST = Path(os.environ.get("MULTIHASH_VERDICTS", Path(__file__).parent / "verdicts.tsv"))
+HERE = Path(__file__).resolve().parent
+# in the repository, or beside this file in an sdist
+DATA = next(path for path in (HERE / "../../../crates/vectors/data", HERE) if path.exists())
+LIST = Path(os.environ.get("MULTIHASH_VERDICTS", DATA / "verdicts.tsv"))
 MORE = bytes(400)
 KINDS = (bytes, bytearray, memoryview)
 VARINT = b"([\x80-\xff]{1,8}[\1-\x7f]|[\0-\x7f])"
