@@ -179,44 +179,34 @@ static PyObject *read_varint(PyObject *module, GIVEN)
     return Py_BuildValue("Kn", (unsigned long long)found.value, (Py_ssize_t)found.length);
 }
 
-/* Decodes the multihashes of a buffer into `items`, a bytearray, and returns the last result, with the numbers of all. A
- * failed allocation has raised an error. */
-static multihash_batch read_items(const uint8_t *bytes, size_t length, PyObject *items)
+/* Decodes the multihashes of a buffer into `items`, a bytearray. Returns the number of bytes consumed; a failed
+ * allocation has raised an error. */
+static size_t read_items(const uint8_t *bytes, size_t length, PyObject *items)
 {
-    multihash_batch part, all = {MULTIHASH_OK, 0, 0, 0};
+    size_t count = 0, taken = 0;
     for (size_t capacity = length / 32 + 1;; capacity *= 2) {
-        if (PyByteArray_Resize(items, (Py_ssize_t)(capacity * sizeof(multihash_item))) < 0) return all;
-        multihash_item *to = (multihash_item *)(void *)PyByteArray_AsString(items) + all.count;
-        part = multihash_read_many(bytes + all.taken, length - all.taken, to, capacity - all.count);
-        for (size_t at = 0; all.taken > 0 && at < part.count; at++) to[at].digest_offset += all.taken;
-        all = (multihash_batch){part.status, part.size, all.count + part.count, all.taken + part.taken};
-        if (all.count < capacity) break;
+        if (PyByteArray_Resize(items, (Py_ssize_t)(capacity * sizeof(multihash_item))) < 0) return 0;
+        multihash_item *to = (multihash_item *)(void *)PyByteArray_AsString(items) + count;
+        multihash_batch part = multihash_read_many(bytes + taken, length - taken, to, capacity - count);
+        for (size_t at = 0; taken > 0 && at < part.count; at++) to[at].digest_offset += taken;
+        count += part.count;
+        taken += part.taken;
+        if (count < capacity) break;
     }
-    PyByteArray_Resize(items, (Py_ssize_t)(all.count * sizeof(multihash_item)));
-    return all;
+    PyByteArray_Resize(items, (Py_ssize_t)(count * sizeof(multihash_item)));
+    return taken;
 }
 
-static PyObject *read_many(PyObject *module, PyObject *arguments)
+static PyObject *read_many(PyObject *module, PyObject *data)
 {
     Py_buffer view;
-    PyObject *data, *items = PyByteArray_FromStringAndSize(NULL, 0);
-    int is_final;
-    if (items == NULL || !PyArg_ParseTuple(arguments, "Op:read_many", &data, &is_final) ||
-        get_buffer(data, "data", PyBUF_SIMPLE, &view) < 0) {
-        Py_XDECREF(items);
-        return NULL;
-    }
-    multihash_batch all = read_items(view.buf, (size_t)view.len, items);
-    if (all.status != MULTIHASH_OK && (is_final || !multihash_is_incomplete(all.status))) {
-        size_t rest = (size_t)view.len - all.taken;
-        input from = {NULL, (const uint8_t *)view.buf + all.taken, rest, rest};
-        multihash_decoded found = multihash_read(from.bytes, rest);
-        found.taken = all.taken;
-        decoded(PyModule_GetState(module), &from, found, &longest);
-    }
+    (void)module;
+    if (get_buffer(data, "data", PyBUF_SIMPLE, &view) < 0) return NULL;
+    PyObject *items = PyByteArray_FromStringAndSize(NULL, 0);
+    size_t taken = items == NULL ? 0 : read_items(view.buf, (size_t)view.len, items);
     PyBuffer_Release(&view);
-    if (!PyErr_Occurred()) return Py_BuildValue("Nn", items, (Py_ssize_t)all.taken);
-    Py_DECREF(items);
+    if (!PyErr_Occurred()) return Py_BuildValue("Nn", items, (Py_ssize_t)taken);
+    Py_XDECREF(items);
     return NULL;
 }
 
@@ -314,7 +304,7 @@ static PyMethodDef functions[] = {
      "scale_decode(data)\n--\n\n"
      "Decodes the multihash at the start of `data` from its SCALE encoding. Returns it and the length read."},
     {"head", head, METH_O, NULL},
-    {"read_many", read_many, METH_VARARGS, NULL},
+    {"read_many", read_many, METH_O, NULL},
     {"read_varint", WITH_NAMES(read_varint),
      "read_varint(data)\n--\n\n"
      "Decodes the varint at the start of `data`. Returns the number, below 2**63, and the length of the varint."},

@@ -1,5 +1,6 @@
 """The test vectors: decoded, read from files, encoded; messages. MULTIHASH_VERDICTS is the path of the list."""
 
+import array
 import io
 import itertools
 import os
@@ -8,6 +9,7 @@ import unittest
 from pathlib import Path
 
 import verified_multihash as vm
+from test_arguments import attributes_of
 from verified_multihash import MultihashError
 
 HERE = Path(__file__).resolve().parent
@@ -62,10 +64,11 @@ def rows_of(path):
     return [dict(zip(columns, line)) for line in lines]
 
 
-def many(data, final=True):
-    """What read_many returns, as pairs: codes and digests."""
-    codes, offsets, lengths, taken = vm.read_many(data, final)
-    return [(code, bytes(data[at : at + size])) for code, at, size in zip(codes, offsets, lengths)], taken
+def many(data):
+    """What read_many returns: pairs of codes and digests, the number of bytes, and the error."""
+    codes, offsets, lengths, taken, error = vm.read_many(data)
+    pairs = [(code, bytes(data[at : at + size])) for code, at, size in zip(codes, offsets, lengths)]
+    return pairs, taken, error
 
 
 class Vectors(unittest.TestCase):
@@ -88,21 +91,15 @@ class Vectors(unittest.TestCase):
         self.assertEqual(found, wanted)
 
     def check_many(self, data, taken, found):
-        """The input after two multihashes, and followed by one if it is one."""
-        front = b"\0\1a\x81\1\0"
-        whole, wanted = front + data + bytes(vm.Multihash(2, b"")), [(0, b"a"), (129, b"")]
-        if isinstance(found, vm.Multihash) and taken == len(data):
-            self.assertEqual(many(whole), ([*wanted, (found.code, found.digest), (2, b"")], len(whole)))
-        elif data and isinstance(found, MultihashError):
-            with self.assertRaises(MultihashError) as raised:
-                vm.read_many(front + data)
-            error = raised.exception
-            self.assertEqual((shown(vm.read, data)[0], error.taken), (shown(vm.read_many, front + data)[0], len(front)))
-            self.assertEqual(str(error), str(shown(vm.read, data)[2]))
-            if found.is_incomplete:
-                self.assertEqual(many(front + data, False), (wanted, len(front)))
-            else:
-                self.assertRaises(MultihashError, vm.read_many, front + data, False)
+        """The input after two multihashes, and before another one if it is one."""
+        front, end, wanted = b"\0\1a\x81\1\0", b"\2\1b", [(0, b"a"), (129, b"")]
+        if isinstance(found, vm.Multihash):
+            wanted += [(found.code, found.digest), (2, b"b")]
+            self.assertEqual(many(front + data[:taken] + end), (wanted, len(front) + taken + len(end), None))
+        elif data:
+            columns = vm.read_many(front + data)
+            self.assertEqual((columns.codes.tolist(), columns.taken), ([0, 129], len(front)))
+            self.assertEqual(attributes_of(columns.error), attributes_of(shown(vm.read, data)[2]))
 
     def check_file(self, data, size, result, consumed):
         for most in (1, 500):
@@ -170,19 +167,20 @@ class Many(unittest.TestCase):
         pairs = [(row % 300, bytes(row % 5 or row % 256)) for row in range(3000)]
         data = b"".join(itertools.starmap(vm.encode, pairs))
         for kind in KINDS:
-            self.assertEqual(many(kind(data)), (pairs, len(data)))
-            self.assertEqual(many(kind(b"")), ([], 0))
-        self.assertEqual(many(bytes(20000)), ([(0, b"")] * 10000, 20000))
+            self.assertEqual(many(kind(data)), (pairs, len(data), None))
+            self.assertEqual(many(kind(b"")), ([], 0, None))
+        self.assertEqual(many(bytes(20000)), ([(0, b"")] * 10000, 20000, None))
 
     def test_columns(self):
         data = bytearray(vm.encode(1 << 62, b"abc") + vm.encode(2, b""))
-        found = vm.read_many(data)
+        found = vm.read_many(data=data)
         for column, numbers in zip(found, ([1 << 62, 2], [10, 15], [3, 0])):
             self.assertEqual((column.tolist(), column.itemsize, column.readonly), (numbers, 8, True))
             self.assertEqual((column[1], list(column), 7 in column), (numbers[1], numbers, False))
         data += b"more"  # the columns keep no buffer of it
         self.assertRaises(BufferError, vm.read_many, memoryview(data)[::2])
-        self.assertEqual(vm.read_many(data=b"\0\0\1", final=False).taken, 2)
+        found = vm.read_many(array.array("H", [0, 0, 0x101]))
+        self.assertEqual((found.taken, found.error.taken, found.error.is_incomplete), (4, 2, True))
 
 
 class Values(unittest.TestCase):

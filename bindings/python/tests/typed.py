@@ -21,8 +21,8 @@ assert_type((vm.scale_decode(ARRAY), vm.encode(18, ARRAY)), Tuple[Tuple[Multihas
 assert_type((vm.scale_encode(18, ARRAY), Multihash(18, ARRAY)), Tuple[bytes, Multihash])
 assert_type((vm.encoded_len(18, 32), vm.compare(multihash, multihash)), Tuple[int, int])
 assert_type((vm.read_varint(data=ARRAY), vm.encode_varint(number=18)), Tuple[Tuple[int, int], bytes])
-assert_type((vm.read_many(data=ARRAY, final=False), vm.read_many(ARRAY).codes), Tuple[vm.Columns, memoryview])
-assert_type((vm.read_many(ARRAY).lengths[0], vm.read_many(ARRAY).taken), Tuple[int, int])
+assert_type((vm.read_many(data=ARRAY), vm.read_many(ARRAY).codes), Tuple[vm.Columns, memoryview])
+assert_type((vm.read_many(ARRAY).lengths[0], vm.read_many(ARRAY).error), Tuple[int, Optional[vm.MultihashError]])
 assert_type((vm.head(DATA).code, vm.head(DATA).digest_length, vm.head(DATA).length), Tuple[int, int, int])
 vm.decode("1200")  # type: ignore[arg-type]
 vm.read(DATA, None)  # type: ignore[arg-type]

@@ -112,15 +112,19 @@ class Head(NamedTuple):
 
 
 class Columns(NamedTuple):
-    """What `read_many` found: memoryviews with a number for each multihash, and the number of bytes consumed.
+    """What `read_many` decoded. Item i of each column belongs to multihash i, from 0 on.
 
-    The digest of number i is `data[offsets[i] : offsets[i] + lengths[i]]`. numpy.asarray(column) copies nothing.
+    `codes` has the codes. The digest is `data[offsets[i] : offsets[i] + lengths[i]]`, if `data` is of bytes.
+    `taken` is the number of bytes consumed: those of all multihashes in the columns.
+    `error` is why the bytes from `taken` on are no multihash, with a `taken` of its own from there on, or None if there
+    are none.
     """
 
     codes: memoryview
     offsets: memoryview
     lengths: memoryview
     taken: int
+    error: Optional[MultihashError]
 
 
 class _Readable(Protocol):
@@ -138,18 +142,24 @@ def head(data: Buffer) -> Head:
     return tuple.__new__(Head, _core.head(data))  # without the arguments of Head, which take longer
 
 
-def read_many(data: Buffer, final: bool = True) -> Columns:
-    """Decodes concatenated encodings, without an object for each. Returns columns of numbers, and copies no digest.
+def read_many(data: Buffer) -> Columns:
+    """Decodes the multihashes in `data`, one after the other, up to the end or the first that is invalid or truncated.
 
-    `data` must be contiguous. Raises MultihashError for a multihash that is invalid, which starts at its `taken`. If
-    `final` is false, one that is incomplete at the end is no error: more bytes may follow, and `taken` is its start.
+    `data` must be contiguous. No digest is copied, and no object is made for a multihash: the columns are memoryviews,
+    which other packages use without a copy. No MultihashError is raised: `error` of the columns has it.
     """
-    items, taken = _core.read_many(data, final)
-    words = memoryview(items).toreadonly()
-    size = struct.calcsize("N")  # an item of the C library is a code in eight bytes and two numbers of this size
-    codes, others = words.cast("Q"), words.cast("Q" if size == 8 else "I")
+    items, taken = _core.read_many(data)
+    error = None
+    if taken < memoryview(data).nbytes:
+        try:
+            read(memoryview(data).cast("B")[taken:])
+        except MultihashError as found:
+            error = found.with_traceback(None)
+    bytes_of_items = memoryview(items).toreadonly()
+    size = struct.calcsize("N")  # an item of the C library is a code, in eight bytes, and two numbers of this size
+    codes, numbers = bytes_of_items.cast("Q"), bytes_of_items.cast("Q" if size == 8 else "I")
     first, step = 8 // size, 8 // size + 2
-    return Columns(codes[:: step // first], others[first::step], others[first + 1 :: step], taken)
+    return Columns(codes[:: step // first], numbers[first::step], numbers[first + 1 :: step], taken, error)
 
 
 class MultihashReader(_core.FileReader):
