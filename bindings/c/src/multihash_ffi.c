@@ -8,125 +8,85 @@
 
 #include "multihash_ffi.h"
 
+/* Defines a function: its type, its name, its parameters, and what it returns. */
+#define MH_FFI(type, name, parameters, ...) type multihash_ffi_##name parameters { return __VA_ARGS__; }
+
+static uint32_t put(uint32_t status, uint64_t *result, uint64_t first, uint64_t second)
+{
+    result[0] = first;
+    result[1] = second;
+    return status;
+}
+
 static uint32_t decoded(multihash_decoded found, uint64_t *result)
 {
-    result[0] = found.size;
-    result[1] = found.code;
     result[2] = found.digest_offset;
     result[3] = found.digest_length;
     result[4] = found.taken;
-    return found.status;
+    return put(found.status, result, found.size, found.code);
+}
+
+static uint32_t batch(multihash_batch found, uint64_t *result)
+{
+    result[2] = found.taken;
+    return put(found.status, result, found.size, found.count);
+}
+
+static uint32_t front(multihash_front head, uint64_t *result)
+{
+    result[2] = head.taken;
+    return put(head.status, result, head.code, head.digest_length);
+}
+
+static uint32_t varint(multihash_varint found, uint64_t *result)
+{
+    return put(found.status, result, found.value, found.length);
 }
 
 static uint32_t encoded(multihash_encoded made, uint64_t *result)
 {
-    result[0] = made.size;
-    result[1] = made.length;
-    return made.status;
+    return put(made.status, result, made.size, made.length);
 }
 
-uint32_t multihash_ffi_from_bytes(const uint8_t *bytes, size_t bytes_length, uint64_t *result)
+static multihash_encoded made_of(uint32_t status, const uint64_t *made)
 {
-    return decoded(multihash_from_bytes(bytes, bytes_length), result);
+    return (multihash_encoded){.status = status, .size = made[0], .length = (size_t)made[1]};
 }
 
-uint32_t multihash_ffi_from_prefix(const uint8_t *prefix, size_t prefix_length, size_t whole_length, uint64_t *result)
-{
-    return decoded(multihash_from_prefix(prefix, prefix_length, whole_length), result);
-}
+MH_FFI(uint32_t, from_bytes, (const uint8_t *bytes, size_t bytes_length, uint64_t *result),
+       decoded(multihash_from_bytes(bytes, bytes_length), result))
+MH_FFI(uint32_t, from_prefix, (const uint8_t *prefix, size_t prefix_length, size_t whole_length, uint64_t *result),
+       decoded(multihash_from_prefix(prefix, prefix_length, whole_length), result))
+MH_FFI(uint32_t, read, (const uint8_t *bytes, size_t bytes_length, uint64_t *result),
+       decoded(multihash_read(bytes, bytes_length), result))
+MH_FFI(uint32_t, read_limit, (const uint8_t *bytes, size_t bytes_length, size_t limit, uint64_t *result),
+       decoded(multihash_read_limit(bytes, bytes_length, limit), result))
+MH_FFI(uint32_t, scale_decode, (const uint8_t *bytes, size_t bytes_length, uint64_t *result),
+       decoded(multihash_scale_decode(bytes, bytes_length), result))
+MH_FFI(uint32_t, read_many, (const uint8_t *bytes, size_t bytes_length, void *out, size_t out_length, uint64_t *result),
+       batch(multihash_read_many(bytes, bytes_length, out, out_length), result))
+MH_FFI(uint32_t, head, (const uint8_t *bytes, size_t bytes_length, uint64_t *result),
+       front(multihash_head(bytes, bytes_length), result))
+MH_FFI(uint32_t, read_varint, (const uint8_t *bytes, size_t bytes_length, uint64_t *result),
+       varint(multihash_read_varint(bytes, bytes_length), result))
+MH_FFI(uint32_t, encoded_len, (uint64_t code, size_t digest_length, uint64_t *result),
+       encoded(multihash_encoded_len(code, digest_length), result))
+MH_FFI(uint32_t, encode,
+       (uint64_t code, const uint8_t *digest, size_t digest_length, uint8_t *out, size_t out_length, uint64_t *result),
+       encoded(multihash_encode(code, digest, digest_length, out, out_length), result))
+MH_FFI(uint32_t, scale_encode,
+       (uint64_t code, const uint8_t *digest, size_t digest_length, uint8_t *out, size_t out_length, uint64_t *result),
+       encoded(multihash_scale_encode(code, digest, digest_length, out, out_length), result))
+MH_FFI(uint32_t, write_varint, (uint64_t value, uint8_t *out, size_t out_length, uint64_t *result),
+       encoded(multihash_write_varint(value, out, out_length), result))
 
-uint32_t multihash_ffi_read(const uint8_t *bytes, size_t bytes_length, uint64_t *result)
-{
-    return decoded(multihash_read(bytes, bytes_length), result);
-}
-
-uint32_t multihash_ffi_read_limit(const uint8_t *bytes, size_t bytes_length, size_t limit, uint64_t *result)
-{
-    return decoded(multihash_read_limit(bytes, bytes_length, limit), result);
-}
-
-uint32_t multihash_ffi_scale_decode(const uint8_t *bytes, size_t bytes_length, uint64_t *result)
-{
-    return decoded(multihash_scale_decode(bytes, bytes_length), result);
-}
-
-uint32_t multihash_ffi_read_many(const uint8_t *bytes, size_t bytes_length, void *out, size_t out_length,
-                                 uint64_t *result)
-{
-    multihash_batch batch = multihash_read_many(bytes, bytes_length, out, out_length);
-    result[0] = batch.size;
-    result[1] = batch.count;
-    result[2] = batch.taken;
-    return batch.status;
-}
-
-uint32_t multihash_ffi_head(const uint8_t *bytes, size_t bytes_length, uint64_t *result)
-{
-    multihash_front head = multihash_head(bytes, bytes_length);
-    result[0] = head.code;
-    result[1] = head.digest_length;
-    result[2] = head.taken;
-    return head.status;
-}
-
-uint32_t multihash_ffi_read_varint(const uint8_t *bytes, size_t bytes_length, uint64_t *result)
-{
-    multihash_varint found = multihash_read_varint(bytes, bytes_length);
-    result[0] = found.value;
-    result[1] = found.length;
-    return found.status;
-}
-
-uint32_t multihash_ffi_encoded_len(uint64_t code, size_t digest_length, uint64_t *result)
-{
-    return encoded(multihash_encoded_len(code, digest_length), result);
-}
-
-uint32_t multihash_ffi_encode(uint64_t code, const uint8_t *digest, size_t digest_length, uint8_t *out,
-                              size_t out_length, uint64_t *result)
-{
-    return encoded(multihash_encode(code, digest, digest_length, out, out_length), result);
-}
-
-uint32_t multihash_ffi_scale_encode(uint64_t code, const uint8_t *digest, size_t digest_length, uint8_t *out,
-                                    size_t out_length, uint64_t *result)
-{
-    return encoded(multihash_scale_encode(code, digest, digest_length, out, out_length), result);
-}
-
-uint32_t multihash_ffi_write_varint(uint64_t value, uint8_t *out, size_t out_length, uint64_t *result)
-{
-    return encoded(multihash_write_varint(value, out, out_length), result);
-}
-
-const char *multihash_ffi_status_text(uint32_t status)
-{
-    return multihash_status_text(status);
-}
-
-const char *multihash_ffi_name(uint64_t code)
-{
-    return multihash_name(code);
-}
-
-int multihash_ffi_is_incomplete(uint32_t status)
-{
-    return multihash_is_incomplete(status);
-}
-
-int multihash_ffi_message(char *text, size_t text_size, const uint8_t *bytes, size_t bytes_length, size_t limit)
-{
-    return multihash_message(text, text_size, bytes, bytes_length, limit);
-}
-
-int multihash_ffi_scale_message(char *text, size_t text_size, const uint8_t *bytes, size_t bytes_length)
-{
-    return multihash_scale_message(text, text_size, bytes, bytes_length);
-}
-
-int multihash_ffi_encode_message(char *text, size_t text_size, uint32_t status, const uint64_t *made, uint64_t code,
-                                 size_t out_length)
-{
-    multihash_encoded result = {.status = status, .size = made[0], .length = (size_t)made[1]};
-    return multihash_encode_message(text, text_size, result, code, out_length);
-}
+MH_FFI(const char *, status_text, (uint32_t status), multihash_status_text(status))
+MH_FFI(const char *, name, (uint64_t code), multihash_name(code))
+MH_FFI(int, is_incomplete, (uint32_t status), multihash_is_incomplete(status))
+MH_FFI(int, message, (char *text, size_t text_size, const uint8_t *bytes, size_t bytes_length, size_t limit),
+       multihash_message(text, text_size, bytes, bytes_length, limit))
+MH_FFI(int, scale_message, (char *text, size_t text_size, const uint8_t *bytes, size_t bytes_length),
+       multihash_scale_message(text, text_size, bytes, bytes_length))
+MH_FFI(int, encode_message,
+       (char *text, size_t text_size, uint32_t status, const uint64_t *made, uint64_t code, size_t out_length),
+       multihash_encode_message(text, text_size, made_of(status, made), code, out_length))
