@@ -1,7 +1,7 @@
 -- Encodings: their parts and lengths; each pair has one; they are bytes. What is known of every value, also of one
 -- that nothing has read yet: its digest fits the buffer. The encoding of a pair in range is `encoding_of` it.
 use Rattle.std.proofs.Common.{◌≡◌, ℕ, ◌<◌, ◌≤◌, ◌+◌, List, [], ◌∷◌, ◌++◌, length, take, refl, sym, ap, ◌∙◌, subst, arith, length-append,
-    append_assoc, map, get_or, append-nil}
+    append_assoc, map, get_or}
 use Rattle.multihash.specs.Pair.{Pair, FitsBuffer}
 use Rattle.multihash.specs.Varint.{IsVarint, max_continuation, varint_limit, continuation_bytes}
 use Rattle.multihash.specs.Encoding.{IsEncoding, varint_of, encoding_of}
@@ -99,18 +99,6 @@ encoding_bytes p bytes digest e =
     All-same (λ b. b < 256) bytes (e.code ++ (e.size ++ p.digest)) e.spelled
     (All-append (λ b. b < 256) e.code (e.size ++ p.digest) (varint_is_bytes p.code e.code e.is_code)
     (All-append (λ b. b < 256) e.size p.digest (varint_is_bytes (length p.digest) e.size e.is_size) digest))
-
--- the digest at the front of a buffer is the pair's
-pub pair_in_front : (code size : ℕ) (digest front rest : List ℕ) → size ≡ length digest → front ≡ digest
-    → ◌≡◌ {A = Pair} (record { code = code; digest = take size (front ++ rest) }) (record { code = code; digest = digest })
-pair_in_front code size digest front rest long same =
-    same_pair (record { code = code; digest = take size (front ++ rest) }) (record { code = code; digest = digest }) refl
-    (take_at front rest size (ap length same ∙ sym long) ∙ same)
-
--- the digest that fills a buffer is the pair's
-pub pair_in_whole : (code size : ℕ) (digest whole : List ℕ) → size ≡ length digest → whole ≡ digest
-    → ◌≡◌ {A = Pair} (record { code = code; digest = take size whole }) (record { code = code; digest = digest })
-pair_in_whole code size digest whole long same = rw (append-nil whole) at (pair_in_front code size digest whole [] long same)
 
 -- the zeros after bytes that are copied to the front of zeros
 pub ruleset zeros_after = (drop-replicate)

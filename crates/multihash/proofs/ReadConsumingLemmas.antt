@@ -53,12 +53,6 @@ pub own_no_verdict : (e : Refusal) (v : Verdict) → IsReaderError e → IsError
 own_no_verdict e v own given =
     own_not_eof e own (subst (IsErrorOf e) (verdict_of_error e v given ∙ ap error_verdict own.1) given)
 
--- nor is it one that `read` lists
-pub own_not_listed : (S : ℕ) (e : Refusal) → IsReaderError e → ReadMayFailWith S e → ⊥
-own_not_listed S e own (inl (size, given, _)) = own_no_verdict e (invalid_size size) own given
-own_not_listed S e own (inr (inl (error, given))) = own_no_verdict e (malformed error) own given
-own_not_listed S e own (inr (inr eof)) = own_not_eof e own eof
-
 -- the error of an incomplete verdict
 pub incomplete_error : (e : Refusal) (v : Verdict) → IsErrorOf e v → IsIncomplete v → IsVarintError insufficient e ⊎ IsEof e
 incomplete_error e (accepted p) given soon = absurd soon

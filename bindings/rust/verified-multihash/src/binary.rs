@@ -83,21 +83,7 @@ impl<const S: usize> Multihash<S> {
         if digest.len() > len {
             return Err(Error::from_size((digest.len() - len) as u64));
         }
-        // The same paths are in `wrap`: a helper for both would copy the value once more, into its `Ok`. With
-        // a length known at compile time the digest is moved as a whole, without a call.
-        if let Some(whole) = whole::<32>(digest) {
-            return Ok(Self::in_buffer(code, 32, Self::padded(whole)));
-        }
-        if let Some(full) = whole::<S>(digest) {
-            return Ok(Self::in_buffer(code, S, *full));
-        }
-        let mut multihash = Multihash {
-            code,
-            digest: [0; S],
-            size: len,
-        };
-        multihash.fill(digest);
-        Ok(multihash)
+        Ok(Self::of_digest(code, digest))
     }
 
     /// Appends the encoding to `w`: the varint of the code, the varint of the digest's length, and the

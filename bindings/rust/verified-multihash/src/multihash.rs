@@ -30,16 +30,7 @@ impl<const S: usize> Multihash<S> {
         if code > varint::MAX {
             return Err(Error::from_code(code));
         }
-        // With a length known at compile time no array is filled on the stack and then moved.
-        if let Some(whole) = whole::<32>(input_digest) {
-            return Ok(Self::in_buffer(code, 32, Self::padded(whole)));
-        }
-        if let Some(whole) = whole::<S>(input_digest) {
-            return Ok(Self::in_buffer(code, S, *whole));
-        }
-        let mut digest = [0; S];
-        copy_to_front(input_digest, &mut digest[..]);
-        Ok(Self::in_buffer(code, len, digest))
+        Ok(Self::of_digest(code, input_digest))
     }
 
     /// Returns the code, which names the hash function: less than 2^63.
@@ -77,21 +68,7 @@ impl<const S: usize> Multihash<S> {
         if self.size > R {
             return Err(Error::from_size(self.size as u64));
         }
-        // With a length known at compile time no array is filled on the stack and then moved.
-        let digest = self.digest();
-        if let Some(whole) = whole::<32>(digest) {
-            return Ok(Multihash::of_whole(self.code, whole));
-        }
-        if let Some(whole) = whole::<S>(digest) {
-            return Ok(Multihash::of_whole(self.code, whole));
-        }
-        let mut resized = Multihash {
-            code: self.code,
-            digest: [0; R],
-            size: self.size,
-        };
-        copy_to_front(digest, &mut resized.digest[..]);
-        Ok(resized)
+        Ok(Multihash::of_digest(self.code, self.digest()))
     }
 
     /// Returns the code, the digest padded with zeros to `S` bytes, and the digest's length in bytes.
@@ -105,14 +82,10 @@ impl<const S: usize> Multihash<S> {
         size <= S as u64 && size <= 255
     }
 
-    // The multihash of a digest whose length is known at compile time.
+    // The multihash of a code and a digest that fit.
     #[inline(always)]
-    fn of_whole<const N: usize>(code: u64, digest: &[u8; N]) -> Self {
-        Multihash {
-            code,
-            digest: Self::padded(digest),
-            size: N,
-        }
+    pub(crate) fn of_digest(code: u64, digest: &[u8]) -> Self {
+        Self::in_buffer(code, digest.len(), Self::array_of(digest))
     }
 
     // The multihash of a buffer whose first bytes are the digest.
@@ -125,13 +98,7 @@ impl<const S: usize> Multihash<S> {
         }
     }
 
-    // Writes a digest of the size that is already set over zeros.
-    #[inline(always)]
-    pub(crate) fn fill(&mut self, digest: &[u8]) {
-        self.digest[..digest.len()].copy_from_slice(digest);
-    }
-
-    // The digest followed by zeros. As in `wrap`, a length known at compile time is moved as a whole.
+    // The digest followed by zeros. A length known at compile time is moved as a whole, without a call.
     #[inline(always)]
     fn array_of(digest: &[u8]) -> [u8; S] {
         if let Some(whole) = whole::<32>(digest) {

@@ -1,9 +1,8 @@
-use Rattle.std.proofs.Common.{◌-◌, ℕ, replicate, refl, ◌∙◌, arith, sym, ap}
+use Rattle.std.proofs.Common.{refl, arith, sym, ap}
 use Rattle.std.proofs.lemmas.List.{take_rest}
 use Rattle.multihash.specs.Verdict.{Verdict, invalid_size, unexpected_eof, accepted, malformed, HasWholeVerdict}
 use Rattle.multihash.specs.Outcome.{IsResultOf}
 use Rattle.multihash.proofs.OutcomeLemmas.{passed_err}
-use Rattle.multihash.proofs.EncodingLemmas.{pair_in_front, pair_in_whole}
 use Rattle.multihash.proofs.VerdictLemmas.{whole_over, whole_short, whole_trailing, whole_exact}
 use Rattle.multihash.proofs.multihash.Multihash.from_bytes.Goals as goal
 
@@ -36,29 +35,10 @@ returns-then-digest-len-2 g c = (
   c.from_size-then-digest-len-2.ensures,
 )
 
-pub returns-in-Some : goal.returns-in-Some
-returns-in-Some g c =
-    let known = c.in-Some.ensures.some in (
-      accepted _,
-      whole_exact _ _ _ _ c.in_ok-head.ensures.ok g.row.S (c.is_valid_size.ensures.fits c.if-not-is_valid_size.false) _ (take_rest c.args.bytes.now _)
-          (omega (arith, c.if-digest-len.false, c.if-digest-len-2.false)),
-      ap accepted (sym (c.in_buffer.ensures
-          ∙ rw c.padded.ensures (pair_in_front _ 32 _ c.in-Some.whole.now (replicate {A = ℕ} (g.row.S - 32) 0) (sym known.1) known.0))),
-    )
-
-pub returns-in-Some-whole : goal.returns-in-Some-whole
-returns-in-Some-whole g c =
-    let known = c.in-Some-whole.ensures.some in (
-      accepted _,
-      whole_exact _ _ _ _ c.in_ok-head.ensures.ok g.row.S (c.is_valid_size.ensures.fits c.if-not-is_valid_size.false) _ (take_rest c.args.bytes.now _)
-          (omega (arith, c.if-digest-len.false, c.if-digest-len-2.false)),
-      ap accepted (sym (c.in_buffer-in-Some-whole.ensures ∙ pair_in_whole _ g.row.S _ _ (sym known.1) known.0)),
-    )
-
 pub returns : goal.returns
 returns g c = (
   accepted _,
   whole_exact _ _ _ _ c.in_ok-head.ensures.ok g.row.S (c.is_valid_size.ensures.fits c.if-not-is_valid_size.false) _ (take_rest c.args.bytes.now _)
       (omega (arith, c.if-digest-len.false, c.if-digest-len-2.false)),
-  ap accepted (sym c.fill.ensures),
+  ap accepted (sym c.of_digest.ensures),
 )
