@@ -22,7 +22,7 @@ const STREAM = 'its stream() is a ReadableStream';
 const OF_TEXTS = {
   __proto__: null, bytes: DECODE, multihash: DECODE, code: 'CODES has the codes of names',
   content: 'new TextEncoder().encode(text) makes bytes', source: 'createReadStream(path) opens a file',
-  'a chunk of the content': ENCODING, 'a chunk of the source': ENCODING,
+  json: 'JSON.parse(text) makes one', 'a chunk of the content': ENCODING, 'a chunk of the source': ENCODING,
 };
 const OF_OTHERS = {
   __proto__: null, Array: 'Uint8Array.from(array) makes bytes', ArrayBuffer: 'new Uint8Array(buffer) makes bytes',

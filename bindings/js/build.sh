@@ -8,7 +8,8 @@ trap 'rm -rf "$work"' EXIT
 [ $# = 0 ] || { sed -n '2,/^[^#]/s/^# \{0,1\}//p' "${BASH_SOURCE[0]}" >&2; exit 2; }
 
 # what core.js calls, and what it asks of the memory
-exports=(__heap_base multihash_{encode,encoded_len,from_bytes,head,read_limit,read_many,scale_decode,scale_encode,version})
+exports=(__heap_base multihash_{encode,encoded_len,from_bytes,head,read_limit,read_many,read_varint,scale_decode})
+exports+=(multihash_{scale_encode,version,write_varint})
 # By words where it can, since each access of a byte is a statement of JavaScript.
 cat > "$work/memcpy.c" << 'END'
 #include <stddef.h>
@@ -24,7 +25,7 @@ void *memcpy(void *restrict to, const void *restrict from, size_t length)
 }
 END
 clang --target=wasm32 -std=c11 -ffreestanding -nostdlib -O2 -I "$c/include" "$c/src/multihash.c" "$work/memcpy.c" \
-  -Wl,--no-entry,--strip-debug "${exports[@]/#/-Wl,--export=}" -o "$work/library.wasm"
+  -Wl,--no-entry,--strip-debug,--max-memory=131072 "${exports[@]/#/-Wl,--export=}" -o "$work/library.wasm"
 
 # The version that a tool prints.
 version() { "$1" --version | sed -nE '1s/.* ([0-9.]+).*/\1/p'; }

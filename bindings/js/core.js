@@ -1,104 +1,17 @@
 // Multihashes over the functions of library.js, which is translated from a proved library.
 import { checkedLength, checkedWide, isBytes, shown, viewOf, wrongType } from './arguments.js';
 import { MultihashError, encodingError, forJSON, reasonOf, scaleReasonOf } from './errors.js';
+import { hex, unhex } from './hex.js';
 import * as library from './library.js';
-import { DIGEST_MAX, HEAD_MAX, LENGTH_MAX } from './limits.js';
+import { DIGEST_MAX, LENGTH_MAX } from './limits.js';
+import { PREFIX_MAX, copied, first, highOf, lengthOf, lowOf, memory, output, put, putFew, result, wide,
+  words } from './memory.js';
 import { INCOMPLETE, STATUSES } from './statuses.js';
-
-// The longest prefix of an input that a result depends on, except for the number of trailing bytes.
-const PREFIX_MAX = HEAD_MAX + DIGEST_MAX;
-
-if (new Uint8Array(Uint32Array.of(1).buffer)[0] !== 1)
-  throw new Error('verified-multihash does not work on big-endian machines: it reads numbers in little-endian memory');
-
-// The memory of the library, which no function grows or frees; the addresses of a result, an input and an output in it,
-// after what the library uses; and the words of the result and the first of the input: a number of 64 bits has two.
-// The digest of an output after two bytes has an aligned address, as that of an input has, so it is copied by words.
-const memory = new Uint8Array(library.memory.buffer);
-const result = library.__heap_base.value;
-const [first, output] = [result + 64, result + 354]; // 290 bytes for PREFIX_MAX
-const FIRST_WORD = 16; // the index in `words` of the first input
-const words = new Uint32Array(memory.buffer, result, FIRST_WORD + 1);
-
-// The addresses of many results, of four words each, and of a long input.
-const [items, block] = [result + 624, result + 624 + 16384];
-const ITEMS = 1024;
-const BLOCK = 32768;
-const itemWords = new Uint32Array(memory.buffer, items, 4 * ITEMS);
-
-// Views of the memory by address and length: to make one is as slow as to copy from it.
-const views = [];
-
-// ---- arguments
-
-/** Copies at most PREFIX_MAX bytes into the library's memory, and returns the length of the whole input. */
-function put(data, name) {
-  const length = checkedLength(data, name);
-  memory.set(length <= PREFIX_MAX ? data : viewOf(data, 0, PREFIX_MAX), first);
-  return length;
-}
-
-/** The low and the high half of a number that `checkedWide` accepts. */
-const lowOf = (number) => (typeof number === 'number' ? number : Number(number & 0xffffffffn)) | 0;
-const highOf = (number) => (typeof number === 'number' ? number / 0x100000000 : Number(number >> 32n)) | 0;
-
-/** A length in the library, in which the largest stands for all above it: a call rejects it too. */
-export const lengthOf = (number) => Math.min(Number(number), 0xffffffff);
-
-/** The value of a hexadecimal digit: 0x30 is the code of 0, 0x41 of A, 0x61 of a. */
-function digitAt(text, index) {
-  const code = text.charCodeAt(index);
-  return (code & 15) + 9 * (code >> 6);
-}
-
-/** The bytes of a text of hexadecimal digits. */
-function unhex(text, name = 'text') {
-  if (typeof text !== 'string') throw wrongType(name, 'a string', text);
-  const at = text.search(/[^0-9a-f]/i);
-  if (at >= 0 || text.length % 2 !== 0) {
-    const what = at < 0 ? `an odd number of digits, ${text.length}` :
-      `${JSON.stringify(String.fromCodePoint(text.codePointAt(at)))} at index ${at}, which is no hexadecimal digit`;
-    throw new MultihashError(`the ${name} has ${what}`, { status: 'not_hexadecimal' });
-  }
-  const bytes = new Uint8Array(text.length / 2);
-  for (let index = 0; index < bytes.length; index++)
-    bytes[index] = 16 * digitAt(text, 2 * index) + digitAt(text, 2 * index + 1);
-  return bytes;
-}
-
-// ---- results
-
-/** A number of 64 bits in the result, or in other words: a bigint only where a number would not be exact. */
-function wide(at, from = words) {
-  const low = from[at];
-  const high = from[at + 1];
-  if (high === 0) return low;
-  return high < 0x200000 ? high * 0x100000000 + low : (BigInt(high) << 32n) | BigInt(low);
-}
 
 /** A code as results have it: a bigint only where a number would not be exact. */
 const resultOf = (code) => (code > Number.MAX_SAFE_INTEGER ? code : Number(code) + 0); // -0 is 0
 
-/** Copies bytes of the library's memory. */
-function copied(at, length) {
-  const row = (views[at - first] ??= []);
-  return new Uint8Array((row[length] ??= memory.subarray(at, at + length)));
-}
-
-const DIGITS = Uint8Array.from('0123456789abcdef', (digit) => digit.charCodeAt(0));
-const digits = new Uint8Array(2 * LENGTH_MAX);
-const decoder = new TextDecoder();
-
-/** At most LENGTH_MAX bytes in hexadecimal. A text made by additions takes several times as long. */
-function hex(bytes) {
-  for (let index = 0; index < bytes.length; index++) {
-    digits[2 * index] = DIGITS[bytes[index] >> 4];
-    digits[2 * index + 1] = DIGITS[bytes[index] & 15];
-  }
-  return decoder.decode(digits.subarray(0, 2 * bytes.length));
-}
-
-const MAKING = Symbol('making');
+export const MAKING = Symbol('making');
 
 /**
  * A code, which names a hash function, and a digest. The fields are not frozen: that would double the time of `decode`.
@@ -194,7 +107,7 @@ const detailsOf = (taken) =>
   ({ status: STATUSES[words[0]], size: wide(2) || undefined, code: wide(4) || undefined, taken });
 
 /** The error in the result of a decoding that consumed `taken` bytes of the input at an address, of that length. */
-function rejected(length, taken, limit = DIGEST_MAX, input = first) {
+export function rejected(length, taken, limit = DIGEST_MAX, input = first) {
   const details = detailsOf(taken);
   library.multihash_head(result, input, Math.min(length, PREFIX_MAX));
   const head = { taken: words[6], digestLength: wide(4) };
@@ -231,70 +144,9 @@ export function readAt(bytes, at, limit, isLast) {
   return { multihash: found(), taken: words[8] };
 }
 
-/**
- * Decodes multihashes one after the other, of at most a block of the bytes from an index on: none if the first of them is
- * malformed or truncated. Returns four words of each: those of `multihash_item`, with offsets from that index on.
- */
-export function itemsAt(bytes, at, length) {
-  const size = Math.min(length - at, BLOCK);
-  memory.set(viewOf(bytes, at, size), block);
-  library.multihash_read_many(result, block, size, items, ITEMS);
-  return itemWords.slice(0, 4 * words[4]);
-}
-
-/** The multihash of an item that `itemsAt` found from that index of a plain Uint8Array on. */
-export function multihashOf(found, item, bytes, at) {
-  const start = at + found[item + 2];
-  return new Multihash(MAKING, wide(item, found), bytes.slice(start, start + found[item + 3]));
-}
-
-/** Decodes the multihashes at the start of the bytes, one after the other, into columns. */
-export function readMany(bytes) {
-  const length = checkedLength(bytes, 'bytes');
-  const blocks = [];
-  let [taken, count] = [0, 0];
-  for (let found; taken < length && (found = itemsAt(bytes, taken, length)).length > 0; ) {
-    blocks.push([taken, found]);
-    count += found.length / 4;
-    taken += found.at(-2) + found.at(-1); // the last digest ends there
-  }
-  let error;
-  if (taken < length) {
-    const rest = Math.min(length - taken, PREFIX_MAX); // in the block, in which nothing was found
-    library.multihash_read_limit(result, block, rest, DIGEST_MAX);
-    error = rejected(rest, words[8], DIGEST_MAX, block);
-  }
-  return { ...columnsOf(blocks, count), taken, error };
-}
-
-/** The columns of the items of blocks, with the index in the input at which each block starts. */
-function columnsOf(blocks, count) {
-  const codes = new BigUint64Array(count);
-  const halves = new Uint32Array(codes.buffer);
-  const offsets = new Float64Array(count); // a Uint32Array would be too small for an input of 4 GiB
-  const lengths = new Uint8Array(count);
-  let at = 0;
-  for (const [start, found] of blocks) {
-    for (let item = 0; item < found.length; item += 4, at++) {
-      halves[2 * at] = found[item];
-      halves[2 * at + 1] = found[item + 1];
-      offsets[at] = start + found[item + 2];
-      lengths[at] = found[item + 3];
-    }
-  }
-  return { codes, offsets, lengths };
-}
-
 /** Decodes the two varints before a digest. */
 export function head(bytes) {
-  const length = checkedLength(bytes, 'bytes');
-  // four bytes, which suffice for most heads, are copied faster so than by `set`
-  words[FIRST_WORD] = bytes[0] | (bytes[1] << 8) | (bytes[2] << 16) | (bytes[3] << 24);
-  library.multihash_head(result, first, Math.min(length, 4));
-  if (STATUSES[words[0]] === 'insufficient') {
-    put(bytes, 'bytes');
-    library.multihash_head(result, first, Math.min(length, PREFIX_MAX));
-  }
+  const length = putFew(library.multihash_head, bytes);
   if (words[0] !== 0) throw rejected(length, words[6]);
   return { code: wide(2), digestLength: wide(4), taken: words[6] };
 }

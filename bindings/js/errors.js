@@ -42,6 +42,9 @@ const tooLarge = (code) => `the code ${code} is 2^63 or more`;
 const truncated = (part, count, length) =>
   `the input ends ${count === 0 ? 'before' : 'inside'} the ${part} (${count} of ${length} bytes)`;
 
+const malformed = (name, status) =>
+  `the ${name} ${status === 'overflow' ? 'has more than nine bytes' : 'is not minimal: it ends in a zero byte'}`;
+
 /** Why an input of that length is rejected. The last argument is what `multihash_head` returns for it. */
 export function reasonOf(status, limit, input, length, { taken, digestLength }) {
   const rest = length - taken;
@@ -52,10 +55,15 @@ export function reasonOf(status, limit, input, length, { taken, digestLength }) 
   const codeEnd = input.subarray(0, Math.min(length, 9)).findIndex((byte) => byte < 128) + 1;
   const isCode = codeEnd === 0 || (status === 'not_minimal' && codeEnd > 1 && input[codeEnd - 1] === 0);
   const name = isCode ? 'code' : "digest's length";
-  if (status === 'overflow') return `the varint of the ${name} has more than nine bytes`;
-  if (status === 'not_minimal') return `the varint of the ${name} is not minimal: it ends in a zero byte`;
+  if (status !== 'insufficient') return malformed(`varint of the ${name}`, status);
   if (length === 0) return 'the input is empty';
   return `the input ends ${length === codeEnd ? 'before' : 'inside'} the ${name}`;
+}
+
+/** Why the varint at the start of an input of that length is rejected. */
+export function varintReasonOf(status, length) {
+  if (status !== 'insufficient') return malformed('varint', status);
+  return length === 0 ? 'the input is empty' : 'the input ends inside the varint';
 }
 
 /** Why an input of that length is rejected as SCALE. */

@@ -2,8 +2,8 @@
 import { bufferOf, checkedLength, checkedOptions, isBytes, shown, viewOf, wrongType } from './arguments.js';
 import { CODES, NAMES } from './codes.js';
 import { Multihash, decode } from './core.js';
-import { DIGEST_MAX } from './limits.js';
 import { MultihashError } from './errors.js';
+import { DIGEST_MAX } from './limits.js';
 import { sourceOf } from './sources.js';
 
 export { CODES, NAMES };

@@ -134,6 +134,18 @@ export function read(bytes: Uint8Array, limit?: Wide): Read;
 export function readMany(bytes: Uint8Array): Columns;
 /** Decodes the two varints before a digest. */
 export function head(bytes: Uint8Array): Head;
+/**
+ * Decodes the varint at the start of `bytes`: any number of multiformats, such as a CID's version or a block's length.
+ * `taken` is the varint's length.
+ */
+export function readVarint(bytes: Uint8Array): { readonly value: Wide; readonly taken: number };
+/** Returns the varint of a number. Throws a `MultihashError` with the status `overflow` if that is 2^63 or more. */
+export function encodeVarint(value: Wide): Uint8Array;
+/**
+ * Writes the varint of a number to `bytes`, from the index `at` on, by default 0. Returns the number of bytes that it
+ * wrote. Throws what `encodeVarint` does, and a `RangeError` if the varint does not fit; then it wrote nothing.
+ */
+export function writeVarint(value: Wide, bytes: Uint8Array, at?: number): number;
 /** Returns the encoding of a code and a digest. */
 export function encode(code: Wide, digest: Uint8Array): Uint8Array;
 /** Returns the length of the encoding of a code and a digest of `digestLength` bytes. */

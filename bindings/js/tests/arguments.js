@@ -148,7 +148,30 @@ export function multihashes(module) {
     const made = Multihash.of(code, Uint8Array.of(0, 171));
     const wanted = `{"code":${text},"size":2,"digest":"00ab"}`;
     same(JSON.stringify([made, module.decode(made.bytes)]), `[${wanted},${wanted}]`, 'in JSON');
+    same(made.digestHex, '00ab', 'digestHex');
+    const again = Multihash.fromJSON(JSON.parse(wanted));
+    same(`${again.equals(made)} ${typeof again.code}`, `true ${typeof made.code}`, 'from JSON');
   }
+  same(Multihash.of(18, new Uint8Array()).digestHex, '', 'an empty digest');
+}
+
+/** What `toJSON` does not return is rejected, by the argument that is wrong. */
+export function wrongJSON({ Multihash, MultihashError }) {
+  const json = { code: 18, size: 2, digest: '00ab' };
+  same(`${Multihash.fromJSON({ code: '18', digest: '00AB' })}`, '120200ab', 'without a size, a code as text');
+  same(`${Multihash.fromJSON({ ...json, code: 18n })}`, '120200ab', 'a code that is a bigint');
+  const wrong = [
+    [TypeError, '{}', 'json object string JSON.parse'], [TypeError, null, 'json object null'],
+    [TypeError, { ...json, code: undefined }, 'code number undefined'], [TypeError, { ...json, code: '' }, 'code string'],
+    [TypeError, { ...json, code: '0x12' }, 'code string CODES'], [RangeError, { ...json, code: -1 }, 'code 2^53 -1'],
+    [RangeError, { ...json, code: '9'.repeat(99) }, `code 2^63 ${'9'.repeat(40)}...`], [TypeError, {}, 'digest string undefined'],
+    [TypeError, { ...json, digest: new Uint8Array(2) }, 'digest string Uint8Array'],
+    [MultihashError, { ...json, digest: '00a' }, 'digest odd 3'], [MultihashError, { ...json, digest: '0x00' }, 'digest x 1'],
+    [RangeError, { ...json, size: 3 }, 'size 2 3'], [RangeError, { ...json, size: '2' }, 'size 2 2'],
+    [MultihashError, { code: 18, digest: '00'.repeat(256) }, 'digest 256 255'],
+    [MultihashError, { ...json, code: `${2n ** 63n}` }, `code ${2n ** 63n} 2^63`],
+  ];
+  for (const [kind, value, words] of wrong) fails(kind, () => Multihash.fromJSON(value), JSON.stringify(value), words);
 }
 
 /** Whether a clone of an error keeps its cause, which Safari drops. */

@@ -8,6 +8,8 @@ import { tmpdir } from 'node:os';
 import { extname, join, normalize } from 'node:path';
 
 const [, , name, path, ...folders] = process.argv;
+// Pages have SharedArrayBuffer only then.
+const ISOLATED = { 'Cross-Origin-Opener-Policy': 'same-origin', 'Cross-Origin-Embedder-Policy': 'require-corp' };
 const types = { '.html': 'text/html; charset=utf-8', '.js': 'text/javascript' };
 
 const commands = {
@@ -31,7 +33,7 @@ async function serve(request, response) {
   }
   const { pathname } = new URL(request.url, 'http://localhost');
   const file = folders.map((folder) => join(folder, normalize(pathname))).find(existsSync);
-  response.writeHead(file ? 200 : 404, { 'Content-Type': types[extname(pathname)] ?? 'application/octet-stream' });
+  response.writeHead(file ? 200 : 404, { ...ISOLATED, 'Content-Type': types[extname(pathname)] ?? 'application/octet-stream' });
   response.end(file && readFileSync(file));
 }
 

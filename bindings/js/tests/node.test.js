@@ -7,7 +7,7 @@ import { Readable } from 'node:stream';
 import { test } from 'node:test';
 import { clearImmediate, setImmediate } from 'node:timers';
 import { fileURLToPath } from 'node:url';
-import { SourceTextModule, createContext, runInContext } from 'node:vm';
+import { SourceTextModule, createContext } from 'node:vm';
 import * as index from '../index.js';
 import { multihash_version } from '../library.js';
 import { hex, same, says, told } from './check.js';
@@ -19,10 +19,9 @@ const bytesOf = (name) => readFileSync(new URL(`../${name}`, import.meta.url));
 const vectors = process.env.MULTIHASH_VERDICTS ??
   fileURLToPath(new URL('../../../crates/vectors/data/verdicts.tsv', import.meta.url));
 
-/** Evaluates the package in a context of its own, which has neither WebAssembly nor what else is not passed. */
+/** Evaluates the package in a context of its own, in which it compiles no text, and which has only what is passed. */
 async function inContext(globals = {}) {
-  const context = createContext({ TextDecoder, ...globals }, { codeGeneration: { strings: false, wasm: false } });
-  runInContext('delete globalThis.WebAssembly', context);
+  const context = createContext({ TextDecoder, ...globals }, { codeGeneration: { strings: false } });
   const files = {};
   const parsed = (file) => (files[file] ??= new SourceTextModule(bytesOf(file).toString(), { context }));
   const entry = parsed('index.js');
@@ -43,6 +42,26 @@ async function webCrypto(text) {
   for (const check of [hashes, hashStreams]) await check(entry, '', text);
   const [ours, theirs] = [index, entry].map(({ sha256 }) => sha256.digest(new Uint8Array(2 ** 21 + 1)));
   same(`${await theirs}`, `${await ours}`, 'more than Node.js hashes at once');
+}
+
+/** A machine that stores the high byte of a number first gets an error, not wrong results. */
+async function bigEndian() {
+  class Words extends Uint32Array {
+    static of = (...words) => Uint32Array.of(...words.map((word) => word * 2 ** 24));
+  }
+  says(await told(inContext({ Uint32Array: Words })), 'Error big-endian', 'the order of bytes');
+}
+
+/** What `decode` imports, and so what a bundle with it alone holds. */
+function imports() {
+  const found = new Set();
+  const add = (file) => {
+    if (found.has(file)) return;
+    found.add(file);
+    for (const [, other] of bytesOf(file).toString().matchAll(/ from '\.\/(.*)';/g)) add(other);
+  };
+  add('core.js');
+  same(`${[...found].sort()}`, 'arguments.js,core.js,errors.js,hex.js,library.js,limits.js,memory.js,statuses.js', 'imports');
 }
 
 /** Large content leaves time for other work, and identity does not copy or compare it. */
@@ -143,5 +162,5 @@ function declared(module) {
 const beside = ['hashes.tsv', 'values.tsv', 'messages.tsv'].map((name) => join(dirname(vectors), name));
 const texts = [vectors, ...beside].map((path) => readFileSync(path, 'utf8'));
 test(webCrypto.name, () => webCrypto(texts[1]));
-for (const check of [declared, largeContent, nodeStreams, unreadStreams]) test(check.name, () => check(index));
+for (const check of [bigEndian, declared, imports, largeContent, nodeStreams, unreadStreams]) test(check.name, () => check(index));
 for (const [name, check] of Object.entries(tests)) test(name, () => check(index, ...texts));

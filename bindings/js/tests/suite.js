@@ -2,7 +2,8 @@
 // of hash functions, values and messages.
 import * as ofArguments from './arguments.js';
 import * as ofHashes from './hashes.js';
+import * as ofMany from './many.js';
 import { streams } from './stream.js';
 import { values, vectors } from './vectors.js';
 
-export const tests = { ...ofArguments, ...ofHashes, streams, values, vectors };
+export const tests = { ...ofArguments, ...ofHashes, ...ofMany, streams, values, vectors };

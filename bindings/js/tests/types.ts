@@ -20,6 +20,9 @@ type Read = { readonly multihash: Multihash; readonly taken: number };
 is<(bytes: Uint8Array) => Multihash>()(decode);
 is<(bytes: Uint8Array, limit?: Wide) => Read>()(read);
 is<(bytes: Uint8Array) => Read>()(scaleDecode);
+is<(bytes: Uint8Array) => { readonly value: Wide; readonly taken: number }>()(index.readVarint);
+is<(value: Wide) => Uint8Array>()(index.encodeVarint);
+is<(value: Wide, bytes: Uint8Array, at?: number) => number>()(index.writeVarint);
 is<(bytes: Uint8Array) => index.Columns>()(readMany);
 is<{ readonly codes: BigUint64Array; readonly offsets: Float64Array; readonly lengths: Uint8Array;
   readonly taken: number; readonly error: MultihashError | undefined }>()(readMany(bytes));
@@ -28,8 +31,8 @@ is<(code: Wide, digest: Uint8Array) => Uint8Array>()(encode);
 is<(code: Wide, digest: Uint8Array) => Uint8Array>()(scaleEncode);
 is<(code: Wide, digestLength: Wide) => number>()(encodedLength);
 is<(left: Multihash, right: Multihash) => -1 | 0 | 1>()(compare);
-is<readonly [255, 18, 266, 264]>()(
-  [index.DIGEST_MAX, index.HEAD_MAX, index.LENGTH_MAX, index.SCALE_LENGTH_MAX] as const);
+is<readonly [255, 18, 266, 264, 9]>()(
+  [index.DIGEST_MAX, index.HEAD_MAX, index.LENGTH_MAX, index.SCALE_LENGTH_MAX, index.VARINT_LENGTH_MAX] as const);
 
 is<{ (code: number, digest: Uint8Array): Multihash<number>; (code: Wide, digest: Uint8Array): Multihash }>()(
   Multihash.of);

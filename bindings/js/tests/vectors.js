@@ -14,8 +14,8 @@ Object.defineProperties(Lying.prototype, {
   [Symbol.toStringTag]: { value: 'Int8Array' },
 });
 
-// a page may lack the constructor SharedArrayBuffer, so this is the buffer of a memory
-const SHARED = new WebAssembly.Memory({ initial: 1, maximum: 1, shared: true }).buffer;
+// some browsers have shared memory for no page
+const SHARED = new (globalThis.SharedArrayBuffer ?? ArrayBuffer)(2 ** 16);
 
 /** A view of these bytes amid others in a larger buffer. */
 function amid(bytes, buffer = new ArrayBuffer(bytes.length + 7), kind = Uint8Array) {
