@@ -7,8 +7,8 @@ require cc python3
 # shellcheck source=checks/lib/c.sh
 . checks/lib/c.sh
 
-# The headers, by a compiler for C and one for C++, of the oldest and the newest standards. The tests are of others. A
-# field or a parameter of another type is an error in the source or the tests. The others include the first.
+# The headers, by a compiler for C and one for C++, of the oldest and the newest standards; each after multihash.h, which
+# it includes or needs. The tests are of other standards. A field or a parameter of another type is an error in them.
 headers() {
   local header standard
   for header in "$c"/include/*.h; do

@@ -52,7 +52,7 @@ has_shared_library() {
   readelf -W -d -l "$1" | awk '$1 == "GNU_STACK" { print $1, $7 } $1 == "GNU_RELRO" { print $1 }
     $2 == "(FLAGS)" { print $3 } $2 ~ /SONAME|NEEDED/ { gsub(/[][]/, ""); print $NF }' | sort |
     diff <(printf '%s\n' BIND_NOW GNU_RELRO "GNU_STACK RW" "${@:2}" libc.so.6 "libmultihash_c.so.$major") -
-  readelf -W --dyn-syms "$1" | awk '$7 ~ /^[0-9]+$/ && $4 != "OBJECT" { print $8 }' | sed 's/@@MULTIHASH_C_.*//' | sort |
+  readelf -W --dyn-syms "$1" | awk '$7 ~ /^[0-9]+$/ && $4 != "SECTION" { print $8 }' | sed 's/@@MULTIHASH_C_.*//' | sort |
     diff <({ exported; grep -oP 'multihash_ffi_\w+(?=\()' "$c/include/multihash_ffi.h"; } | sort) -
 }
 
