@@ -1,5 +1,5 @@
 // Hash functions of node:crypto, or of WebCrypto in browsers.
-import type { ByteStream, Multihash, MultihashDigest } from './index.js';
+import type { ByteStream, Multihash, MultihashDigest, Wide } from './index.js';
 
 export { CODES, NAMES } from './codes.js';
 
@@ -9,6 +9,28 @@ export { CODES, NAMES } from './codes.js';
  */
 export type Content = Uint8Array | ByteStream | AsyncIterable<Uint8Array>;
 
+/** An object that hashes, as those of `@noble/hashes`, `hash-wasm` and `createHash` of node:crypto do. */
+export interface Hash {
+  update(bytes: Uint8Array): unknown;
+  /** The argument is passed to objects that have `init`, as those of `hash-wasm`, and that return a text otherwise. */
+  digest(encoding: 'binary'): Uint8Array | PromiseLike<Uint8Array>;
+}
+
+/**
+ * Hash functions, by their codes or their names in `CODES`: what begins to hash, or an object whose `create` does, as a
+ * function of `@noble/hashes` has. They take precedence over those of the platform.
+ */
+export type Functions = Readonly<Record<string | number, (() => Hash) | { create(options?: any): Hash }>>;
+
+/**
+ * The error of a hash function that the platform does not have, and that was not passed in `functions`: nothing was
+ * hashed, so the content is neither right nor wrong.
+ */
+export class UnsupportedHashError extends RangeError {
+  constructor(code: Wide);
+  readonly code: Wide;
+}
+
 /** A hash function, with the properties of `MultihashHasher` in js-multiformats. */
 export interface MultihashHasher<Code extends number = number> {
   readonly name: string;
@@ -17,7 +39,7 @@ export interface MultihashHasher<Code extends number = number> {
    * Returns the multihash of the content, with the first `truncate` bytes of the digest if that is given. The memory
    * of content above 1 MiB must not change until the promise is settled. A browser holds a whole stream in memory.
    */
-  digest(content: Content, options?: { truncate?: number }): Promise<Multihash<Code>>;
+  digest(content: Content, options?: { truncate?: number; functions?: Functions }): Promise<Multihash<Code>>;
 }
 
 /**
@@ -39,8 +61,20 @@ export const sha384: MultihashHasher<0x20>;
 export const sha512: MultihashHasher<0x13>;
 
 /**
- * Returns whether the multihash, or its encoding, is the multihash of the content: false for a truncated digest.
- * Throws a `RangeError` if the platform does not have the function. The time for digests of equal lengths does not
- * depend on their bytes.
+ * Returns the multihash of the content by the function of a name in `CODES`, or of a code. Throws an
+ * `UnsupportedHashError` if neither `functions` nor the platform has it. The rest is as for `MultihashHasher`.
  */
-export function verify(multihash: MultihashDigest | Uint8Array, content: Content): Promise<boolean>;
+export function digest(
+  content: Content, hash: string | number, options?: { truncate?: number; functions?: Functions },
+): Promise<Multihash<number>>;
+export function digest(
+  content: Content, hash: string | Wide, options?: { truncate?: number; functions?: Functions },
+): Promise<Multihash>;
+/**
+ * Returns whether the multihash, or its encoding, is the multihash of the content: false for a truncated digest.
+ * Throws an `UnsupportedHashError` if neither `functions` nor the platform has the function. The time for digests of
+ * equal lengths does not depend on their bytes.
+ */
+export function verify(
+  multihash: MultihashDigest | Uint8Array, content: Content, options?: { functions?: Functions },
+): Promise<boolean>;

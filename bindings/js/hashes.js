@@ -1,5 +1,5 @@
 // Hash functions of node:crypto or WebCrypto, which make and verify multihashes.
-import { bufferOf, checkedLength, checkedOptions, isBytes, shown, viewOf, wrongType } from './arguments.js';
+import { bufferOf, checkedLength, checkedOptions, checkedWide, isBytes, received, shown, viewOf, wrongType } from './arguments.js';
 import { CODES, NAMES } from './codes.js';
 import { Multihash, decode } from './core.js';
 import { MultihashError } from './errors.js';
@@ -13,6 +13,17 @@ const node = globalThis.process?.getBuiltinModule?.('node:crypto');
 
 const PIECE = node ? 2 ** 20 : Infinity; // bytes that are hashed at once: WebCrypto hashes in a thread of its own
 const later = () => new Promise((resolve) => globalThis.setImmediate(resolve));
+
+/** The error of a hash function that the platform does not have, and that was not passed: nothing was hashed. */
+export class UnsupportedHashError extends RangeError {
+  constructor(code) {
+    const name = NAMES[code] ? ` (${NAMES[code]})` : '';
+    super(`this platform has no function for the code 0x${code.toString(16)}${name}: the option functions takes one`);
+    this.code = code;
+  }
+}
+Object.defineProperty(UnsupportedHashError.prototype, 'name',
+  { value: 'UnsupportedHashError', writable: true, configurable: true });
 
 /** Hashes pieces with a function of node:crypto. */
 function byNode(algorithm, outputLength) {
@@ -118,26 +129,64 @@ for (const name of Object.keys(CODES)) {
   if (begin) beginnings[name] = begin;
 }
 
-function hasher(name) {
-  const code = CODES[name];
-  return Object.freeze({
-    name,
-    code,
-    digest: (content, options = {}) => reading(content, async (open) => {
-      const { truncate } = checkedOptions(options);
-      const whole = await digestOf(beginnings[name], content, open);
-      const { length } = whole;
-      if (length > DIGEST_MAX)
-        throw new MultihashError(`identity takes at most ${DIGEST_MAX} bytes of content, got ${length}`,
-          { status: 'invalid_size', size: length });
-      const size = truncate ?? length;
-      if (typeof size !== 'number') throw wrongType('truncate', 'a number', size);
-      if (!Number.isInteger(size) || size < 0 || size > length)
-        throw new RangeError(`truncate must be a whole number from 0 to ${length}, got ${shown(size)}`);
-      return Multihash.of(code, whole.subarray(0, size));
-    }),
-  });
+/** Hashes pieces with an object of @noble/hashes, hash-wasm or node:crypto, which a function of a caller returns. */
+function byOwn(create, name) {
+  const hash = create();
+  if (typeof hash?.update !== 'function' || typeof hash.digest !== 'function')
+    throw new TypeError(`${name} must return an object with the methods update and digest, got ${received(hash)}`);
+  return {
+    update: (piece) => hash.update(piece),
+    async digest() {
+      // hash-wasm, whose objects have `init`, returns hexadecimal otherwise, and node:crypto a text if it is asked so
+      const digest = await (hash.init ? hash.digest('binary') : hash.digest());
+      if (!isBytes(digest)) throw new TypeError(`${name} must make a digest that is a Uint8Array, got ${received(digest)}`);
+      return digest;
+    },
+  };
 }
+
+/** What begins to hash with the function of a code: a caller's, by its name or code, or that of the platform. */
+function beginningFor(code, functions = {}) {
+  if (typeof functions !== 'object' || functions === null) throw wrongType('functions', 'an object', functions);
+  const key = [code, NAMES[code]].find((each) => Object.prototype.hasOwnProperty.call(functions, each));
+  if (key === undefined) {
+    if (!beginnings[NAMES[code]]) throw new UnsupportedHashError(code);
+    return beginnings[NAMES[code]];
+  }
+  const own = functions[key];
+  const create = typeof own?.create === 'function' ? () => own.create() : own;
+  if (typeof create !== 'function') throw wrongType(`functions[${key}]`, 'a function', own);
+  return () => byOwn(create, `functions[${key}]`);
+}
+
+/** The code of a name, or itself. */
+function codeOf(hash) {
+  if (typeof hash !== 'string') return checkedWide(hash, 'hash');
+  if (CODES[hash] === undefined) throw new RangeError(`hash must be a name in CODES or a code, got ${shown(hash)}`);
+  return CODES[hash];
+}
+
+/**
+ * Returns the multihash of the content by the function of a name or a code. `functions` has functions that the platform
+ * lacks.
+ */
+export const digest = (content, hash, options = {}) => reading(content, async (open) => {
+  const { truncate, functions } = checkedOptions(options);
+  const code = codeOf(hash);
+  const whole = await digestOf(beginningFor(code, functions), content, open);
+  const { length } = whole;
+  if (!isBytes(whole))
+    throw new MultihashError(`identity takes at most ${DIGEST_MAX} bytes of content, got ${length}`,
+      { status: 'invalid_size', size: length });
+  const size = truncate ?? length;
+  if (typeof size !== 'number') throw wrongType('truncate', 'a number', size);
+  if (!Number.isInteger(size) || size < 0 || size > length)
+    throw new RangeError(`truncate must be a whole number from 0 to ${length}, got ${shown(size)}`);
+  return Multihash.of(code, whole.subarray(0, size));
+});
+
+const hasher = (name) =>
+  Object.freeze({ name, code: CODES[name], digest: (content, options) => digest(content, name, options) });
 
 /** The functions that this platform has, by their names. */
 export const hashers = { __proto__: null };
@@ -154,18 +203,14 @@ function claimOf(multihash) {
 }
 
 /**
- * Returns whether a multihash, or its encoding, is that of the content. The time for digests of equal lengths does not
- * depend on their bytes.
+ * Returns whether a multihash, or its encoding, is that of the content. `functions` has functions that the platform
+ * lacks. The time for digests of equal lengths does not depend on their bytes.
  */
-export const verify = (multihash, content) => reading(content, async (open) => {
+export const verify = (multihash, content, options = {}) => reading(content, async (open) => {
+  const { functions } = checkedOptions(options);
   if (!isBytes(content)) open(); // if the arguments are swapped, it is the content that has the wrong type
   const { code, digest } = claimOf(multihash);
-  const begin = beginnings[NAMES[code]];
-  if (!begin) {
-    const name = NAMES[code] ? ` (${NAMES[code]})` : '';
-    throw new RangeError(`this platform has no function for the code 0x${code.toString(16)}${name}`);
-  }
-  const wanted = await digestOf(begin, content, open);
+  const wanted = await digestOf(beginningFor(code, functions), content, open);
   if (digest.length === 0) checkedLength(digest, 'the digest');
   if (digest.length !== wanted.length) return false;
   let difference = 0;

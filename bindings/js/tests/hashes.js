@@ -59,8 +59,8 @@ export async function hashes(module, _, text) {
   const claim = Multihash.of(0x1e, ABC);
   const missing = await told(verify(claim, ABC));
   delete Object.prototype.blake3;
-  says(missing, 'RangeError code 0x1e blake3', 'a code without a function');
-  says(await told(verify(Multihash.of(0x5555, ABC), ABC)), 'RangeError code 0x5555', 'a code without a name');
+  says(missing, 'UnsupportedHashError code 0x1e blake3', 'a code without a function');
+  says(await told(verify(Multihash.of(0x5555, ABC), ABC)), 'UnsupportedHashError 0x5555', 'a code without a name');
   const moved = Multihash.of(0, ABC);
   structuredClone(moved.digest.buffer, { transfer: [moved.digest.buffer] });
   says(await told(verify(moved, new Uint8Array())), 'TypeError digest detached', 'a digest that is gone');
@@ -96,6 +96,81 @@ export async function hashArguments({ Multihash, identity, sha256, verify }) {
   same(await verify(Multihash.of(0, new Uint8Array(255)), new Uint8Array(300)), false, 'a content that is too long');
   const longest = await identity.digest(new Uint8Array(255).fill(1));
   same(hex(longest.digest), '01'.repeat(255), 'the longest');
+}
+
+/** A function that no platform has: the sum of the bytes, in four bytes. */
+function summing() {
+  let sum = 0;
+  return {
+    update: (bytes) => bytes.forEach((byte) => (sum += byte)),
+    digest: () => new Uint8Array(Uint32Array.of(sum).buffer),
+  };
+}
+
+/** The same as others have it: @noble/hashes, hash-wasm, which returns hexadecimal if it is not asked for bytes. */
+const noble = Object.assign(() => ABC, { create: summing });
+const hashWasm = () => {
+  const { digest, ...rest } = summing();
+  return { ...rest, init() {}, digest: (type) => (type === 'binary' ? digest() : hex(digest())) };
+};
+const delayed = () => {
+  const { update, digest } = summing();
+  return { update, digest: async () => digest() };
+};
+
+/** Functions of a caller's own are found by code and by name, for bytes and streams, before those of the platform. */
+export async function ownFunctions({ Multihash, UnsupportedHashError, digest, hashers, sha256, verify }) {
+  const wanted = Multihash.of(0x1e, Uint8Array.of(38, 1, 0, 0)); // 97 + 98 + 99
+  for (const own of [summing, noble, hashWasm, delayed]) {
+    for (const functions of [{ blake3: own }, { 0x1e: own }, { 0x1e: own, blake3: null }]) {
+      for (const hash of ['blake3', 0x1e, 0x1en])
+        same((await digest(ABC, hash, { functions })).equals(wanted), true, `digest ${hash}`);
+      for (const claim of [wanted, wanted.bytes, structuredClone(wanted)])
+        same(await verify(claim, ABC, { functions }), true, 'verify');
+      same(await verify(wanted, chunks(ABC), { functions }), true, 'verify a stream');
+      same(await verify(wanted, ABC.subarray(1), { functions }), false, 'verify other content');
+      same(`${await digest(new Blob([ABC]).stream(), 30, { functions, truncate: 2 })}`, '1e022601', 'truncate');
+    }
+  }
+  const functions = { 'sha2-256': summing, [2n ** 60n]: summing };
+  same(`${await sha256.digest(ABC, { functions })} ${await digest(ABC, 2n ** 60n, { functions })}`,
+    '120426010000 8080808080808080100426010000', 'a function of the platform, and a code without a name');
+  same((await digest(ABC, 'sha2-256')).equals(await sha256.digest(ABC)), true, 'of the platform');
+  same(`${await digest(ABC, 'identity')} ${'blake3' in hashers}`, '0003616263 false', 'identity');
+  const error = await digest(ABC, 'blake3').catch((found) => found);
+  same(`${error instanceof UnsupportedHashError} ${error instanceof RangeError} ${error.code}`, 'true true 30', 'its class');
+  says(`${error}`, 'UnsupportedHashError code 0x1e blake3 functions', 'no function');
+  same(Object.prototype.propertyIsEnumerable.call(UnsupportedHashError.prototype, 'name'), false, 'name');
+}
+
+/** Functions and names that are wrong, and sources, which are cancelled. */
+export async function ownArguments({ Multihash, digest, verify }) {
+  const claim = Multihash.of(0x1e, ABC);
+  const wrong = [
+    [null, 'TypeError functions object null'], [summing, 'TypeError functions object function'],
+    [{ blake3: ABC }, 'TypeError functions[blake3] function Uint8Array'],
+    [{ 30: null }, 'TypeError functions[30] function null'],
+    [{ blake3: () => ABC }, 'TypeError functions[blake3] update digest Uint8Array'],
+    [{ blake3: async () => summing() }, 'TypeError functions[blake3] update digest Promise'],
+    [{ blake3: () => ({ ...summing(), digest: () => 'ab' }) }, 'TypeError functions[blake3] Uint8Array string'],
+    [{ __proto__: { blake3: summing } }, 'UnsupportedHashError 0x1e'], [{ sha1: summing }, 'UnsupportedHashError 0x1e'],
+    [{ blake3: () => { throw new Error('broken'); } }, 'Error broken'],
+  ];
+  for (const [functions, words] of wrong) {
+    let isCancelled = false;
+    const source = () => new ReadableStream({ start: (each) => each.enqueue(ABC), cancel: () => void (isCancelled = true),
+      pull: (each) => each.close() });
+    says(await told(verify(claim, ABC, { functions })), words, 'verify');
+    says(await told(digest(ABC, 'blake3', { functions })), words, 'digest');
+    says(await told(digest(source(), 'blake3', { functions })), words, 'a stream');
+    if (!/string/.test(words)) same(isCancelled, true, 'the source is cancelled');
+  }
+  for (const options of [null, 20]) says(await told(verify(claim, ABC, options)), 'TypeError options object', 'options');
+  const names = [['sha3', 'RangeError hash CODES sha3'], ['toString', 'RangeError hash CODES toString'],
+    [undefined, 'TypeError hash number undefined'], [-1, 'RangeError hash -1'], [{}, 'TypeError hash Object']];
+  for (const [hash, words] of names) says(await told(digest(ABC, hash)), words, 'a name');
+  const long = () => ({ update() {}, digest: () => new Uint8Array(256) });
+  says(await told(digest(ABC, 'blake3', { functions: { blake3: long } })), 'MultihashError digest 256 255', 'a long digest');
 }
 
 /** Chunks in the same memory, and empty ones, as sources may have them. What a generator returns is no chunk. */

@@ -117,7 +117,8 @@ is<readonly [0, 0x12, 0x20, 0x13, 0x56]>()([hashers.identity.code, hashers['sha2
   hashers['sha2-384'].code, hashers['sha2-512'].code, hashers['dbl-sha2-256'].code] as const);
 isFixed(sha256);
 is<readonly [0, 0x20, 0x13]>()([identity.code, sha384.code, sha512.code] as const);
-is<(content: Content, options?: { truncate?: number }) => Promise<Multihash<0x12>>>()(sha256.digest);
+is<(content: Content, options?: { truncate?: number; functions?: hashes.Functions }) => Promise<Multihash<0x12>>>()(
+  sha256.digest);
 sha256.digest(stream, { truncate: 20 });
 is<hashes.MultihashHasher<number> | undefined>()(hashers['blake2b-512']);
 is<Multihash<0x11>>()(await hashers.sha1.digest(bytes));
@@ -125,7 +126,40 @@ is<Uint8Array | ByteStream | AsyncIterable<Uint8Array>>()(bytes as Content);
 // @ts-expect-error a text has to be encoded before
 sha256.digest('abc');
 is<{ readonly code: Wide; readonly digest: Uint8Array }>()(found as index.MultihashDigest);
-is<(multihash: index.MultihashDigest | Uint8Array, content: Content) => Promise<boolean>>()(verify);
+is<(multihash: index.MultihashDigest | Uint8Array, content: Content, options?: { functions?: hashes.Functions }) =>
+  Promise<boolean>>()(verify);
+is<{
+  (content: Content, hash: string | number, options?: { truncate?: number; functions?: hashes.Functions }):
+    Promise<Multihash<number>>;
+  (content: Content, hash: string | Wide, options?: { truncate?: number; functions?: hashes.Functions }):
+    Promise<Multihash>;
+}>()(index.digest);
+
+/** As in @noble/hashes, hash-wasm and node:crypto. */
+interface Noble {
+  (bytes: Uint8Array | string, options?: { dkLen?: number }): Uint8Array;
+  create(options: { dkLen?: number }): { update(bytes: Uint8Array | string): Noble; digest(): Uint8Array };
+}
+interface HashWasm {
+  init(): HashWasm;
+  update(bytes: Uint8Array | string): HashWasm;
+  digest: { (type: 'binary'): Uint8Array; (type?: 'hex'): string };
+}
+interface NodeHash {
+  update(bytes: Uint8Array): NodeHash;
+  digest(): Uint8Array;
+  digest(encoding: 'hex' | 'binary'): string;
+}
+declare const [noble, wasm, ofNode]: [Noble, HashWasm, NodeHash];
+export const functions: hashes.Functions = { blake3: noble, 0x1b: () => wasm.init(), 'blake2b-256': () => ofNode,
+  0xb220: () => noble.create({ dkLen: 32 }) };
+verify(found, stream, { functions });
+// @ts-expect-error a function that hashes at once
+export const once: hashes.Functions = { blake3: (bytes: Uint8Array) => bytes };
+const unsupported = new index.UnsupportedHashError(0x1e);
+export const range: RangeError = unsupported;
+is<Wide>()(unsupported.code);
+isFixed(unsupported as Omit<index.UnsupportedHashError, 'name' | 'message' | 'stack' | 'cause'>);
 verify(theirs[0]!, stream);
 is<string | undefined>()(NAMES[18]);
 is<0x12>()(CODES['sha2-256']);
