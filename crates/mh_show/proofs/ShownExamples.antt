@@ -49,9 +49,11 @@ module _ (text : List ℕ) where
 whole : (input text : List ℕ) (left : Option (List ℕ)) → ReadsWhole (Some input) left text
     → (text ≡ input) × (left ≡ Some []) × (length text ≤ 65536)
 whole input text None h = absurd h.consumes
-whole input text (Some rest) h =
-    (sym (h.consumes ∙ subst (λ (z : List ℕ). text ++ z ≡ text) (sym h.at_end) (append-nil text)),
-        ap (λ (z : List ℕ). Some z) h.at_end, h.short)
+whole input text (Some rest) h = (
+  sym (h.consumes ∙ subst (λ (z : List ℕ). text ++ z ≡ text) (sym h.at_end) (append-nil text)),
+  ap (λ (z : List ℕ). Some z) h.at_end,
+  h.short,
+)
 
 module _ (input out new : List ℕ) (left : Option (List ℕ)) where
   -- all lines of the input were appended, and nothing else

@@ -1,12 +1,7 @@
 -- What an error of `show` prints.
 use Rattle.std.specs.Prelude.{ℕ, List, codes}
 use Rattle.hex.specs.declared.error.FromHexError.{FromHexError}
-use Rattle.hex.specs.declared.error.FromHexError.TheVariants.{
-  InvalidHexCharacter,
-  OddLength,
-  InvalidStringLength,
-  OutOfMemory,
-}
+use Rattle.hex.specs.declared.error.FromHexError.TheVariants.{InvalidHexCharacter, OddLength, InvalidStringLength, OutOfMemory}
 use Rattle.multihash.specs.Refusal.{refusal_text}
 use Rattle.mh_show.specs.declared.show.ShowError.{ShowError}
 use Rattle.mh_show.specs.declared.show.ShowError.TheVariants.{NotHex, Refused, Memory}

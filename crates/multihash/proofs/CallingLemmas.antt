@@ -1,7 +1,7 @@
 -- What callers conclude from the contracts of several calls.
-use Rattle.std.proofs.Common.{Vec, Global, length-append, ◌≡◌, ℕ, ◌<◌, ◌≤◌, ◌⊎◌, IfOk, IfErr, OnErr, IsOk, inl, inr, List, [], ◌++◌,
-    length, map, false, Option, Some, Result, Ok, Err, MatchResult, IfSome, refl, sym, ap, ◌∙◌, subst, arith, append_assoc, ◌+◌,
-    drop, length-drop}
+use Rattle.std.proofs.Common.{Vec, Global, length-append, ◌≡◌, ℕ, ◌<◌, ◌≤◌, ◌⊎◌, IfOk, IfErr, OnErr, IsOk, inl, inr, List, [], ◌++◌}
+use Rattle.std.proofs.Common.{length, map, false, Option, Some, Result, Ok, Err, MatchResult, IfSome, refl, sym, ap, ◌∙◌, subst, arith}
+use Rattle.std.proofs.Common.{append_assoc, ◌+◌, drop, length-drop}
 use Rattle.std.specs.List.{All}
 use Rattle.std.specs.Result.{IsErrAnd}
 use Rattle.std.proofs.lemmas.List.{length-map}
@@ -9,8 +9,8 @@ use Rattle.multihash.specs.Pair.{Pair, FitsBuffer, digest_limit}
 use Rattle.multihash.specs.Encoding.{IsEncoding}
 use Rattle.multihash.specs.Streams.{AreConcatenated, ConsumesPairs, StopsAfterPairs}
 use Rattle.multihash.specs.Varint.{VarintError, insufficient, overflow, not_minimal, IsVarint}
-use Rattle.multihash.specs.Verdict.{Verdict, accepted, invalid_size, invalid_code, malformed, unexpected_eof, BeginsWithSize, HasHead,
-    HasVerdict, HasWholeVerdict, IsIncomplete}
+use Rattle.multihash.specs.Verdict.{Verdict, accepted, invalid_size, invalid_code, malformed, unexpected_eof, BeginsWithSize, HasHead}
+use Rattle.multihash.specs.Verdict.{HasVerdict, HasWholeVerdict, IsIncomplete}
 use Rattle.multihash.specs.Consuming.{ConsumesVarint, ConsumesAtVarintError, FailsBy, VarintFails, ExactFails}
 use Rattle.multihash.proofs.SettlingLemmas.{error_of_part, verdict_kept}
 use Rattle.multihash.proofs.ReadConsumingLemmas.{incomplete_error}
@@ -20,8 +20,8 @@ use Rattle.multihash.specs.Scale.{IsScale, HasScaleVerdict}
 use Rattle.multihash.specs.Writing.{AppendsPrefix, CountsWriterFailures}
 use Rattle.multihash.specs.Filling.{Fills, IsFilled}
 use Rattle.multihash.specs.declared.no_std_io.slice_writer.SliceWriter.{SliceWriter}
-use Rattle.multihash.specs.Refusal.{Refusal, of_io, of_varint, IsIo, IsEof, IsOutOfMemory, IsInvalidSize, IsVarintError, IsFrontError,
-    IsAnyVarintError}
+use Rattle.multihash.specs.Refusal.{Refusal, of_io, of_varint, IsIo, IsEof, IsOutOfMemory, IsInvalidSize, IsVarintError, IsFrontError}
+use Rattle.multihash.specs.Refusal.{IsAnyVarintError}
 use Rattle.multihash.specs.Outcome.{IsErrorOf, IsResultOf}
 use Rattle.multihash.specs.Multihash.{Fields, pair_of}
 use Rattle.multihash.proofs.WritingLemmas.{slice_writer_has_room}
@@ -39,11 +39,11 @@ pub never_stops : (S count : ℕ) (e : Refusal) (n : ℕ) (new : Option (List �
 never_stops S count e n new pairs bytes more concatenated fit many stop =
     let (left, is, cut) = Consumes-known (bytes ++ more) stop.consumed.bytes stop.following stop.consumed.consumes in
     let (p, x, rest, encodes, follows, each) =
-        next_part IsEncoding encoding_unique stop.pairs pairs stop.consumed.bytes bytes left more stop.consumed.concatenated concatenated
+    next_part IsEncoding encoding_unique stop.pairs pairs stop.consumed.bytes bytes left more stop.consumed.concatenated concatenated
     (omega (arith, stop.fewer)) (sym cut) in
     let found = (rw is at stop.failed.verdict) refl in
     let next : HasVerdict S left (accepted p) =
-        (rest, record { encoding = x; encodes = encodes; cut = follows }, each (FitsBuffer S) fit) in
+    (rest, record { encoding = x; encodes = encodes; cut = follows }, each (FitsBuffer S) fit) in
     subst (IsErrorOf e) (verdict_unique S left found.0 (accepted p) found.1 next) found.2
 
 -- reading that many pairs of a stream returns them and leaves what follows, or it is out of memory
@@ -57,7 +57,7 @@ read_list_of_encodings S count before after old new pairs bytes more (Ok list) c
     let (left, is, cut) = Consumes-known (bytes ++ more) ok.1.bytes new (sym rest ∙ ok.1.consumes) in
     let long : length (map pair_of list.items) ≡ length pairs = omega (arith, length-map list.items pair_of, ok.0) in
     let told = parts_unique IsEncoding encoding_unique (map pair_of list.items) pairs ok.1.bytes bytes left more long ok.1.concatenated
-        concatenated (sym cut) in
+    concatenated (sym cut) in
     (told.0, is ∙ ap Some told.2)
 read_list_of_encodings S count before after old new pairs bytes more (Err e) concatenated fit many rest same ok (inl memory) = memory.0
 read_list_of_encodings S count before after old new pairs bytes more (Err e) concatenated fit many rest same ok (inr stop) =
@@ -206,7 +206,7 @@ exact_after n m before after read old mid new e consumes long fails = record {
 sizes_once : (s t : ℕ) (x r q : List ℕ) (h : BeginsWithSize s x r) (g : BeginsWithSize t x q) → (h.code ≡ g.code) × (s ≡ t) × (r ≡ q)
 sizes_once s t x r q h g =
     let codes = number_unique x h.code g.code (h.size_bytes ++ r) (g.size_bytes ++ q) (h.code_bytes, h.is_code, h.cut)
-        (g.code_bytes, g.is_code, g.cut) in
+    (g.code_bytes, g.is_code, g.cut) in
     let sizes = number_unique (h.size_bytes ++ r) s t r q (h.size_bytes, h.is_size, refl) (g.size_bytes, g.is_size, codes.1) in
     (codes.0, sizes.0, sizes.1)
 
@@ -214,15 +214,27 @@ module _ (code size len : ℕ) (input : List ℕ) (h : HasHead code size len inp
   -- an input has one head
   pub head_unique : (c s k : ℕ) → HasHead c s k input → (code ≡ c) × (size ≡ s) × (len ≡ k)
   head_unique c s k g =
-      let once = sizes_once size s input (drop len input) (drop k input) h.varints g.varints in
-      (sym h.is_code ∙ (once.0 ∙ g.is_code), once.1, omega (arith, ap length once.2, length-drop len input, length-drop k input,
-          h.within, g.within))
+      let once = sizes_once size s input (drop len input) (drop k input) h.varints g.varints in (
+        sym h.is_code ∙ (once.0 ∙ g.is_code),
+        once.1,
+        omega (
+          arith,
+          ap length once.2,
+          length-drop len input,
+          length-drop k input,
+          h.within,
+          g.within,
+        ),
+      )
 
   -- an input with a head has no malformed varint at its front
   pub head_no_error : (S : ℕ) (f : VarintError) → HasVerdict S input (malformed f) → ⊥
   head_no_error S f (inl bad) =
-      number_no_error input h.varints.code (h.varints.size_bytes ++ drop len input) f (h.varints.code_bytes, h.varints.is_code,
-          h.varints.cut) bad
+      number_no_error input h.varints.code (h.varints.size_bytes ++ drop len input) f (
+        h.varints.code_bytes,
+        h.varints.is_code,
+        h.varints.cut,
+      ) bad
   head_no_error S f (inr (rest, c, bad)) =
       let codes = number_unique input c.code h.varints.code rest (h.varints.size_bytes ++ drop len input) (c.code_bytes, c.is_code, c.cut)
       (h.varints.code_bytes, h.varints.is_code, h.varints.cut) in

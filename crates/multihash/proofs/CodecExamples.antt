@@ -93,8 +93,11 @@ consumes_no_more_than_nine h =
 
 consumes_no_size_after_code : ¬ (ConsumesAtScaleError 4 (of_code 18446744073709551615) (Some (all_255 ++ 0 ∷ [])) (Some []))
 consumes_no_size_after_code h =
-    omega (arith, (h.code 18446744073709551615 refl).1,
-        ap (λ (z : List ℕ). length z) (consumed_is (all_255 ++ 0 ∷ []) [] h.consumed h.consumes))
+    omega (
+      arith,
+      (h.code 18446744073709551615 refl).1,
+      ap (λ (z : List ℕ). length z) (consumed_is (all_255 ++ 0 ∷ []) [] h.consumed h.consumes),
+    )
 
 -- if all of an input was consumed, its verdict is the one of the error
 claimed : (a consumed : List ℕ) (v w : Verdict) → Consumes (Some (a ++ [])) consumed (Some [])
@@ -106,13 +109,13 @@ claimed a consumed v w consumes has own =
 ends_not_after_pair : ¬ (ConsumesAtScaleError 4 (of_io eof) (Some (zeros ++ 0 ∷ [])) (Some []))
 ends_not_after_pair h =
     let same = claimed (zeros ++ 0 ∷ []) h.consumed unexpected_eof (accepted (pair 0 [])) h.consumes
-        (h.truncated (inl (eof, refl, refl))) scale_empty_digest_of_4 in cc
+    (h.truncated (inl (eof, refl, refl))) scale_empty_digest_of_4 in cc
 
 -- a reader is not called after a size that is rejected
 fails_not_after_size : ¬ (ConsumesAtScaleError 4 (of_io other) (Some (zeros ++ 5 ∷ [])) (Some []))
 fails_not_after_size h =
     let same = claimed (zeros ++ 5 ∷ []) h.consumed unexpected_eof (invalid_size 5) h.consumes
-        (h.truncated (inr (other, refl, inl ([], refl)))) scale_size_first in cc
+    (h.truncated (inr (other, refl, inl ([], refl)))) scale_size_first in cc
 
 -- ---- lists
 

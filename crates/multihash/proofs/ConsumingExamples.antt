@@ -6,11 +6,11 @@ use Rattle.multihash.specs.Verdict.{Verdict, invalid_size, malformed, unexpected
 use Rattle.multihash.specs.Settling.{IsShortestSettling}
 use Rattle.multihash.specs.Reading.{Consumes}
 use Rattle.multihash.specs.Fault.{IsUnexpectedEof}
-use Rattle.multihash.specs.Refusal.{Refusal, of_io, of_size, of_code, of_varint, of_not_bytes, IsVarintError,
-    IsAnyVarintError, IsFrontError}
+use Rattle.multihash.specs.Refusal.{Refusal, of_io, of_size, of_code, of_varint, of_not_bytes, IsVarintError, IsAnyVarintError}
+use Rattle.multihash.specs.Refusal.{IsFrontError}
 use Rattle.multihash.specs.Outcome.{IsErrorOf}
-use Rattle.multihash.specs.Consuming.{IsFrontErrorAt, IsHeadError, ReadMayFailWith, ConsumesAtVarintError, ConsumesAtError,
-    ConsumesShortestSettling, ConsumesNothingSettling, FailsBy, ReadFails, VarintFails, ExactFails}
+use Rattle.multihash.specs.Consuming.{IsFrontErrorAt, IsHeadError, ReadMayFailWith, ConsumesAtVarintError, ConsumesAtError}
+use Rattle.multihash.specs.Consuming.{ConsumesShortestSettling, ConsumesNothingSettling, FailsBy, ReadFails, VarintFails, ExactFails}
 use Rattle.multihash.proofs.VarintLemmas.{front_unique, error}
 use Rattle.multihash.proofs.VerdictLemmas.{verdict_unique}
 use Rattle.multihash.proofs.SettlingLemmas.{shortest_unique, shortest_code_error}
@@ -107,7 +107,7 @@ not_incomplete : (a consumed : List ℕ) (v w : Verdict) → Consumes (Some (a +
     → HasVerdict 4 consumed v → ¬ (IsIncomplete v)
 not_incomplete a consumed v w consumes late stays h incomplete =
     stays (subst IsIncomplete
-        (verdict_unique 4 a v w (subst (λ (z : List ℕ). HasVerdict 4 z v) (consumed_is a [] consumed consumes) h) late) incomplete)
+    (verdict_unique 4 a v w (subst (λ (z : List ℕ). HasVerdict 4 z v) (consumed_is a [] consumed consumes) h) late) incomplete)
 
 read_takes_its_own : ¬ (ConsumesAtError 4 of_not_bytes (Some []) (Some (7 ∷ [])))
 read_takes_its_own h = returns_no_byte h.consumed h.consumes
@@ -117,7 +117,7 @@ insufficient_after_no_size : ¬
     (ConsumesAtError 4 (of_varint insufficient) (Some (0 ∷ 5 ∷ [])) (Some []))
 insufficient_after_no_size h =
     not_incomplete (0 ∷ 5 ∷ []) h.consumed (malformed insufficient) (invalid_size 5) h.consumes size_above_limit (λ e. e)
-        (h.insufficient refl).0 tt
+    (h.insufficient refl).0 tt
 
 -- and they are all of the input
 insufficient_leaves_none : ¬
@@ -179,8 +179,11 @@ size_5_rejected = (9 ∷ [], size_5 (9 ∷ []), omega arith)
 fails_with_no_other_size : ¬ (ReadFails 4 3 3 (of_size 6) (Some (0 ∷ 5 ∷ 9 ∷ [])) (Some (9 ∷ [])))
 fails_with_no_other_size h =
     let (v, has, names) = h.verdict refl in
-    omega (arith, ap size_in
-        (subst (IsErrorOf (of_size 6)) (verdict_unique 4 (0 ∷ 5 ∷ 9 ∷ []) v (invalid_size 5) has size_5_rejected) names))
+    omega (
+      arith,
+      ap size_in
+          (subst (IsErrorOf (of_size 6)) (verdict_unique 4 (0 ∷ 5 ∷ 9 ∷ []) v (invalid_size 5) has size_5_rejected) names),
+    )
 
 -- no byte after the settling prefix was consumed
 fails_with_nothing_after : ¬ (ReadFails 4 3 3 (of_size 5) (Some (0 ∷ 5 ∷ 9 ∷ [])) (Some []))
@@ -216,7 +219,7 @@ two_taken t s = ap (λ (z : List ℕ). length z) (shortest_unique 4 padded t (0x
 ends_at_no_byte_after_zero : ¬ (IsHeadError padded (of_varint not_minimal) 3)
 ends_at_no_byte_after_zero h =
     let t = settled_so 3 h in
-        omega (arith, two_taken t.front t.shortest, ap (λ (z : List ℕ). length z) (consumed_is padded [] t.front t.consumes))
+    omega (arith, two_taken t.front t.shortest, ap (λ (z : List ℕ). length z) (consumed_is padded [] t.front t.consumes))
 
 ends_inside : ¬ (IsHeadError (0x80 ∷ 0x00 ∷ []) (of_varint not_minimal) 3)
 ends_inside h = omega (arith, h.within)

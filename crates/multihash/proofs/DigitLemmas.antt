@@ -1,6 +1,6 @@
 -- Numbers written in digits: bounds, one number for one list of digits, and digits as continuation bytes.
-use Rattle.std.proofs.Common.{◌≡◌, ℕ, zero, suc, ◌+◌, ◌*◌, ◌^◌, ◌<◌, List, [], ◌∷◌, ◌++◌, length, refl, ◌∙◌, arith, add-one, ◌%◌, ◌≤◌,
-    map, sym, bit_or, length-append}
+use Rattle.std.proofs.Common.{◌≡◌, ℕ, zero, suc, ◌+◌, ◌*◌, ◌^◌, ◌<◌, List, [], ◌∷◌, ◌++◌, length, refl, ◌∙◌, arith, add-one, ◌%◌, ◌≤◌}
+use Rattle.std.proofs.Common.{map, sym, bit_or, length-append}
 use Rattle.std.specs.List.{sum_by, enumerate_from, All}
 use Rattle.std.proofs.Math.Nat.{pow-suc, pow-zero, mul_assoc, mul-suc, mul-zero, mul-le-mul_left, mod-eq_of_lt}
 use Rattle.std.proofs.lemmas.List.Sums.{sum_by-cons}

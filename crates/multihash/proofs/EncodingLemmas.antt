@@ -1,7 +1,7 @@
 -- Encodings: their parts and lengths; each pair has one; they are bytes. What is known of every value, also of one
 -- that nothing has read yet: its digest fits the buffer. The encoding of a pair in range is `encoding_of` it.
-use Rattle.std.proofs.Common.{◌≡◌, ℕ, ◌<◌, ◌≤◌, ◌+◌, List, [], ◌∷◌, ◌++◌, length, take, refl, sym, ap, ◌∙◌, subst, arith, length-append,
-    append_assoc, map, get_or}
+use Rattle.std.proofs.Common.{◌≡◌, ℕ, ◌<◌, ◌≤◌, ◌+◌, List, [], ◌∷◌, ◌++◌, length, take, refl, sym, ap, ◌∙◌, subst, arith, length-append}
+use Rattle.std.proofs.Common.{append_assoc, map, get_or}
 use Rattle.multihash.specs.Pair.{Pair, FitsBuffer}
 use Rattle.multihash.specs.Varint.{IsVarint, max_continuation, varint_limit, continuation_bytes}
 use Rattle.multihash.specs.Encoding.{IsEncoding, varint_of, encoding_of}
@@ -60,8 +60,12 @@ encoding_unique p q a b x y e f same =
 -- a pair has at most one encoding
 pub encoding_same : (p : Pair) (a b : List ℕ) → IsEncoding p a → IsEncoding p b → a ≡ b
 encoding_same p a b e f =
-    cc (e.spelled, f.spelled, varint_same p.code e.code f.code e.is_code f.is_code,
-        varint_same (length p.digest) e.size f.size e.is_size f.is_size)
+    cc (
+      e.spelled,
+      f.spelled,
+      varint_same p.code e.code f.code e.is_code f.is_code,
+      varint_same (length p.digest) e.size f.size e.is_size f.is_size,
+    )
 
 -- a pair in range has an encoding
 pub encoding_exists : (p : Pair) → p.code < varint_limit → length p.digest < varint_limit → (a : List ℕ) × IsEncoding p a
@@ -90,7 +94,7 @@ varint_is_bytes n bytes v =
     let digits = All-append_left (λ d. d < 128) v.front (v.last ∷ []) v.digits in
     let last = All-head (λ d. d < 128) v.last [] (All-append_right (λ d. d < 128) v.front (v.last ∷ []) v.digits) in
     let front : IsBytes (continuation_bytes v.front) =
-        All-map (λ b. b < 256) (λ d. d + 128) v.front (λ k d below. omega (arith, digits k d below)) in
+    All-map (λ b. b < 256) (λ d. d + 128) v.front (λ k d below. omega (arith, digits k d below)) in
     rw v.spelled (All-push (λ b. b < 256) (continuation_bytes v.front) v.last front (omega (arith, last)))
 
 -- the numbers of an encoding are bytes if those of the digest are

@@ -1,6 +1,6 @@
 -- The JSON form: a list has one pair; the bytes that an array's members are.
-use Rattle.std.proofs.Common.{◌≡◌, ℕ, ◌<◌, List, [], ◌∷◌, ◌++◌, map, refl, sym, ap, ◌∙◌, subst, Some, arith, zero, suc, true, false,
-    length, take, drop, set, slice_index_or, is_some, Option, None, inl, inr}
+use Rattle.std.proofs.Common.{◌≡◌, ℕ, ◌<◌, List, [], ◌∷◌, ◌++◌, map, refl, sym, ap, ◌∙◌, subst, Some, arith, zero, suc, true, false}
+use Rattle.std.proofs.Common.{length, take, drop, set, slice_index_or, is_some, Option, None, inl, inr}
 use Rattle.serde_json.specs.Data.{Data, number, unsigned, Items, negative, float, null, boolean, string, array, object}
 use Rattle.serde_json.specs.View.{items_of, view, items_view}
 use Rattle.multihash.specs.Bytes.{IsBytes}

@@ -89,8 +89,14 @@ size_above_limit = known 4 (0x00 ∷ 0x05 ∷ []) refl
 
 -- the code 0, the size 5, and what follows
 abbrev pub size_5 : (more : List ℕ) → BeginsWithSize 5 (0x00 ∷ 0x05 ∷ more) more
-size_5 more = record { code = 0; code_bytes = 0x00 ∷ []; size_bytes = 0x05 ∷ []; is_code = one_byte 0 (omega arith);
-    is_size = one_byte 5 (omega arith); cut = refl }
+size_5 more = record {
+  code = 0;
+  code_bytes = 0x00 ∷ [];
+  size_bytes = 0x05 ∷ [];
+  is_code = one_byte 0 (omega arith);
+  is_size = one_byte 5 (omega arith);
+  cut = refl;
+}
 
 -- a size above the capacity, whatever follows
 pub size_settles : Settles 4 (0 ∷ 5 ∷ [])

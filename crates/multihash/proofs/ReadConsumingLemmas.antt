@@ -1,27 +1,27 @@
 -- The contract of `read` for each way to end: in the code, the size or the digest; the error of a head.
-use Rattle.std.proofs.Common.{◌∙◌, ◌≡◌, ◌+◌, ◌<◌, ◌⊎◌, ℕ, List, [], ◌++◌, Option, Some, Result, Ok, Err, IfSome, refl, sym, ap, subst,
-    inl, inr, arith, append-nil, ◌≤◌, length, append_assoc, drop, length-drop}
+use Rattle.std.proofs.Common.{◌∙◌, ◌≡◌, ◌+◌, ◌<◌, ◌⊎◌, ℕ, List, [], ◌++◌, Option, Some, Result, Ok, Err, IfSome, refl, sym, ap, subst}
+use Rattle.std.proofs.Common.{inl, inr, arith, append-nil, ◌≤◌, length, append_assoc, drop, length-drop}
 use Rattle.std.proofs.lemmas.List.{drop-drop}
 use Rattle.multihash.specs.Bytes.{IsStrictPrefix}
 use Rattle.multihash.specs.Pair.{digest_limit}
 use Rattle.multihash.specs.Varint.{insufficient, VarintError, overflow, not_minimal, IsVarint, BeginsMalformed}
 use Rattle.multihash.specs.Encoding.{IsEncoding}
-use Rattle.multihash.specs.Verdict.{Verdict, accepted, invalid_size, invalid_code, malformed, unexpected_eof, HasVerdict, IsIncomplete,
-    BeginsWithSize}
+use Rattle.multihash.specs.Verdict.{Verdict, accepted, invalid_size, invalid_code, malformed, unexpected_eof, HasVerdict, IsIncomplete}
+use Rattle.multihash.specs.Verdict.{BeginsWithSize}
 use Rattle.std.specs.Io.KnownBytes.{IsAtEnd, prepend_known}
 use Rattle.multihash.specs.Reading.{Consumes, HasFewerThan}
 use Rattle.multihash.specs.Fault.{Fault, IsUnexpectedEof, IsOwnFault}
-use Rattle.multihash.specs.Refusal.{Refusal, of_io, of_size, of_code, of_varint, IsReaderError, IsEof, IsInvalidSize, IsVarintError,
-    IsAnyVarintError}
-use Rattle.multihash.specs.Consuming.{ReadMayFailWith, ConsumesShortestSettling, ConsumesNothingSettling, EndsOrFails, ReadMeets,
-    ConsumesAtVarintError, ConsumesVarint, IsFrontErrorAt, IsHeadError}
+use Rattle.multihash.specs.Refusal.{Refusal, of_io, of_size, of_code, of_varint, IsReaderError, IsEof, IsInvalidSize, IsVarintError}
+use Rattle.multihash.specs.Refusal.{IsAnyVarintError}
+use Rattle.multihash.specs.Consuming.{ReadMayFailWith, ConsumesShortestSettling, ConsumesNothingSettling, EndsOrFails, ReadMeets}
+use Rattle.multihash.specs.Consuming.{ConsumesAtVarintError, ConsumesVarint, IsFrontErrorAt, IsHeadError}
 use Rattle.multihash.specs.Outcome.{IsErrorOf, IsResultOf}
 use Rattle.multihash.specs.Multihash.{Fields, pair_of}
 use Rattle.multihash.proofs.EncodingLemmas.{digest_fits}
 use Rattle.multihash.proofs.ReadingLemmas.{IfSome-consumed, Consumes-concatenated, Consumes-cut}
 use Rattle.multihash.proofs.VerdictLemmas.{verdict_unique, coded, sized}
-use Rattle.multihash.proofs.SettlingLemmas.{verdict_kept, none_settles, IsIncompleteInput, before_digest, shortest_from,
-    before_second, before_both}
+use Rattle.multihash.proofs.SettlingLemmas.{verdict_kept, none_settles, IsIncompleteInput, before_digest, shortest_from, before_second}
+use Rattle.multihash.proofs.SettlingLemmas.{before_both}
 
 -- ---- errors and verdicts
 
@@ -214,7 +214,7 @@ module _ (S : ℕ) (e : Refusal) (old mid new : Option (List ℕ)) (before after
   pub stops_in_size : (code : ℕ) (a : List ℕ) → IsVarint code a → Consumes old a mid → ReadMeets S old new before after (Err e)
   stops_in_size code a is_code first =
       stops_in_varint a (Consumes-concatenated old mid new a t.consumed _ refl first t.consumes)
-          (λ f h. inr (t.consumed, coded code a _ t.consumed is_code refl, h))
+      (λ f h. inr (t.consumed, coded code a _ t.consumed is_code refl, h))
       (λ p b. before_second S code a t.consumed p is_code t.no_sooner b)
 
 -- ---- after both varints
@@ -245,7 +245,7 @@ module _ (S code size : ℕ) (a b : List ℕ) (is_code : IsVarint code a) (is_si
               at_failure S _ old new before after consumes unexpected_eof (cut_digest front short) tt (of_io error) rose (error, refl, own)
           | inr (same, ended) ↦
               at_incomplete S _ old new before after consumes unexpected_eof (cut_digest front short) tt (of_io error) same
-                  (error, refl, ended)
+              (error, refl, ended)
               (λ no. cc) (λ left is. rw (append_assoc a (b ++ front) left, append_assoc b front left)
               (cut_digest (front ++ left) (subst (HasFewerThan size) (last ∙ ap (prepend_known front) is) (few ended))))
         ]
@@ -269,7 +269,7 @@ module _ (e : Refusal) (input : List ℕ) where
   pub code_error : (taken : ℕ) → IsFrontErrorAt input e taken → IsHeadError input e taken
   code_error taken ((f, named, shows), within, t) =
       head_error f taken named within (λ S. inl shows)
-          (λ S. stops_in_code S e (Some input) (Some input) _ 0 0 t (inr (refl, (f, named))) t.consumes)
+      (λ S. stops_in_code S e (Some input) (Some input) _ 0 0 t (inr (refl, (f, named))) t.consumes)
 
   pub size_error : (code k taken : ℕ) → k ≤ length input → ConsumesVarint code (Some input) (Some (drop k input))
       → IsFrontErrorAt (drop k input) e taken → IsHeadError input e (k + taken)

@@ -5,12 +5,12 @@ use Rattle.std.specs.Prelude.{codes, Option, Some, None, Result, Ok, Err}
 use Rattle.std.specs.Fmt.{digits}
 use Rattle.multihash.specs.Fault.{Fault, UnexpectedEof, WriteZero, OutOfMemory, Other, IsOwnFault, IsUnexpectedEof, printed}
 use Rattle.multihash.specs.Varint.{insufficient}
-use Rattle.multihash.specs.Refusal.{Refusal, of_io, of_size, of_code, of_varint, of_not_bytes, IsEof, IsOutOfMemory,
-    IsReaderError, refusal_text}
+use Rattle.multihash.specs.Refusal.{Refusal, of_io, of_size, of_code, of_varint, of_not_bytes, IsEof, IsOutOfMemory, IsReaderError}
+use Rattle.multihash.specs.Refusal.{refusal_text}
 use Rattle.std.proofs.lemmas.Bool.{false≢true}
 use Rattle.std.proofs.lemmas.List.{append_cancel_right}
-use Rattle.multihash.specs.Reading.{Consumes, EndsInNone, HasFewerThan, ConsumesFewerThan, CountsReaderFailures, ReadLaws,
-    ReadExactLaws, NoOtherError}
+use Rattle.multihash.specs.Reading.{Consumes, EndsInNone, HasFewerThan, ConsumesFewerThan, CountsReaderFailures, ReadLaws, ReadExactLaws}
+use Rattle.multihash.specs.Reading.{NoOtherError}
 
 -- ---- errors of readers and writers
 
@@ -44,8 +44,13 @@ size_in e = 0
 
 no_other_ends : ¬ (IsEof (of_io other)) × ¬ (IsEof (of_io full)) × ¬ (IsEof (of_io memory)) × ¬ (IsEof (of_varint insufficient))
     × ((code : ℕ) → ¬ (IsEof (of_code code)))
-no_other_ends = ((λ (error, e, kind). cc), (λ (error, e, kind). cc), (λ (error, e, kind). cc), (λ (error, e, kind). cc),
-    λ code (error, e, kind). cc)
+no_other_ends = (
+  (λ (error, e, kind). cc),
+  (λ (error, e, kind). cc),
+  (λ (error, e, kind). cc),
+  (λ (error, e, kind). cc),
+  λ code (error, e, kind). cc,
+)
 
 no_other_is_out_of_memory : ¬ (IsOutOfMemory (of_io eof)) × ¬ (IsOutOfMemory (of_io full)) × ¬ (IsOutOfMemory (of_io other))
 no_other_is_out_of_memory = ((λ (error, e, kind). cc), (λ (error, e, kind). cc), λ (error, e, kind). cc)
@@ -126,8 +131,10 @@ counts_at_no_ok : ¬ (Reads 3 4 (Ok 1)) × ¬ (Reads 4 3 (Ok 1))
 counts_at_no_ok = ((λ h. omega (arith, h)), λ h. omega (arith, h))
 
 rises_at_each_error : ¬ (Reads 3 3 (Err other)) × ¬ (Reads 4 3 (Err other))
-rises_at_each_error = ((λ h. elim h [ inl rose ↦ omega (arith, rose.0) | inr none ↦ none.1 ]),
-    λ h. elim h [ inl rose ↦ omega (arith, rose.0) | inr none ↦ none.1 ])
+rises_at_each_error = (
+  (λ h. elim h [ inl rose ↦ omega (arith, rose.0) | inr none ↦ none.1 ]),
+  λ h. elim h [ inl rose ↦ omega (arith, rose.0) | inr none ↦ none.1 ],
+)
 
 abbrev Fills : ℕ → ℕ → Result ℕ Fault → Type 0
 Fills before after outcome = CountsReaderFailures IsOwnFault IsUnexpectedEof before after outcome
@@ -187,8 +194,11 @@ Filling old new buffer filled outcome = ReadExactLaws left failed old new buffer
 
 -- the end of the input is no error of the reader itself
 ends_by_no_counted_error : ¬ (Filling ([], 0) ([], 1) (7 ∷ []) (7 ∷ []) (Err eof))
-ends_by_no_counted_error h = elim h.faults [ inl (counted, own) ↦ elim own [ inl is ↦ cc | inr is ↦ cc ] | inr (same, is) ↦
-    omega (arith, same) ]
+ends_by_no_counted_error h = elim h.faults [
+  | inl (counted, own) ↦ elim own [ inl is ↦ cc | inr is ↦ cc ]
+  | inr (same, is) ↦
+      omega (arith, same)
+]
 
 fills_with_no_other_bytes : ¬ (Filling (1 ∷ 2 ∷ [], 0) (2 ∷ [], 0) (7 ∷ []) (5 ∷ []) (Ok 0))
 fills_with_no_other_bytes h = omega (arith, ap (λ (o : Option (List ℕ)). get_or (told o) 0 0) h.consumes)

@@ -1,7 +1,7 @@
 -- A pair has one SCALE form, an input one verdict; the contract of decoding for each way to end.
-use Rattle.std.proofs.Common.{◌≡◌, ℕ, zero, suc, ◌/◌, ◌%◌, ◌^◌, ◌<◌, List, length, get_or, refl, sym, ap, ◌∙◌, arith, ◌+◌, ◌≤◌, cond, ltb,
-    [], ◌∷◌, ◌++◌, take, drop, subst, inl, inr, length-append, append_assoc, append-nil, ◌⊎◌, Option, Result, Ok, Err,
-    IfSome, IfOk, IfErr}
+use Rattle.std.proofs.Common.{◌≡◌, ℕ, zero, suc, ◌/◌, ◌%◌, ◌^◌, ◌<◌, List, length, get_or, refl, sym, ap, ◌∙◌, arith, ◌+◌, ◌≤◌, cond, ltb}
+use Rattle.std.proofs.Common.{[], ◌∷◌, ◌++◌, take, drop, subst, inl, inr, length-append, append_assoc, append-nil, ◌⊎◌, Option, Result}
+use Rattle.std.proofs.Common.{Ok, Err, IfSome, IfOk, IfErr}
 use Rattle.std.specs.Int.{byte_at, bytes_low_first, to_le_bytes, from_le_bytes, w64}
 use Rattle.std.proofs.Math.Nat.{pow-suc, pow-zero, div-add-mod, div-div-eq-div-mul, div-one}
 use Rattle.std.proofs.lemmas.Nat.{mod_below, div_below, le_bytes_8}
@@ -102,8 +102,13 @@ found_after : (k S code : ℕ) (x bytes rest : List ℕ) → k ≡ 8 → IsScale
     → found_at k S x ≡ scale_judged S code rest
 found_after k S code x bytes rest eight is cut =
     let long : length bytes ≡ k = is.eight ∙ sym eight in
-    rw (cut, le-ltb (length (bytes ++ rest)) k (omega (arith, length-append bytes rest, long)), take_at bytes rest k long,
-        drop_at bytes rest k long, is.value) refl
+    rw (
+      cut,
+      le-ltb (length (bytes ++ rest)) k (omega (arith, length-append bytes rest, long)),
+      take_at bytes rest k long,
+      drop_at bytes rest k long,
+      is.value,
+    ) refl
 
 scale_found_is : (k S : ℕ) (x : List ℕ) (v : Verdict) → k ≡ 8 → HasScaleVerdict S x v → found_at k S x ≡ v
 scale_found_is k S x (accepted p) eight (bytes, rest, h, fits, cut) =
@@ -119,7 +124,7 @@ scale_found_is k S x (invalid_code code) eight (bytes, rest, is_code, above, cut
     found_after k S code x bytes rest eight is_code cut ∙ rw (le-ltb code varint_limit above) refl
 scale_found_is k S x (invalid_size size) eight (rest, h, over) =
     found_after k S h.code x h.code_bytes (size ∷ rest) eight h.is_code h.cut
-        ∙ rw (lt-ltb h.code varint_limit h.in_range, lt-ltb S size over) refl
+    ∙ rw (lt-ltb h.code varint_limit h.in_range, lt-ltb S size over) refl
 scale_found_is k S x (malformed error) eight h = absurd h
 scale_found_is k S x unexpected_eof eight (inl short) = rw (lt-ltb (length x) k (omega (arith, short, eight))) refl
 scale_found_is k S x unexpected_eof eight (inr (inl (code, is_code, below))) =
@@ -160,7 +165,7 @@ scale_sized S size x rest h byte =
             let left : List ℕ = drop size rest in
             let long : length digest ≡ size = length-take-le size rest full in
             let form = scale_of (record { code = h.code; digest = digest }) size h.code_bytes digest h.is_code h.in_range
-                (sym long) byte refl in
+            (sym long) byte refl in
             let cut = h.cut ∙ (ap (λ (z : List ℕ). h.code_bytes ++ size ∷ z) (sym (take-append-drop size rest))
             ∙ sym (append_assoc h.code_bytes (size ∷ digest) left)) in
             (accepted _, (_, left, form, omega arith, cut))
@@ -257,7 +262,7 @@ module _ (S : ℕ) (old new : Option (List ℕ)) (before after : ℕ) where
       -- the whole form
       pub scale_returned : (digest : List ℕ) (m : Fields S) → size ≤ S → size < 256 → length digest ≡ size → after ≡ before
           → pair_of m ≡ record { code = code; digest = digest } → Consumes old (a ++ size ∷ digest) new
-              → ScaleMeets S old new before after (Ok m)
+          → ScaleMeets S old new before after (Ok m)
       scale_returned digest m fits byte long same made consumes =
           let p : Pair = record { code = code; digest = digest } in
           let form : IsScale p (a ++ size ∷ digest) = scale_of p size a digest is below (sym long) byte refl in record {
@@ -303,5 +308,16 @@ pub cut_scale_digest : (S code : ℕ) (a : List ℕ) → IsScaleCode code a → 
     → length t < size
     → HasScaleVerdict S ((a ++ size ∷ []) ++ t) unexpected_eof
 cut_scale_digest S code a is size below fits t short =
-    inr (inr (size, t, record { code = code; code_bytes = a; is_code = is; in_range = below;
-        cut = append_assoc a (size ∷ []) t }, fits, short))
+    inr (inr (
+      size,
+      t,
+      record {
+        code = code;
+        code_bytes = a;
+        is_code = is;
+        in_range = below;
+        cut = append_assoc a (size ∷ []) t;
+      },
+      fits,
+      short,
+    ))

@@ -1,13 +1,13 @@
 -- An input settles its verdict exactly if that is not incomplete; the shortest prefix that does.
-use Rattle.std.proofs.Common.{◌≡◌, ℕ, ◌⊎◌, List, [], ◌∷◌, ◌++◌, refl, inl, inr, ◌-◌, ◌<◌, ◌↔◌, length, replicate, sym, ap, ◌∙◌, subst,
-    arith, length-append, append_assoc, append-nil, ◌+◌, ◌≤◌, get_or}
+use Rattle.std.proofs.Common.{◌≡◌, ℕ, ◌⊎◌, List, [], ◌∷◌, ◌++◌, refl, inl, inr, ◌-◌, ◌<◌, ◌↔◌, length, replicate, sym, ap, ◌∙◌, subst}
+use Rattle.std.proofs.Common.{arith, length-append, append_assoc, append-nil, ◌+◌, ◌≤◌, get_or}
 use Rattle.multihash.specs.Bytes.{IsStrictPrefix, IsBytes, IsPrefix, ExactlyOne}
 use Rattle.std.proofs.lemmas.List.{length-replicate, get_or_append_left, length-map}
 use Rattle.std.proofs.lemmas.List.Elements.{All-nil, All-cons, All-replicate}
-use Rattle.multihash.specs.Varint.{IsContinuation, VarintError, insufficient, overflow, not_minimal, IsInsufficient, IsNotMinimal,
-    BeginsMalformed, max_continuation, continuation_bytes, IsVarint}
-use Rattle.multihash.specs.Verdict.{Verdict, accepted, invalid_size, invalid_code, malformed, unexpected_eof, BeginsWithSize,
-    BeginsWithCode, HasVerdict, IsIncomplete, BeginsWith}
+use Rattle.multihash.specs.Varint.{IsContinuation, VarintError, insufficient, overflow, not_minimal, IsInsufficient, IsNotMinimal}
+use Rattle.multihash.specs.Varint.{BeginsMalformed, max_continuation, continuation_bytes, IsVarint}
+use Rattle.multihash.specs.Verdict.{Verdict, accepted, invalid_size, invalid_code, malformed, unexpected_eof, BeginsWithSize}
+use Rattle.multihash.specs.Verdict.{BeginsWithCode, HasVerdict, IsIncomplete, BeginsWith}
 use Rattle.multihash.specs.Settling.{Settles, IsShortestSettling}
 use Rattle.multihash.proofs.VerdictLemmas.{coded, sized, pair_begins, verdict_unique}
 use Rattle.std.specs.List.{All}
@@ -50,7 +50,7 @@ size_kept : (size : ℕ) (x rest more : List ℕ) → BeginsWithSize size x rest
 size_kept size x rest more h =
     sized h.code size h.code_bytes h.size_bytes (x ++ more) (rest ++ more) h.is_code h.is_size
     (append_more x h.code_bytes (h.size_bytes ++ rest) more h.cut
-        ∙ ap (λ (z : List ℕ). h.code_bytes ++ z) (append_assoc h.size_bytes rest more))
+    ∙ ap (λ (z : List ℕ). h.code_bytes ++ z) (append_assoc h.size_bytes rest more))
 
 code_kept : (x rest more : List ℕ) → BeginsWithCode x rest → BeginsWithCode (x ++ more) (rest ++ more)
 code_kept x rest more c = coded c.code c.code_bytes (x ++ more) (rest ++ more) c.is_code (append_more x c.code_bytes rest more c.cut)
@@ -60,8 +60,15 @@ pub error_kept : (f : VarintError) (x more : List ℕ) → ¬ (IsIncomplete (mal
 error_kept insufficient x more late h = absurd (late tt)
 error_kept overflow x more late h =
     let cut = append_more x h.front (h.byte ∷ h.rest) more h.cut in
-    record { front = h.front; byte = h.byte; rest = _; all_continuation = h.all_continuation; most = h.most;
-        too_large = h.too_large; cut = cut }
+    record {
+      front = h.front;
+      byte = h.byte;
+      rest = _;
+      all_continuation = h.all_continuation;
+      most = h.most;
+      too_large = h.too_large;
+      cut = cut;
+    }
 error_kept not_minimal x more late h =
     let cut = append_more x h.front (0 ∷ h.rest) more h.cut in
     record { front = h.front; rest = _; all_continuation = h.all_continuation; some = h.some; few = h.few; cut = cut }
@@ -102,8 +109,14 @@ open_varint : (x : List ℕ) → IsInsufficient x → (more : List ℕ) × IsByt
 open_varint [] h = (
   128 ∷ 0 ∷ [],
   All-cons (λ b. b < 256) 128 (0 ∷ []) (omega arith) (All-cons (λ b. b < 256) 0 [] (omega arith) (All-nil (λ b. b < 256))),
-  record { front = 128 ∷ []; rest = []; all_continuation = All-cons IsContinuation 128 [] (omega arith) (All-nil IsContinuation);
-      some = omega arith; few = omega arith; cut = refl },
+  record {
+    front = 128 ∷ [];
+    rest = [];
+    all_continuation = All-cons IsContinuation 128 [] (omega arith) (All-nil IsContinuation);
+    some = omega arith;
+    few = omega arith;
+    cut = refl;
+  },
 )
 open_varint (m ∷ ms) h = (
   0 ∷ [],
@@ -181,9 +194,14 @@ NoSooner t = (p : List ℕ) → IsStrictPrefix p t → IsInsufficient p
 pub varint_no_sooner : (n : ℕ) (bytes : List ℕ) → IsVarint n bytes → NoSooner bytes
 varint_no_sooner n bytes v p begins =
     let few : length (continuation_bytes v.front) ≤ max_continuation =
-        omega (arith, (varint_length n bytes v).0, length-map v.front (λ d. d + 128)) in
-    before_step bytes p (record { front = continuation_bytes v.front; last = v.last; all_continuation = All-continuation_bytes v.front;
-        few = few; cut = v.spelled }) begins
+    omega (arith, (varint_length n bytes v).0, length-map v.front (λ d. d + 128)) in
+    before_step bytes p (record {
+      front = continuation_bytes v.front;
+      last = v.last;
+      all_continuation = All-continuation_bytes v.front;
+      few = few;
+      cut = v.spelled;
+    }) begins
 
 -- the input's verdict is incomplete
 abbrev pub IsIncompleteInput : ℕ → List ℕ → Type 0
@@ -235,8 +253,15 @@ shows_error overflow x late h = record {
   rest = h.rest;
   cut = h.cut ∙ sym (append_assoc h.front (h.byte ∷ []) h.rest);
   step = record { front = h.front; last = h.byte; all_continuation = h.all_continuation; few = omega (arith, h.most); cut = refl };
-  has = record { front = h.front; byte = h.byte; rest = []; all_continuation = h.all_continuation; most = h.most;
-      too_large = h.too_large; cut = refl };
+  has = record {
+    front = h.front;
+    byte = h.byte;
+    rest = [];
+    all_continuation = h.all_continuation;
+    most = h.most;
+    too_large = h.too_large;
+    cut = refl;
+  };
 }
 shows_error not_minimal x late h = record {
   shown = h.front ++ 0 ∷ [];

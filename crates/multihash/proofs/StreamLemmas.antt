@@ -1,7 +1,7 @@
 -- Parts in a stream, none of which is a prefix of another, can be split in one way only; one more pair has been
 -- consumed.
-use Rattle.std.proofs.Common.{◌≡◌, ℕ, ◌<◌, ◌≤◌, List, [], ◌∷◌, ◌++◌, length, refl, sym, ap, ◌∙◌, subst, arith, length-append,
-    append_assoc, append-nil, Option, Some, map, inl, inr}
+use Rattle.std.proofs.Common.{◌≡◌, ℕ, ◌<◌, ◌≤◌, List, [], ◌∷◌, ◌++◌, length, refl, sym, ap, ◌∙◌, subst, arith, length-append}
+use Rattle.std.proofs.Common.{append_assoc, append-nil, Option, Some, map, inl, inr}
 use Rattle.std.specs.List.{All}
 use Rattle.multihash.specs.Pair.{Pair, FitsBuffer}
 use Rattle.multihash.specs.Encoding.{IsEncoding}
@@ -109,8 +109,15 @@ module _ {A : Type 0} (IsPart : A → List ℕ → Type 0) where
       prefix_of (x ∷ xs) (y ∷ ys) a b r s (p, a', is_p, g, a_cut) (q, b', is_q, h, b_cut) longer e =
           let first = unique x y p q (a' ++ r) (b' ++ s) is_p is_q
           (sym (ap (λ z. z ++ r) a_cut ∙ append_assoc p a' r) ∙ (e ∙ (ap (λ z. z ++ s) b_cut ∙ append_assoc q b' s))) in
-          let shorter : length a' ≤ length b' = omega (arith, longer, ap length a_cut, ap length b_cut, ap length first.1,
-              length-append p a', length-append q b') in
+          let shorter : length a' ≤ length b' = omega (
+            arith,
+            longer,
+            ap length a_cut,
+            ap length b_cut,
+            ap length first.1,
+            length-append p a',
+            length-append q b',
+          ) in
           let (zs, same) = prefix_of xs ys a' b' r s g h shorter first.2 in
           (zs, cc (first.0, same))
 
@@ -134,7 +141,7 @@ concatenated_whole = parts_whole IsEncoding encoding_unique encoding_some
 pub ConsumesPairs-more : (S : ℕ) (items : List (Fields S)) (m : Fields S) (encoding : List ℕ) (a b c : Option (List ℕ))
     → ConsumesPairs S (map pair_of items) a b
     → IsEncoding (pair_of m) encoding → FitsBuffer S (pair_of m) → Consumes b encoding c
-        → ConsumesPairs S (map pair_of (items ++ m ∷ [])) a c
+    → ConsumesPairs S (map pair_of (items ++ m ∷ [])) a c
 ConsumesPairs-more S items m encoding a b c before encodes fits consumes =
     rw (map_push pair_of items m) (record {
       bytes = before.bytes ++ encoding;

@@ -1,6 +1,7 @@
 -- Reading a varint byte by byte: the invariant of the loop, and what has been consumed at its end. `WordFrontLemmas`,
 -- for a varint in a word, cites the ends.
-use Rattle.std.proofs.Common.{◌≡◌, ℕ, ◌+◌, ◌*◌, ◌%◌, ◌^◌, ◌<◌, ◌≤◌, ◌⊎◌, List, [], ◌∷◌, ◌++◌, length, Option, refl, sym, ap, ◌∙◌, subst, inl, inr, arith, append_assoc, bit_and, bit_or}
+use Rattle.std.proofs.Common.{◌≡◌, ℕ, ◌+◌, ◌*◌, ◌%◌, ◌^◌, ◌<◌, ◌≤◌, ◌⊎◌, List, [], ◌∷◌, ◌++◌, length, Option, refl, sym, ap, ◌∙◌, subst}
+use Rattle.std.proofs.Common.{inl, inr, arith, append_assoc, bit_and, bit_or}
 use Rattle.std.specs.List.{All}
 use Rattle.std.specs.Io.KnownBytes.{IsAtEnd, prepend_known}
 use Rattle.std.proofs.Math.Nat.{lt_of_not-le}
@@ -8,7 +9,8 @@ use Rattle.std.proofs.lemmas.Nat.{and_mask}
 use Rattle.std.proofs.lemmas.List.{length_push, nil_from_length}
 use Rattle.std.proofs.lemmas.List.Elements.{All-nil, All-push}
 use Rattle.multihash.specs.Bytes.{IsBytes, IsStrictPrefix, place_value}
-use Rattle.multihash.specs.Varint.{max_continuation, last_byte_limit, IsContinuation, VarintError, insufficient, overflow, not_minimal, IsInsufficient, BeginsMalformed}
+use Rattle.multihash.specs.Varint.{max_continuation, last_byte_limit, IsContinuation, VarintError, insufficient, overflow, not_minimal}
+use Rattle.multihash.specs.Varint.{IsInsufficient, BeginsMalformed}
 use Rattle.multihash.specs.Fault.{Fault}
 use Rattle.multihash.specs.Reading.{Consumes}
 use Rattle.multihash.specs.Refusal.{Refusal, of_io, of_varint}

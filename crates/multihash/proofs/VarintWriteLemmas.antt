@@ -1,6 +1,6 @@
 -- The invariant of the loop that writes a varint's bytes; each number in range has a varint.
-use Rattle.std.proofs.Common.{◌≡◌, ℕ, zero, suc, ◌+◌, ◌*◌, ◌/◌, ◌%◌, ◌^◌, ◌<◌, ◌≤◌, List, [], ◌∷◌, ◌++◌, length, refl, sym, ap, ◌∙◌,
-    arith, add-one, append_assoc, inl, inr, bit_and, bit_or}
+use Rattle.std.proofs.Common.{◌≡◌, ℕ, zero, suc, ◌+◌, ◌*◌, ◌/◌, ◌%◌, ◌^◌, ◌<◌, ◌≤◌, List, [], ◌∷◌, ◌++◌, length, refl, sym, ap, ◌∙◌}
+use Rattle.std.proofs.Common.{arith, add-one, append_assoc, inl, inr, bit_and, bit_or}
 use Rattle.std.specs.List.{All}
 use Rattle.std.proofs.Math.Nat.{lt_of_not-le, pow-suc, pow-zero, div-add-mod', pow-le-pow_right, mul-le-mul_right}
 use Rattle.std.proofs.lemmas.Nat.{and_mask, or_comm, or_shifted, mod_below, div_below}

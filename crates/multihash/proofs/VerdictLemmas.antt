@@ -1,6 +1,6 @@
 -- An input has one verdict; the two varints at its front.
-use Rattle.std.proofs.Common.{◌≡◌, ℕ, ◌<◌, ◌≤◌, cond, ltb, List, [], ◌∷◌, ◌++◌, length, take, drop, refl, sym, ap, ◌∙◌, subst, arith, inl,
-    inr, length-append, append-nil, ◌+◌, ◌-◌, Some, get_or}
+use Rattle.std.proofs.Common.{◌≡◌, ℕ, ◌<◌, ◌≤◌, cond, ltb, List, [], ◌∷◌, ◌++◌, length, take, drop, refl, sym, ap, ◌∙◌, subst, arith, inl}
+use Rattle.std.proofs.Common.{inr, length-append, append-nil, ◌+◌, ◌-◌, Some, get_or}
 use Rattle.std.proofs.lemmas.Bool.{cases_lt, lt-ltb, le-ltb}
 use Rattle.std.proofs.lemmas.List.{take_at, drop_at, take-append-drop, length-take-le, length-drop, drop-drop}
 use Rattle.std.proofs.lemmas.List.Elements.{All-same}
@@ -8,8 +8,8 @@ use Rattle.multihash.specs.Bytes.{IsBytes}
 use Rattle.multihash.specs.Pair.{Pair, FitsBuffer, digest_limit}
 use Rattle.multihash.specs.Varint.{IsVarint}
 use Rattle.multihash.specs.Encoding.{IsEncoding}
-use Rattle.multihash.specs.Verdict.{Verdict, accepted, invalid_size, invalid_code, malformed, unexpected_eof, BeginsWith, BeginsWithSize,
-    BeginsWithCode, HasVerdict, HasWholeVerdict, HasHead}
+use Rattle.multihash.specs.Verdict.{Verdict, accepted, invalid_size, invalid_code, malformed, unexpected_eof, BeginsWith, BeginsWithSize}
+use Rattle.multihash.specs.Verdict.{BeginsWithCode, HasVerdict, HasWholeVerdict, HasHead}
 use Rattle.multihash.proofs.DigitLemmas.{All-append_right}
 use Rattle.multihash.proofs.VarintWriteLemmas.{one_byte}
 use Rattle.multihash.proofs.VarintLemmas.{Front, number, error, HasFront, front_is, front_of, front_of_has}
@@ -56,7 +56,7 @@ module _ (ends : Pair → List ℕ → Verdict) (S : ℕ) (x : List ℕ) where
   pub judged_at : (rest : List ℕ) (c : BeginsWithCode x rest) (g : Front) → HasFront rest g → judged ends S c.code g ≡ found_by ends S x
   judged_at rest c g has =
       ap (judged ends S c.code) (front_is rest g has)
-          ∙ ap (follows ends S) (front_is x (number c.code rest) (c.code_bytes, c.is_code, c.cut))
+      ∙ ap (follows ends S) (front_is x (number c.code rest) (c.code_bytes, c.is_code, c.cut))
 
   pub judged_size : (size : ℕ) (rest : List ℕ) (h : BeginsWithSize size x rest)
       → judged ends S h.code (number size rest) ≡ found_by ends S x
@@ -67,11 +67,15 @@ module _ (ends : Pair → List ℕ → Verdict) (S : ℕ) (x : List ℕ) where
   judged_pair p rest b fits =
       let n = length p.digest in
       let long : n ≤ length (p.digest ++ rest) = omega (arith, length-append p.digest rest) in
-      rw (le-ltb (digest_limit S) n fits, le-ltb (length (p.digest ++ rest)) n long, take_at p.digest rest n refl,
-          drop_at p.digest rest n refl) refl
+      rw (
+        le-ltb (digest_limit S) n fits,
+        le-ltb (length (p.digest ++ rest)) n long,
+        take_at p.digest rest n refl,
+        drop_at p.digest rest n refl,
+      ) refl
       ∙ judged_size n (p.digest ++ rest)
       (sized p.code n b.encodes.code b.encodes.size x _ b.encodes.is_code b.encodes.is_size
-          (b.cut ∙ encoding_cut p b.encoding rest b.encodes))
+      (b.cut ∙ encoding_cut p b.encoding rest b.encodes))
 
   -- an input has no other verdict than the computed one
   found_is : (v : Verdict) → HasVerdict S x v → ((p : Pair) (rest : List ℕ) → v ≡ accepted p → v ≡ ends p rest) → v ≡ found_by ends S x
@@ -111,9 +115,15 @@ has_judged S size x rest h =
       | inr within ↦ elim (cases_lt (length rest) size) [
         | inl short ↦ (unexpected_eof, (size, rest, h, within, short))
         | inr full ↦
-            let long : length (take size rest) ≡ size = length-take-le size rest full in
-            (accepted _, (drop size rest, pair_begins size x rest h (take size rest) _ long
-                (sym (take-append-drop size rest)), omega arith))
+            let long : length (take size rest) ≡ size = length-take-le size rest full in (
+              accepted _,
+              (
+                drop size rest,
+                pair_begins size x rest h (take size rest) _ long
+                    (sym (take-append-drop size rest)),
+                omega arith,
+              ),
+            )
       ]
     ]
 
@@ -208,13 +218,13 @@ module _ (code size len : ℕ) (input : List ℕ) (h : HasHead code size len inp
         let p : Pair = record { code = code; digest = rest } in
         let begins : BeginsWith p input [] =
         rw (← h.is_code, is) (pair_begins size input (drop len input) h.varints (drop len input) [] (ap length (sym is) ∙ exact)
-            (sym (append-nil (drop len input)))) in
+        (sym (append-nil (drop len input)))) in
         (whole_pair p input begins, omega arith)
 
 -- the two varints are a head
 pub head_of : (code size k m : ℕ) (input left : List ℕ) → left ≡ drop k input → k ≤ length input → m ≤ length left
     → ConsumesVarint code (Some input) (Some (drop k input)) → ConsumesVarint size (Some left) (Some (drop m left))
-        → HasHead code size (k + m) input
+    → HasHead code size (k + m) input
 head_of code size k m input left is within more a b =
     let second = sym is ∙ Consumes-cut left _ (drop m left) b.2 ∙ ap (λ z. b.0 ++ z) (ap (drop m) is ∙ drop-drop m k input) in
     let cut = Consumes-cut input _ (drop k input) a.2 ∙ ap (λ z. a.0 ++ z) second in

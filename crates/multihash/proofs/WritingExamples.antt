@@ -4,8 +4,8 @@ use Rattle.std.proofs.Common.{◌≡◌, ◌≢◌, ◌≤◌, ℕ, Bool, true, 
 use Rattle.std.specs.Prelude.{⊤, Result, Ok, Err}
 use Rattle.std.proofs.lemmas.Bool.{false≢true}
 use Rattle.multihash.specs.Fault.{Fault}
-use Rattle.multihash.specs.Writing.{IsWriterFault, AppendsPrefix, IsWriterFaultOrFull, CountsWriterFailures, WriteLaws, WriteAllLaws,
-    IsFault, AppendsAtEnd, AdvancesPast}
+use Rattle.multihash.specs.Writing.{IsWriterFault, AppendsPrefix, IsWriterFaultOrFull, CountsWriterFailures, WriteLaws, WriteAllLaws}
+use Rattle.multihash.specs.Writing.{IsFault, AppendsAtEnd, AdvancesPast}
 use Rattle.multihash.proofs.ReadingExamples.{other, eof, full, memory}
 use Rattle.multihash.specs.Filling.{FillsSlice, Fills, IsFilled}
 use Rattle.multihash.specs.declared.no_std_io.slice_writer.SliceWriter.{SliceWriter}

@@ -1,6 +1,7 @@
 -- What has been appended after several writes; a writer to a slice fails only if its capacity is too small.
-use Rattle.std.proofs.Common.{◌≡◌, ◌≢◌, ◌<◌, [], ◌∷◌, refl, ℕ, ◌-◌, List, ◌++◌, length, take, drop, Result, OnErr, sym, ap, ◌∙◌, arith,
-    append_assoc, take-append-drop, length-append, length-drop, ◌≤◌, false, inl, inr, Ok, Err, IsOk, ◌+◌, subst, Bool}
+use Rattle.std.proofs.Common.{◌≡◌, ◌≢◌, ◌<◌, [], ◌∷◌, refl, ℕ, ◌-◌, List, ◌++◌, length, take, drop, Result, OnErr, sym, ap, ◌∙◌, arith}
+use Rattle.std.proofs.Common.{append_assoc, take-append-drop, length-append, length-drop, ◌≤◌, false, inl, inr, Ok, Err, IsOk, ◌+◌, subst}
+use Rattle.std.proofs.Common.{Bool}
 use Rattle.std.proofs.lemmas.List.{take_rest, length-take-le, drop-drop}
 use Rattle.std.proofs.Math.Seq.{drop-append_seam, take-append_seam}
 use Rattle.multihash.specs.Bytes.{IsStrictPrefix}

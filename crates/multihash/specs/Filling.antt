@@ -1,8 +1,8 @@
 -- What a writer that keeps its slice has written between two of its states.
 use Rattle.std.specs.Prelude.{◌≡◌, ◌+◌, ◌≤◌, ℕ, List, [], ◌++◌, take, drop, length, refl}
 use Rattle.std.proofs.Common.{◌∙◌, arith, length-append}
-use Rattle.multihash.specs.Writing.{AdvancesPast, AdvancesPast-none, AdvancesPast-concatenated, AppendsAtEnd, AppendsAtEnd-none,
-    AppendsAtEnd-concatenated}
+use Rattle.multihash.specs.Writing.{AdvancesPast, AdvancesPast-none, AdvancesPast-concatenated, AppendsAtEnd, AppendsAtEnd-none}
+use Rattle.multihash.specs.Writing.{AppendsAtEnd-concatenated}
 use Rattle.multihash.specs.declared.no_std_io.slice_writer.SliceWriter.{SliceWriter}
 
 -- The rest of the slice is unchanged, and `after` bytes are filled then.

@@ -1,7 +1,7 @@
 -- What only contracts of private functions cite: of `word.rt`, the first bytes of an input as one number; of
 -- `json.rt`, the bytes that the members of a JSON array are.
-use Rattle.std.specs.Prelude.{◌≡◌, ℕ, zero, suc, ◌+◌, ◌*◌, ◌/◌, ◌%◌, ◌^◌, ◌<◌, ◌≤◌, min, List, take, length, All, [], ◌∷◌, ◌++◌, map,
-    Option, Some, None, Bool, nat_lt, is_some, if◌then◌else◌}
+use Rattle.std.specs.Prelude.{◌≡◌, ℕ, zero, suc, ◌+◌, ◌*◌, ◌/◌, ◌%◌, ◌^◌, ◌<◌, ◌≤◌, min, List, take, length, All, [], ◌∷◌, ◌++◌, map}
+use Rattle.std.specs.Prelude.{Option, Some, None, Bool, nat_lt, is_some, if◌then◌else◌}
 use Rattle.std.proofs.Common.{sym, ap, ◌∙◌, append_assoc, append-nil}
 use Rattle.std.proofs.lemmas.List.{map-append}
 use Rattle.std.proofs.lemmas.List.Elements.{All-nil, All-append}

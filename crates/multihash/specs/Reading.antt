@@ -1,6 +1,6 @@
 -- What a call consumed from a reader, and how it failed.
-use Rattle.std.specs.Prelude.{◌≡◌, ◌<◌, ◌≤◌, ℕ, List, [], ◌⊎◌, length, take, drop, Option, Some, Result, MatchResult, IfSome, IfNone,
-    IfOk, IfErr, OnOk, OnErr, IsOk, IsOkAnd, IsNone}
+use Rattle.std.specs.Prelude.{◌≡◌, ◌<◌, ◌≤◌, ℕ, List, [], ◌⊎◌, length, take, drop, Option, Some, Result, MatchResult, IfSome, IfNone}
+use Rattle.std.specs.Prelude.{IfOk, IfErr, OnOk, OnErr, IsOk, IsOkAnd, IsNone}
 use Rattle.std.specs.Io.KnownBytes.{prepend_known, IsAtEnd}
 use Rattle.multihash.specs.Fault.{Fault, IsUnexpectedEof, IsOwnFault}
 

@@ -1,7 +1,7 @@
 -- What a writer's call appended, how it failed, and the laws of both calls. The effect of appending: a
 -- shorter slice, or more items of a vector.
-use Rattle.std.specs.Prelude.{◌≡◌, ◌+◌, ◌<◌, ◌≤◌, ℕ, Bool, IsTrue, List, [], ◌⊎◌, length, take, Result, MatchResult, IfOk, OnOk, OnErr,
-    IsOk, ◌++◌, drop, refl}
+use Rattle.std.specs.Prelude.{◌≡◌, ◌+◌, ◌<◌, ◌≤◌, ℕ, Bool, IsTrue, List, [], ◌⊎◌, length, take, Result, MatchResult, IfOk, OnOk, OnErr}
+use Rattle.std.specs.Prelude.{IsOk, ◌++◌, drop, refl}
 use Rattle.multihash.specs.Fault.{Fault, IsWriteZero, IsOutOfMemoryFault, IsOwnFault}
 use Rattle.multihash.specs.Bytes.{IsStrictPrefix}
 use Rattle.std.proofs.Common.{sym, ap, ◌∙◌, arith, append_assoc, append-nil, length-append, length-drop}

@@ -1,5 +1,5 @@
-use Rattle.std.proofs.Common.{◌≡◌, ℕ, ◌+◌, ◌-◌, ◌≤◌, List, ◌++◌, rules, arith, length, take, slice_range, sym, ap, ◌∙◌, subst, le_refl,
-    drop_at, length-take-le}
+use Rattle.std.proofs.Common.{◌≡◌, ℕ, ◌+◌, ◌-◌, ◌≤◌, List, ◌++◌, rules, arith, length, take, slice_range, sym, ap, ◌∙◌, subst, le_refl}
+use Rattle.std.proofs.Common.{drop_at, length-take-le}
 use Rattle.std.proofs.lemmas.Slice.{take-put_mid_below}
 use Rattle.std.specs.Io.KnownBytes.{Consumes as ReadsKnown}
 use Rattle.std.proofs.KnownBytes.{Consumes-trans}
@@ -19,7 +19,7 @@ slice_range-put_mid a k n xs ys within fits =
     let same : (a + n) - a ≡ n = omega arith in
     let after = post_of a k xs in
     ap (take ((a + n) - a)) (drop_at (take a xs) (ys ++ after) a (length-take-le a xs within)) ∙ ap (λ m. take m (ys ++ after)) same
-        ∙ take-append-le n ys after fits
+    ∙ take-append-le n ys after fits
 
 pub loop-length-preserved : goal.loop-length-preserved
 loop-length-preserved g c =
@@ -28,6 +28,9 @@ loop-length-preserved g c =
     let within = c.loop-length.invariant.1 in
     let part = slice_range-put_mid from room c.in-Ok.count c.loop-length.room c.read.new.buf within c.in-Ok.ensures.bound.0 in
     let concatenated = take_split from (from + c.in-Ok.count) c.loop-length.room (put_mid from room c.loop-length.room c.read.new.buf)
-        (omega arith) (take-put_mid_below _ _ _ _ _ (le_refl _) within) in
-    (search rules, search rules, subst (ReadsKnown _ _) (ap (λ l. take from c.loop-length.room ++ l) (sym part) ∙ concatenated)
-        (Consumes-trans _ _ _ _ _ c.loop-length.invariant.2 c.in-Ok.ensures.bytes.0))
+    (omega arith) (take-put_mid_below _ _ _ _ _ (le_refl _) within) in (
+      search rules,
+      search rules,
+      subst (ReadsKnown _ _) (ap (λ l. take from c.loop-length.room ++ l) (sym part) ∙ concatenated)
+          (Consumes-trans _ _ _ _ _ c.loop-length.invariant.2 c.in-Ok.ensures.bytes.0),
+    )

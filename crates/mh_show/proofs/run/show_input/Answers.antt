@@ -35,7 +35,7 @@ returns-in_err-lines-clause-err g c =
     let ends : RunError → Type 0 = EndsRun (c.args.out.now ≡ c.args.out.now) old new out out in
     passed_on c.from_residual-in_err-lines.result _ _ ends c.from_residual-in_err-lines.ensures.1
     (show_ends (c.args.out.now ≡ c.args.out.now) old new out out c.as_slice.result.now c.in_err-lines.field-0.0 refl
-        (rw c.as_slice.ensures.value c.in_ok-text.ensures.ok)
+    (rw c.as_slice.ensures.value c.in_ok-text.ensures.ok)
     (λ line bytes same. met.not_hex line bytes (ap Err same))
     (λ r same. met.rejected r (ap Err same)))
 

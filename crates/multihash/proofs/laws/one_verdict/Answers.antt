@@ -1,4 +1,5 @@
-use Rattle.multihash.proofs.VerdictLemmas.{found, verdict_is, has_found, verdict_unique, whole_found, whole_is, has_whole_found, whole_verdict_unique}
+use Rattle.multihash.proofs.VerdictLemmas.{found, verdict_is, has_found, verdict_unique, whole_found, whole_is, has_whole_found}
+use Rattle.multihash.proofs.VerdictLemmas.{whole_verdict_unique}
 use Rattle.multihash.proofs.laws.one_verdict.Goals as goal
 
 pub returns : goal.returns

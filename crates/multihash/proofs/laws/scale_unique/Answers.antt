@@ -1,5 +1,6 @@
 use Rattle.std.proofs.Common.{[], refl, sym, ◌∙◌, append-nil, arith}
-use Rattle.multihash.proofs.ScaleLemmas.{scale_exists, scale_same, scale_found, scale_verdict_is, has_scale_found, scale_verdict_unique, scale_split}
+use Rattle.multihash.proofs.ScaleLemmas.{scale_exists, scale_same, scale_found, scale_verdict_is, has_scale_found, scale_verdict_unique}
+use Rattle.multihash.proofs.ScaleLemmas.{scale_split}
 use Rattle.multihash.proofs.laws.scale_unique.Goals as goal
 
 pub returns : goal.returns

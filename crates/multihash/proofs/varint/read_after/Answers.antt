@@ -1,5 +1,6 @@
 use Rattle.std.proofs.Common.{refl, ◌∙◌, arith}
-use Rattle.multihash.proofs.VarintReadLemmas.{one_read, reader_failed, input_ended, read_overflow, ends_in_zero, read_last, read_more, first_of_two}
+use Rattle.multihash.proofs.VarintReadLemmas.{one_read, reader_failed, input_ended, read_overflow, ends_in_zero, read_last, read_more}
+use Rattle.multihash.proofs.VarintReadLemmas.{first_of_two}
 use Rattle.multihash.proofs.OutcomeLemmas.{passed_on}
 use Rattle.multihash.proofs.varint.read_after.Goals as goal
 

@@ -4,7 +4,8 @@ use Rattle.multihash.specs.Scale.{IsScaleCode}
 use Rattle.multihash.specs.Reading.{Consumes}
 use Rattle.multihash.proofs.OutcomeLemmas.{passed_err}
 use Rattle.multihash.proofs.ReadingLemmas.{Consumes-concatenated}
-use Rattle.multihash.proofs.ScaleLemmas.{code_read, ScaleMeets, one_item, code_rejected, no_size, size_rejected, cut_scale_digest, inside_rejected, scale_returned}
+use Rattle.multihash.proofs.ScaleLemmas.{code_read, ScaleMeets, one_item, code_rejected, no_size, size_rejected, cut_scale_digest}
+use Rattle.multihash.proofs.ScaleLemmas.{inside_rejected, scale_returned}
 use Rattle.multihash.proofs.multihash.Multihash.scale_decode.Given as given
 use Rattle.multihash.proofs.multihash.Multihash.scale_decode.Goals as goal
 use Rattle.multihash.proofs.multihash.Multihash.scale_decode.Goals.{After-from_le_bytes-code, After-from-size}

@@ -4,7 +4,9 @@ use Rattle.std.proofs.lemmas.Result.{IfOk-weaker, IfErr-weaker}
 use Rattle.multihash.proofs.WordFrontLemmas.{low_continuation, low_end, low_number, ends_short, stops_at_zero}
 use Rattle.multihash.proofs.WordLemmas.{first_unmarked}
 use Rattle.multihash.proofs.varint.word.read_word.Goals as goal
-use Rattle.multihash.proofs.varint.word.read_word.Goals.{else-varint-continuation_bytes-eq0-via-then-varint-continuation_bytes-eq0+else-continuation_bytes-gt0, else-varint-continuation_bytes-eq0-via-else-varint-continuation_bytes-eq0}
+use Rattle.multihash.proofs.varint.word.read_word.Goals.{}
+use Rattle.multihash.proofs.varint.word.read_word.Goals.{else-varint-continuation_bytes-eq0-via-then-varint-continuation_bytes-eq0+else-continuation_bytes-gt0}
+use Rattle.multihash.proofs.varint.word.read_word.Goals.{else-varint-continuation_bytes-eq0-via-else-varint-continuation_bytes-eq0}
 
 pub returns-then-stops-eq0-clause-ok : goal.returns-then-stops-eq0-clause-ok
 returns-then-stops-eq0-clause-ok c =
