@@ -36,7 +36,7 @@ LINES = (
     ("crates/multihash_c/src/version.rt", "const PATCH: u32 = {patch};"),
 )
 # The headings of CHANGES, of which the first is of the version.
-HEADING = re.compile(r"^(\d+\.\d+\.\d+)(?:, not released| \((\d{4}-\d\d-\d\d)\))$", re.M)
+HEADING = re.compile(r"^(\d+\.\d+\.\d+)(?:, not released.*| \((\d{4}-\d\d-\d\d)\))$", re.M)
 # Debian's changelog has an entry of each version; its person is that of the entry before.
 ENTRY = re.compile(r"multihash-c \(([\d.]*)-1\) (?:.*\n)*? -- (.*>)  (.*)\n")
 NEW = "multihash-c ({}-1) unstable; urgency=medium\n\n  * New version.\n\n -- {}  {}\n\n"
