@@ -18,8 +18,9 @@ README, FORMAT, DIFFERENCES, CONTRACTS = "README.md", "docs/FORMAT.md", "docs/DI
 C, CALLING, HEADER = "bindings/c/README.md", "crates/multihash/CALLING.md", "bindings/c/include/multihash.h"
 RUST, JS, PYTHON = "bindings/rust", "bindings/js", "bindings/python"
 SHIM, VERIFIED = f"{RUST}/multihash/README.md", f"{RUST}/verified-multihash/README.md"
+FORMATS = f"{RUST}/verified-multihash/FORMATS.md"
 # pages of packages: their links lead to no other file
-PACKED = (C, "bindings/c/src/README.md", f"{JS}/README.md", f"{PYTHON}/README.md", SHIM, VERIFIED)
+PACKED = (C, "bindings/c/src/README.md", f"{JS}/README.md", f"{PYTHON}/README.md", SHIM, VERIFIED, FORMATS)
 # a source, what it declares, and the page that names it
 DECLARED = (
     (HEADER, r"^(?:static inline )?(?:const char \*|\w+ )(multihash_\w+)\(", C),

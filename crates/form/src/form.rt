@@ -15,10 +15,18 @@ use std::alloc::Global;
 
 /// A value with one encoding, which is not empty and no prefix of another one.
 ///
-/// The ghost members are what contracts state of a form, and the laws at the end are what each implementation
-/// proves. [`read`](crate::read), [`from_bytes`](crate::from_bytes) and the functions of [`laws`](crate::laws) have
-/// more contracts, which follow from these.
+/// Each implementation keeps these laws. Those of the parts are proved:
+///
+/// - A value has one encoding, and values that differ have different ones. What was written is read back, and what
+///   follows it is left unread.
+/// - No encoding is empty or a prefix of another one, so concatenated encodings can be split in one way only.
+/// - An input that starts with no encoding has one error. One byte shows it, whatever follows that byte, and `read`
+///   consumes the input up to there.
+/// - An input that ends before that is incomplete, and the error says so.
 pub trait Form {
+    // The ghost members are what contracts state of a form, and the laws at the end are what each implementation
+    // proves. `read`, `from_bytes` and the functions of the module `laws` have more contracts, which follow from these.
+    //
     // The bytes are the encoding of the value.
     ghost is_form: { Self → List ℕ → Type 0 };
 

@@ -25,7 +25,6 @@ impl<const S: usize> Eq for Multihash<S> {
 
 /// By code, then by digest length, then by the first digest byte that differs.
 impl<const S: usize> Ord for Multihash<S> {
-
     fn cmp(&self, other: &Self) -> Ordering {
         if self.code != other.code {
             return self.code.cmp(&other.code);

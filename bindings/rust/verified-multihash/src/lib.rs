@@ -13,6 +13,8 @@ extern crate std as host;
 
 pub mod codes;
 mod explain;
+#[cfg(feature = "alloc")]
+pub mod form;
 #[cfg(feature = "std")]
 mod io;
 mod rattle;

@@ -25,6 +25,11 @@ pub mod fallible {
     pub struct Vec;
 
     impl Vec {
+        #[inline]
+        pub fn new<T>() -> alloc::vec::Vec<T> {
+            alloc::vec::Vec::new()
+        }
+
         /// Returns an empty vector with capacity for exactly that many values.
         #[inline]
         pub fn with_capacity<T>(capacity: usize) -> Result<alloc::vec::Vec<T>, super::AllocError> {
@@ -64,6 +69,30 @@ impl Write for Vec<u8> {
         self.try_reserve(buf.len()).map_err(|_| Error::out_of_memory())?;
         self.extend_from_slice(buf);
         Ok(())
+    }
+}
+
+/// What a vector has in Rattle, where these functions are called `push` and `reserve`.
+#[cfg(feature = "alloc")]
+pub trait OrFail<T> {
+    fn push_or_fail(&mut self, value: T) -> Result<(), AllocFailed<T>>;
+    fn reserve_or_fail(&mut self, additional: usize) -> Result<(), AllocError>;
+}
+
+#[cfg(feature = "alloc")]
+impl<T> OrFail<T> for Vec<T> {
+    #[inline]
+    fn push_or_fail(&mut self, value: T) -> Result<(), AllocFailed<T>> {
+        if self.len() == self.capacity() && self.try_reserve(1).is_err() {
+            return Err(AllocFailed(value));
+        }
+        self.push(value);
+        Ok(())
+    }
+
+    #[inline]
+    fn reserve_or_fail(&mut self, additional: usize) -> Result<(), AllocError> {
+        self.try_reserve(additional).map_err(|_| AllocError)
     }
 }
 

@@ -2,17 +2,21 @@
 #![cfg(feature = "alloc")]
 use std::alloc::{GlobalAlloc, Layout, System};
 use std::cell::Cell;
+use verified_multihash::form::{self, from_bytes, Block, Both, Counted, FormError};
 use verified_multihash::no_std_io::{SliceWriter, Write};
-use verified_multihash::{list, Decoder, Error, Multihash};
+use verified_multihash::{list, Decoder, Multihash};
 
 thread_local! {
     /// How many allocations the thread can still make.
     static LEFT: Cell<usize> = const { Cell::new(usize::MAX) };
+    /// The most bytes that one allocation asked for.
+    static MOST: Cell<usize> = const { Cell::new(0) };
 }
 
 struct Limited;
 
-fn take() -> bool {
+fn take(length: usize) -> bool {
+    MOST.with(|cell| cell.set(cell.get().max(length)));
     let left = LEFT.with(Cell::get);
     LEFT.with(|cell| cell.set(left.saturating_sub(1)));
     left > 0
@@ -21,11 +25,11 @@ fn take() -> bool {
 // SAFETY: each call is one of the system's allocator, or fails.
 unsafe impl GlobalAlloc for Limited {
     unsafe fn alloc(&self, layout: Layout) -> *mut u8 {
-        if take() { System.alloc(layout) } else { std::ptr::null_mut() }
+        if take(layout.size()) { System.alloc(layout) } else { std::ptr::null_mut() }
     }
 
     unsafe fn realloc(&self, bytes: *mut u8, layout: Layout, length: usize) -> *mut u8 {
-        if take() { System.realloc(bytes, layout, length) } else { std::ptr::null_mut() }
+        if take(length) { System.realloc(bytes, layout, length) } else { std::ptr::null_mut() }
     }
 
     unsafe fn dealloc(&self, bytes: *mut u8, layout: Layout) {
@@ -44,8 +48,11 @@ fn with<T>(allocations: usize, call: impl FnOnce() -> T) -> T {
     result
 }
 
-fn is_out_of_memory<T>(result: Result<T, Error>) -> bool {
-    result.err().map_or(false, |error| error.io().map_or(false, |error| error.is_out_of_memory()))
+fn is_out_of_memory<T>(result: Result<T, impl Into<FormError>>) -> bool {
+    match result.map_err(Into::into) {
+        Err(FormError::Failed(error)) => error.io().map_or(false, |error| error.is_out_of_memory()),
+        _ => false,
+    }
 }
 
 const ENCODING: &[u8] = b"\x12\x03abc";
@@ -105,4 +112,39 @@ fn no_allocation() {
     });
     assert_eq!((written, read), (Some(5), (None, value().resize().ok())));
     assert!(decoded.is_err() && full.is_err());
+}
+
+type Node = Both<Counted<Multihash<64>, 1_000_000_000>, Block<1_000_000_000>>;
+
+/// A billion items and a gigabyte that are only claimed.
+#[test]
+fn claimed_lengths() {
+    for bytes in [&b"\x80\x94\xeb\xdc\x03\x12\x00"[..], b"\x00\x80\x94\xeb\xdc\x03abc"] {
+        MOST.with(|cell| cell.set(0));
+        assert!(from_bytes::<Node>(bytes).expect_err("it ends").is_incomplete());
+        assert!(MOST.with(Cell::get) < 1000);
+    }
+}
+
+/// A format of which each allocation fails.
+#[test]
+fn formats() {
+    let links = vec![value(); 100];
+    let node: Node = Both {
+        first: Counted::new(links).expect("they fit"),
+        second: Block::new(vec![5; 100_000]).expect("it fits"),
+    };
+    let bytes = form::to_bytes(&node).expect("memory");
+    let mut failed = [0; 2];
+    for allocations in 0..100 {
+        match with(allocations, || from_bytes::<Node>(&bytes)) {
+            Ok(read) => assert!(read == node),
+            error => failed[0] += usize::from(is_out_of_memory(error)),
+        }
+        match with(allocations, || form::to_bytes(&node)) {
+            Ok(written) => assert!(written == bytes),
+            error => failed[1] += usize::from(is_out_of_memory(error)),
+        }
+    }
+    assert!(failed.iter().all(|count| (1..100).contains(count)), "{failed:?}");
 }

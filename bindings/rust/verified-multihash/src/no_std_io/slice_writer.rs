@@ -10,9 +10,9 @@ use super::{Error, Write};
 /// can speak of those.
 pub struct SliceWriter<'a> {
     /// The slice: the bytes written so far, then its unchanged remainder.
-    buffer: &'a mut [u8],
+    pub(crate) buffer: &'a mut [u8],
     /// The number of bytes written.
-    filled: usize,
+    pub(crate) filled: usize,
 }
 
 impl<'a> SliceWriter<'a> {

@@ -1,0 +1,42 @@
+// Made by tools/generate rust.
+#![doc = include_str!("../FORMATS.md")]
+use crate::rattle::{std, *};
+pub mod frame;
+#[doc(hidden)]
+pub mod values;
+
+#[cfg(feature = "std")]
+pub use values::with_io;
+
+mod all;
+mod array;
+mod block;
+mod both;
+mod byte_count;
+mod case;
+mod cases;
+mod choice;
+mod counted;
+mod error;
+mod form;
+mod number;
+mod of_multihash;
+mod stream;
+mod tag;
+mod whole;
+
+pub use all::all_from_bytes;
+pub use array::Bytes;
+pub use block::Block;
+pub use both::{Both, write_three, write_two};
+pub use byte_count::ByteCount;
+pub use case::{Case, NoCase, Others, Tagged};
+pub use cases::Cases;
+pub use choice::Choice;
+pub use counted::{Counted, read_items, write_items};
+pub use error::FormError;
+pub use form::Form;
+pub use number::Number;
+pub use stream::Stream;
+pub use tag::Tag;
+pub use whole::{encoded_len, from_bytes, read, read_front, to_bytes};

@@ -1,0 +1,22 @@
+//! Values that fill an input, one after another.
+// Made by tools/generate rust.
+use crate::rattle::{std, *};
+
+use crate::form::{Form, FormError, read_front};
+
+/// Reads the values whose encodings, one after another, are the whole of `bytes`.
+///
+/// # Errors
+///
+/// Out of memory, or the first error of [`Form::read`].
+pub fn all_from_bytes<T: Form>(bytes: &[u8]) -> Result<Vec<T>, FormError> {
+    use crate::rattle::fallible::Vec;
+    let mut items = Vec::new();
+    let mut rest = bytes;
+    while !rest.is_empty() {
+        let (item, left) = read_front::<T>(rest)?;
+        items.push_or_fail(item)?;
+        rest = left;
+    }
+    Ok(items)
+}

@@ -1,0 +1,31 @@
+//! Exactly `N` bytes, without a length before them.
+// Made by tools/generate rust.
+use crate::rattle::{std, *};
+
+use crate::form::{Form, FormError};
+use crate::no_std_io::{self, Read, Write};
+
+/// `N` bytes, with no length before them. `N` is at least 1, since no encoding is empty.
+///
+/// `read` returns an unexpected end if fewer bytes remain.
+#[derive(Clone, Copy, Debug, PartialEq, Eq, PartialOrd, Ord, Hash)]
+pub struct Bytes<const N: usize> {
+    /// The bytes.
+    pub(crate) bytes: [u8; N],
+}
+
+impl<const N: usize> Form for Bytes<N> {
+    fn write<W: Write>(&self, w: &mut W) -> Result<(), FormError> {
+        w.write_all(&self.bytes)?;
+        Ok(())
+    }
+
+    fn read<R: Read>(r: &mut R) -> Result<Self, FormError> {
+        if N == 0 {
+            return Err(no_std_io::Error::unexpected_eof().into());
+        }
+        let mut bytes = [0; N];
+        r.read_exact(&mut bytes)?;
+        Ok(Bytes { bytes })
+    }
+}

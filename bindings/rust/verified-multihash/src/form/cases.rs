@@ -1,0 +1,29 @@
+//! The trait of the cases of a choice.
+// Made by tools/generate rust.
+use crate::rattle::{std, *};
+
+use crate::form::{FormError, Number};
+use crate::no_std_io::{Read, Write};
+
+/// A value that has a tag, which determines how the value is encoded: what a [`Choice`](crate::form::Choice) is made of.
+/// [`Case`](crate::form::Case) implements it.
+///
+/// The laws at the end are those of [`Form`](crate::form::Form), of values with one tag.
+pub trait Cases: super::values::Part {
+    /// Returns the tag.
+    fn tag(&self) -> Number;
+
+    /// Appends the encoding without its tag to `w`.
+    ///
+    /// # Errors
+    ///
+    /// The writer's error. A strict prefix of what was to be written has been appended then.
+    fn write_value<W: Write>(&self, w: &mut W) -> Result<(), FormError>;
+
+    /// Reads the value that has this tag, which was consumed, and leaves what follows it in `r` unread.
+    ///
+    /// # Errors
+    ///
+    /// [`FormError::OtherTag`] with the tag if it is that of no case, or those of [`Form::read`](crate::form::Form::read).
+    fn read_value<R: Read>(r: &mut R, tag: Number) -> Result<Self, FormError>;
+}

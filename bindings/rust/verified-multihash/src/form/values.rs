@@ -1,0 +1,277 @@
+//! Values of the parts, written by hand: they keep the limits that ghost fields state in the proved source. And `form!`,
+//! which makes your own types formats.
+use crate::form::{Block, Both, Bytes, Case, Cases, Choice, Counted, FormError, NoCase, Number, Others, Tag, Tagged};
+use crate::varint;
+use alloc::vec::Vec;
+use core::ops::Deref;
+
+/// What only the parts and `form!` implement, so that each [`Form`](crate::form::Form) is made of parts.
+pub trait Part: Sized {
+    /// How deep types of parts are in this one. A type that contains itself has no such number, and does not compile:
+    /// an input could make `read` of it need any amount of stack.
+    const DEPTH: usize;
+}
+
+/// Returns the depth of a type that has parts of these depths.
+pub const fn above(a: usize, b: usize) -> usize {
+    1 + if a < b { b } else { a }
+}
+
+macro_rules! parts {
+    ($([$($parameters:tt)*] $type:ty = $depth:expr;)*) => {
+        $(impl<$($parameters)*> Part for $type { const DEPTH: usize = $depth; })*
+    };
+}
+parts! {
+    [] Number = 0;
+    [const N: u64] Tag<N> = 0;
+    [const N: usize] Bytes<N> = 0;
+    [const MAX: usize] Block<MAX> = 0;
+    [const S: usize] crate::Multihash<S> = 0;
+    [A: Part, B: Part] Both<A, B> = above(A::DEPTH, B::DEPTH);
+    [T: Part, const MAX: usize] Counted<T, MAX> = above(T::DEPTH, 0);
+    [C: Cases] Choice<C> = above(C::DEPTH, 0);
+    [A: Part, const M: u64, C: Cases] Case<A, M, C> = above(A::DEPTH, C::DEPTH);
+    [] NoCase = 0;
+}
+
+macro_rules! derefs {
+    ($([$($parameters:tt)*] $type:ty, $field:ident: $target:ty, $inner:ty;)*) => {
+        $(
+            impl<$($parameters)*> Deref for $type {
+                type Target = $target;
+
+                fn deref(&self) -> &$target {
+                    &self.$field
+                }
+            }
+
+            impl<$($parameters)*> $type {
+                /// Returns what the value has.
+                pub fn into_inner(self) -> $inner {
+                    self.$field
+                }
+            }
+        )*
+    };
+}
+derefs! {
+    [const N: usize] Bytes<N>, bytes: [u8; N], [u8; N];
+    [const MAX: usize] Block<MAX>, bytes: [u8], Vec<u8>;
+    [T, const MAX: usize] Counted<T, MAX>, items: [T], Vec<T>;
+    [C: Cases, const M: u64] Others<C, M>, case: C, C;
+}
+
+impl Number {
+    /// Returns the number.
+    pub const fn get(self) -> u64 {
+        self.value
+    }
+}
+
+impl From<u32> for Number {
+    fn from(value: u32) -> Self {
+        Number { value: value.into() }
+    }
+}
+
+impl From<Number> for u64 {
+    fn from(number: Number) -> Self {
+        number.value
+    }
+}
+
+/// The error of a number of 2^63 or more is that of [`varint::len`].
+impl TryFrom<u64> for Number {
+    type Error = FormError;
+
+    fn try_from(value: u64) -> Result<Self, FormError> {
+        varint::len(value)?;
+        Ok(Number { value })
+    }
+}
+
+impl<const N: u64> Tag<N> {
+    const IN_RANGE: () = assert!(N <= varint::MAX, "a tag is below 2^63");
+
+    /// Returns the tag. A tag of 2^63 or more does not compile.
+    pub const fn new() -> Self {
+        let () = Self::IN_RANGE;
+        Tag {}
+    }
+}
+
+impl<const N: u64> Default for Tag<N> {
+    fn default() -> Self {
+        Self::new()
+    }
+}
+
+/// An empty array does not compile.
+impl<const N: usize> From<[u8; N]> for Bytes<N> {
+    fn from(bytes: [u8; N]) -> Self {
+        let () = Self::SOME;
+        Bytes { bytes }
+    }
+}
+
+impl<const N: usize> Bytes<N> {
+    const SOME: () = assert!(N > 0, "no encoding is empty");
+}
+
+impl<T, const MAX: usize> Counted<T, MAX> {
+    /// Returns the value of these items.
+    ///
+    /// # Errors
+    ///
+    /// [`FormError::TooMany`] if there are more than `MAX` items.
+    pub fn new(items: impl Into<Vec<T>>) -> Result<Self, FormError> {
+        let items = items.into();
+        // items of no size may be as many as `usize::MAX`
+        if items.len() > MAX || items.len() as u64 > varint::MAX {
+            return Err(FormError::TooMany(items.len() as u64));
+        }
+        Ok(Counted { items })
+    }
+}
+
+impl<A, const M: u64, C: Cases> Case<A, M, C> {
+    const IN_RANGE: () = assert!(M <= varint::MAX, "a tag is below 2^63");
+
+    /// Returns the case with the tag `M`. A tag of 2^63 or more does not compile.
+    pub fn this(value: A) -> Self {
+        let () = Self::IN_RANGE;
+        Case::This(Tagged { value })
+    }
+
+    /// Returns another case.
+    ///
+    /// # Errors
+    ///
+    /// [`FormError::OtherTag`] if its tag is `M` too.
+    pub fn other(case: C) -> Result<Self, FormError> {
+        let tag = case.tag().value;
+        if tag == M {
+            return Err(FormError::OtherTag(tag));
+        }
+        Ok(Case::Other(Others { case }))
+    }
+}
+
+/// Makes a struct or an enum of yours a [`Form`](crate::form::Form): the fields of a struct one after another, as
+/// [`Both`](crate::form::Both) has them; of an enum the varint of the tag and the value of the case, as
+/// [`Choice`](crate::form::Choice) has them. [The module](mod@crate::form) has examples.
+///
+/// A tag is a number below 2^63. Equal tags do not compile, and neither does a type that contains itself:
+///
+/// ```compile_fail
+/// use verified_multihash::{form, form::Number};
+/// form! { enum Twice { A(Number) = 4, B(Number) = 4 } }
+/// ```
+///
+/// ```compile_fail,E0391
+/// use verified_multihash::{form, form::Counted};
+/// form! { struct Tree { children: Counted<Tree, 10> } }
+/// ```
+#[macro_export]
+macro_rules! form {
+    ($(#[$about:meta])* $pub:vis struct $name:ident {
+        $($(#[$of_field:meta])* $pub_field:vis $field:ident: $type:ty),+ $(,)?
+    }) => {
+        $(#[$about])*
+        $pub struct $name { $($(#[$of_field])* $pub_field $field: $type),+ }
+
+        $crate::form!(@of $name, $($type),+;
+            self, w => { $(<$type as $crate::form::Form>::write(&self.$field, w)?;)+ Ok(()) },
+            r => { $(let $field = <$type as $crate::form::Form>::read(r)?;)+ Ok(Self { $($field),+ }) }
+        );
+    };
+    ($(#[$about:meta])* $pub:vis enum $name:ident {
+        $($(#[$of_case:meta])* $case:ident($type:ty) = $tag:literal),+ $(,)?
+    }) => {
+        $(#[$about])*
+        $pub enum $name { $($(#[$of_case])* $case($type)),+ }
+
+        const _: () = $crate::form::values::check_tags(&[$($tag),+]);
+
+        $crate::form!(@of $name, $($type),+;
+            self, w => { match self {
+                $(Self::$case(value) => $crate::form::write_two(&$crate::form::Tag::<$tag>::new(), value, w)),+
+            } },
+            r => { match $crate::varint::read(r)? {
+                $($tag => <$type as $crate::form::Form>::read(r).map(Self::$case),)+
+                other => Err($crate::form::FormError::OtherTag(other)),
+            } }
+        );
+    };
+    (@of $name:ident, $($type:ty),+; $self:ident, $w:ident => $write:block, $r:ident => $read:block) => {
+        impl $crate::form::values::Part for $name {
+            const DEPTH: usize = {
+                let depth = 0;
+                $(let depth = $crate::form::values::above(depth, <$type as $crate::form::values::Part>::DEPTH);)+
+                depth
+            };
+        }
+
+        impl $crate::form::Form for $name {
+            fn write<W: $crate::no_std_io::Write>(
+                &$self,
+                $w: &mut W,
+            ) -> ::core::result::Result<(), $crate::form::FormError> $write
+
+            fn read<R: $crate::no_std_io::Read>(
+                $r: &mut R,
+            ) -> ::core::result::Result<Self, $crate::form::FormError> {
+                let _ = <Self as $crate::form::values::Part>::DEPTH;
+                $read
+            }
+        }
+    };
+}
+
+/// Panics, in a constant, if a tag is too large or two are equal.
+pub const fn check_tags(tags: &[u64]) {
+    let (mut at, mut other) = (0, 0);
+    while at < tags.len() {
+        assert!(tags[at] <= varint::MAX, "a tag is below 2^63");
+        while other < at {
+            assert!(tags[at] != tags[other], "tags differ");
+            other += 1;
+        }
+        (at, other) = (at + 1, 0);
+    }
+}
+
+/// The kind is that of the multihash's error, and `InvalidData` for the errors that only formats have.
+#[cfg(feature = "std")]
+impl From<FormError> for crate::host::io::Error {
+    fn from(error: FormError) -> Self {
+        match error {
+            FormError::Failed(error) => error.into(),
+            error => Self::new(crate::host::io::ErrorKind::InvalidData, error),
+        }
+    }
+}
+
+/// Calls a function with a reader or a writer of `std::io`, such as a file, as [`with_io`](crate::with_io) does.
+///
+/// # Errors
+///
+/// Those of [`with_io`](crate::with_io), or the error that `call` returned.
+#[cfg(feature = "std")]
+pub fn with_io<T, V>(
+    stream: T,
+    call: impl FnOnce(&mut crate::Io<T>) -> Result<V, FormError>,
+) -> crate::host::io::Result<V> {
+    let mut other = None;
+    let result = crate::with_io(stream, |io| {
+        call(io).map_err(|error| match error {
+            FormError::Failed(error) => error,
+            error => {
+                other = Some(error);
+                crate::Error::insufficient() // in place of it
+            }
+        })
+    });
+    result.map_err(|error| other.map_or(error, Into::into))
+}
