@@ -6,6 +6,8 @@ typedef struct reader_object {
     const state *own;
     PyObject *read;  /* of the file */
     PyObject *digest; /* of the multihash that is next: what the file returned, if that is the whole digest */
+    PyObject *arguments[2]; /* of the last call of the file for two bytes, and of the last other one */
+    size_t sizes[2];
     size_t limit;
     size_t wanted; /* the number of bytes that a call of the file was asked for which has not returned, or 0 */
     unsigned long long taken; /* bytes of the multihashes that were returned */
@@ -73,6 +75,7 @@ static int reader_clear(PyObject *self)
 {
     Py_CLEAR(((reader_object *)self)->read);
     Py_CLEAR(((reader_object *)self)->digest);
+    for (int at = 0; at < 2; at++) Py_CLEAR(((reader_object *)self)->arguments[at]);
     return 0;
 }
 
@@ -139,10 +142,16 @@ static int end(reader_object *reader, PyObject *chunk)
 /* Calls the file, after `begin`, and keeps what it returned. */
 static int read_chunk(reader_object *reader)
 {
-    PyObject *number = PyLong_FromSize_t(reader->wanted), *read = reader->read;
+    int other = reader->wanted != 2, kept = -1;
+    PyObject *read = reader->read, *arguments = reader->arguments[other];
+    if (arguments == NULL || reader->sizes[other] != reader->wanted) {
+        Py_XDECREF(arguments);
+        reader->sizes[other] = reader->wanted;
+        reader->arguments[other] = arguments = Py_BuildValue("(n)", (Py_ssize_t)reader->wanted);
+    }
     Py_INCREF(read);
-    PyObject *chunk = number == NULL ? NULL : PyObject_CallFunctionObjArgs(read, number, NULL);
-    int kept = -1;
+    Py_XINCREF(arguments);
+    PyObject *chunk = arguments == NULL ? NULL : PyObject_Call(read, arguments, NULL);
     if (chunk != NULL) {
         kept = end(reader, chunk);
     } else {
@@ -150,7 +159,7 @@ static int read_chunk(reader_object *reader)
         reader->has_lost = !PyErr_ExceptionMatches(PyExc_BlockingIOError);
     }
     Py_XDECREF(chunk);
-    Py_XDECREF(number);
+    Py_XDECREF(arguments);
     Py_DECREF(read);
     return kept;
 }

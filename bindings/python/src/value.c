@@ -80,9 +80,11 @@ static PyObject *multihash_compared(PyObject *left, PyObject *right, int operati
     if (Py_TYPE(left) != Py_TYPE(right) && !PyObject_TypeCheck(right, type_in_c(Py_TYPE(left)))) {
         Py_RETURN_NOTIMPLEMENTED;
     }
-    int order = order_of(left, right); /* PyPy lacks Py_RETURN_RICHCOMPARE */
-    int results[] = {order < 0, order <= 0, order == 0, order != 0, order > 0, order >= 0}; /* from Py_LT to Py_GE */
-    return PyBool_FromLong(results[operation]);
+    /* For each operation from Py_LT to Py_GE: the orders -1, 0 and 1 in which it is true, as bits. */
+    static const char orders[] = {1, 3, 2, 5, 4, 6};
+    PyObject *result = orders[operation] >> (order_of(left, right) + 1) & 1 ? Py_True : Py_False;
+    Py_INCREF(result);
+    return result;
 }
 
 /* The hash of the digest, which its object keeps, and the code, mixed by the last step of MurmurHash3. */

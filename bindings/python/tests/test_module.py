@@ -5,6 +5,7 @@ import ast
 import collections.abc
 import ctypes
 import doctest
+import hashlib
 import importlib
 import inspect
 import re
@@ -131,10 +132,12 @@ class Module(unittest.TestCase):
         """What README.md has in place of the calls of other packages."""
         m = hashes.digest(b"abc", "sha2-256")
         names = {**vars(vm), "m": m, "digest": m.digest, "content": b"abc", "data": bytes(m), "text": m.hex()}
+        names.update(code=18, hash=hashlib.sha256(b"abc"), function=hashlib.sha256)
         rows = re.search(r"^\| There .*\n.*((?:\n\|.*)+)", README.read_text("utf-8"), re.M)[1]
         found = [eval(", ".join(re.findall("`(.*?)`", row.split(" | ")[1])), names) for row in rows.split("\n")[1:]]
         short = Multihash(18, m.digest[:20])
-        self.assertEqual(found, [bytes(m), m, True, "sha2-256", 32, short, (m.hex(), bytes(m)), m, b"\x12 "])
+        wanted = [bytes(m), m, m, m, True, "sha2-256", 32, short, (18, m.digest), (m.hex(), bytes(m)), m, b"\x12 "]
+        self.assertEqual(found, [*wanted, (True, 18), m])
 
     def test_examples(self):
         text = "\n".join("" if line.startswith("```") else line for line in README.read_text("utf-8").splitlines())

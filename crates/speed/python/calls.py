@@ -5,11 +5,11 @@ import io
 import sys
 import time
 from functools import partial
-from typing import Any, BinaryIO, Callable, Dict, NamedTuple, Optional, Tuple
+from typing import Any, BinaryIO, Callable, Dict, Iterator, List, NamedTuple, Optional, Tuple
 
 import verified_multihash as vm
 
-ROUNDS, CALLS = 10, 1000
+ROUNDS, CALLS, MANY = 10, 1000, 100
 DATA = bytes([18, 32]) + bytes(range(32))
 
 
@@ -55,6 +55,7 @@ class Plain:
         return self.digest.hex()
 
 
+Columns = Tuple[List[int], List[int], List[int], int, Optional[PlainError]]
 Head = NamedTuple("Head", [("code", int), ("digest_length", int), ("length", int)])
 
 
@@ -110,6 +111,41 @@ def decode(data: bytes) -> Plain:
     return multihash
 
 
+def read_many(data: bytes) -> Columns:
+    codes: List[int] = []
+    offsets: List[int] = []
+    lengths: List[int] = []
+    taken = at = 0
+    while taken < len(data):
+        try:
+            code, at = take_varint(data, taken)
+            size, at = take_varint(data, at)
+            if size > 255:
+                raise PlainError("invalid size", size, taken=at)
+            if size > len(data) - at:
+                raise PlainError("unexpected eof", taken=at)
+        except PlainError as error:
+            error.taken -= taken
+            return codes, offsets, lengths, taken, error
+        codes.append(code)
+        offsets.append(at)
+        lengths.append(size)
+        taken = at + size
+    return codes, offsets, lengths, taken, None
+
+
+def read_varint(data: bytes) -> Tuple[int, int]:
+    return take_varint(data, 0)
+
+
+def encode_varint(number: int) -> bytes:
+    if not 0 <= number < 1 << 63:
+        raise PlainError("overflow")
+    out = bytearray()
+    put_varint(out, number)
+    return bytes(out)
+
+
 def encode(code: int, digest: bytes) -> bytes:
     check_pair(code, len(digest))
     out = bytearray()
@@ -155,6 +191,14 @@ class PlainReader(NamedTuple):
     def read(self) -> Optional[Plain]:
         return read_from(self.file)
 
+    def items(self) -> Iterator[Plain]:
+        while (item := self.read()) is not None:
+            yield item
+
+
+def items_of(reader: Any) -> Any:
+    return reader.items() if isinstance(reader, PlainReader) else reader
+
 
 def caught(call: Callable[..., Any], *arguments: Any) -> Any:
     try:
@@ -165,12 +209,16 @@ def caught(call: Callable[..., Any], *arguments: Any) -> Any:
 
 def calls_of(library: Any, kind: Any, reader: Any) -> Dict[str, Callable[[], Any]]:
     left, right, digest, array = library.decode(DATA), library.decode(DATA), DATA[2:], bytearray(DATA)
-    file, long = io.BytesIO(DATA), bytes(256)
+    view, many, file, long = memoryview(DATA), DATA * MANY, io.BytesIO(DATA), bytes(256)
     of_file = reader(file)
     return {
         "`decode`, `bytes` of %d bytes" % len(DATA): lambda: library.decode(DATA),
         "`decode`, `bytearray`": lambda: library.decode(array),
+        "`decode`, `memoryview`": lambda: library.decode(view),
         "`read`": lambda: library.read(DATA),
+        "`read_many` of %d" % MANY: lambda: library.read_many(many),
+        "`read_varint`": lambda: library.read_varint(b"\x81\1"),
+        "`encode_varint`": lambda: library.encode_varint(129),
         "`head`": lambda: library.head(DATA),
         "`encode` of %d bytes" % len(digest): lambda: library.encode(18, digest),
         "`encoded_len`": lambda: library.encoded_len(18, 32),
@@ -183,6 +231,7 @@ def calls_of(library: Any, kind: Any, reader: Any) -> Dict[str, Callable[[], Any
         "`hexdigest`": lambda: left.hexdigest(),
         "`read_from`": lambda: (file.seek(0), library.read_from(file)),
         "`MultihashReader.read`": lambda: (file.seek(0), of_file.read()),
+        "a loop over a reader of %d" % MANY: lambda: list(items_of(reader(io.BytesIO(many)))),
         "an error of `decode`": partial(caught, library.decode, DATA[:20]),
         "an error of `encode`": partial(caught, library.encode, 18, long),
     }
@@ -190,8 +239,10 @@ def calls_of(library: Any, kind: Any, reader: Any) -> Dict[str, Callable[[], Any
 
 def shown(result: Any) -> Any:
     """Returns a result in the form that it has in both."""
-    if isinstance(result, tuple):
+    if isinstance(result, (tuple, list)):
         return [shown(each) for each in result]
+    if hasattr(result, "tolist"):  # a memoryview
+        return result.tolist()
     if isinstance(result, (vm.Multihash, Plain)):
         return bytes(result)
     if isinstance(result, vm.MultihashError):
