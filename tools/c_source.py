@@ -17,6 +17,7 @@ The text before it is tools/prelude.c. What is not known is an error that names 
 """
 import re
 import sys
+from collections.abc import Callable
 from itertools import accumulate
 
 import rt_source
@@ -106,20 +107,24 @@ class Translation(Program):
                 values[it.item.name] = self.number(it, it.parser().constant()[1])
         return ["", *(f'_Static_assert(MULTIHASH_{it} == {n}, "MULTIHASH_{it}");' for it, n in values.items())]
 
+    def named(self, module: str) -> Callable[[str], str]:
+        """Returns what writes the names of C in a module's comments: of two functions, that of the module."""
+        made = sorted(self.made.items(), key=lambda it: self.items[it[0]].module == module)
+        names = {name: function.name for (_, name), function in made}
+        return lambda line: re.sub(r"`(\w+)`", lambda found: f"`{names.get(str(found[1]), found[1])}`", line)
+
     def text(self) -> str:
         for it in self.items.values():
             if "no_mangle" in it.item.attributes:
                 self.function(it)
         code = [line for key in self.items for line in self.constants.get(key, [])]
-        code += [line for lines in self.texts.values() if len(lines) > 3 for line in lines]
+        code += [line for it, lines in self.texts.items() if len(lines) > 3 for line in map(self.named(it), lines)]
         for name, lines in self.types.items():
             if "    uint8_t tag;" in lines:
                 tags = dict.fromkeys(re.findall(rf"\b{name.upper()}_\w+", "\n".join(code)))
                 at = lines.index("    uint8_t tag;") + 1
                 lines[at:-1] = [it for it in lines[at:-1] if uses(re.findall(r"\w+", it)[1], code)]
                 lines[:0] = ["", f"enum {{ {', '.join(tags)} }};"]
-        names = {name: made.name for (_, name), made in self.made.items()}
-        code = [re.sub(r"`(\w+)`", lambda found: f"`{names.get(str(found[1]), found[1])}`", line) for line in code]
         typed = [line for lines in self.types.values() for line in lines]
         return PRELUDE + "\n".join(wrapped(line) for line in [*self.checks(), *typed, *code]) + "\n"
 

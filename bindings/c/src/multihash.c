@@ -312,7 +312,7 @@ MH_INLINE mh_varint_or_error_at mh_read_high(mh_u128 word, size_t present)
         .ok = {mh_join_digits(low) | (last << (7 * MH_MAX_CONTINUATION)), MH_MAX_LEN}};
 }
 
-/* Does what `mh_varint_read_front` does, of bytes whose first are in the word. */
+/* Does what `mh_word_read_front` does, of bytes whose first are in the word. */
 MH_INLINE mh_varint_or_error_at mh_read_word(mh_u128 word, size_t present)
 {
     const uint64_t low = word.low;
@@ -335,20 +335,13 @@ MH_INLINE mh_varint_or_error_at mh_read_word(mh_u128 word, size_t present)
     return (mh_varint_or_error_at){.is_ok = true, .ok = {mh_join_digits(varint), continuation_bytes + 1}};
 }
 
-/* Does what `mh_front_word` does, if fewer bytes are there.
+/* The word of bytes that are fewer, with zeros for those that are missing.
  * Proved: length bytes <= 16. */
 MH_COLD mh_u128 mh_padded_word(const uint8_t *bytes, size_t bytes_length)
 {
     mh_bytes_16 front = {{0}};
     mh_copy(front.bytes, bytes, bytes_length);
     return mh_u128_from_le_bytes(front.bytes);
-}
-
-/* The word of the first sixteen bytes, lowest first, with zeros for those that are missing. */
-MH_INLINE mh_u128 mh_front_word(const uint8_t *bytes, size_t bytes_length)
-{
-    if (bytes_length >= MH_WORD_LEN) return mh_u128_from_le_bytes(bytes);
-    return mh_padded_word(bytes, bytes_length);
 }
 
 /* Reads the varint at the front of the bytes: its number and its length. An error comes with the number of bytes
@@ -359,7 +352,8 @@ MH_INLINE mh_varint_or_error_at mh_word_read_front(const uint8_t *bytes, size_t 
     if (bytes_length >= 1 && bytes[0] < 128) {
         return (mh_varint_or_error_at){.is_ok = true, .ok = {(uint64_t)bytes[0], 1}};
     }
-    return mh_read_word(mh_front_word(bytes, bytes_length), mh_usize_min(bytes_length, MH_WORD_LEN));
+    if (bytes_length >= MH_WORD_LEN) return mh_read_word(mh_u128_from_le_bytes(bytes), MH_WORD_LEN);
+    return mh_read_word(mh_padded_word(bytes, bytes_length), bytes_length);
 }
 
 /* ---- multihash/src/varint.rt
@@ -411,8 +405,8 @@ static inline mh_usize_or_error mh_varint_len(uint64_t n)
 /* ---- multihash/src/head.rt
  * The two varints at the front of an encoding, for callers that keep the digest where it is. */
 
-/* Does what `mh_head_read_counted` does, for all bytes. */
-MH_COLD mh_head_or_error_at mh_read_longer(const uint8_t *bytes, size_t bytes_length)
+/* Does what `mh_head_read_counted` does, for all bytes, out of line: that is in line in many functions. */
+MH_NOT_INLINE mh_head_or_error_at mh_read_longer(const uint8_t *bytes, size_t bytes_length)
 {
     const mh_varint_or_error_at code_result = mh_word_read_front(bytes, bytes_length);
     if (!code_result.is_ok) return (mh_head_or_error_at){.is_ok = false, .err = code_result.err};
@@ -525,10 +519,11 @@ MH_INLINE multihash_decoded mh_decode_whole(const uint8_t *front, size_t front_l
         }
         /* This is at most 255. */
         const size_t size = (size_t)head.digest_len;
-        const size_t left = whole_length - head.digest_offset;
-        if (left == size) return mh_accept(head.code, size, whole_length);
-        if (left < size) return mh_rejected_end(whole_length);
-        return mh_decode_rejected_size((uint64_t)(left - size), whole_length);
+        /* This is at most 273: both varints, and the digest. */
+        const size_t end = head.digest_offset + size;
+        if (end == whole_length) return mh_accept(head.code, size, whole_length);
+        if (end > whole_length) return mh_rejected_end(whole_length);
+        return mh_decode_rejected_size((uint64_t)(whole_length - end), whole_length);
     }
     const mh_error error = head_result.err.error;
     return mh_rejected(mh_varint_status(error), 0, 0, whole_length);

@@ -178,14 +178,15 @@ fn decode_whole(front: &[u8], whole_length: usize) -> Decoded
             }
             // This is at most 255.
             let size = head.digest_len as usize;
-            let left = whole_length - head.digest_offset;
-            if left == size {
+            // This is at most 273: both varints, and the digest.
+            let end = head.digest_offset + size;
+            if end == whole_length {
                 return accept(head.code, size, whole_length);
             }
-            if left < size {
+            if end > whole_length {
                 return rejected_end(whole_length);
             }
-            rejected_size((left - size) as u64, whole_length)
+            rejected_size((whole_length - end) as u64, whole_length)
         }
         Err((error, _)) => rejected(varint_status(&error), 0, 0, whole_length),
     }

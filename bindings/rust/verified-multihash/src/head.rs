@@ -52,8 +52,7 @@ impl Head {
         Self::read_longer(bytes)
     }
 
-    // Does what `read_counted` does, for all bytes.
-    #[cold]
+    // Does what `read_counted` does, for all bytes, out of line: that is in line in many functions.
     #[inline(never)]
     fn read_longer(bytes: &[u8]) -> Result<Self, (Error, usize)> {
         let (code, code_len) = word::read_front(bytes)?;

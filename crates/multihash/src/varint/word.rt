@@ -33,21 +33,13 @@ pub(crate) fn read_front(bytes: &[u8]) -> Result<(u64, usize), (Error, usize)>
     if bytes.len() >= 1 && bytes[0] < 128 {
         return Ok((u64::from(bytes[0]), 1));
     }
-    read_word(front_word(bytes), bytes.len().min(WORD_LEN))
-}
-
-// The word of the first sixteen bytes, lowest first, with zeros for those that are missing.
-#[inline(always)]
-fn front_word(bytes: &[u8]) -> u128
-    ensures { result ≡ place_value 256 (take 16 bytes.now) }
-{
     match bytes.first_chunk::<WORD_LEN>() {
-        Some(front) => u128::from_le_bytes(*front),
-        None => padded_word(bytes),
+        Some(front) => read_word(u128::from_le_bytes(*front), WORD_LEN),
+        None => read_word(padded_word(bytes), bytes.len()),
     }
 }
 
-// Does what `front_word` does, if fewer bytes are there.
+// The word of bytes that are fewer, with zeros for those that are missing.
 #[cold]
 #[inline(never)]
 fn padded_word(bytes: &[u8]) -> u128

@@ -1,4 +1,4 @@
-use Rattle.std.proofs.Common.{◌≡◌, length, refl, sym, ap, ◌∙◌, subst, arith, length-drop, take, drop}
+use Rattle.std.proofs.Common.{◌≡◌, ◌<◌, length, refl, sym, ap, ◌∙◌, subst, arith, length-drop, take, drop}
 use Rattle.std.proofs.lemmas.List.{take_all}
 use Rattle.multihash.specs.Varint.{insufficient}
 use Rattle.multihash.specs.Verdict.{malformed, invalid_size, unexpected_eof, accepted}
@@ -21,56 +21,75 @@ returns-in-Err-clause-cut c = λ has.
     let h = c.in-Err.ensures.err in
     let same = verdict_unique 255 c.args.front.now (malformed h.error) (malformed insufficient) (h.verdict 255) has in
     let error : h.error ≡ insufficient = cc in
-    subst (λ n. ReportsError c.rejected.result n 0 0) (c.varint_status.ensures h.error h.named ∙ ap status_of_error error) c.rejected.ensures.reports
+    let is = c.varint_status.ensures h.error h.named ∙ ap status_of_error error in
+    subst (λ n. ReportsError c.rejected.result n 0 0) is c.rejected.ensures.reports
 
 pub returns-then-head-clause-verdict : goal.returns-then-head-clause-verdict
-returns-then-head-clause-verdict c = λ input long begins enough. (
-  invalid_size _,
-  whole_over _ _ _ input (head_kept _ _ _ c.args.front.now input begins c.in-Ok.ensures.ok) 255 (omega (arith, c.if-head.true)),
-  c.rejected_size.ensures.reports input,
-)
+returns-then-head-clause-verdict c = λ input long begins enough.
+    let h = c.in-Ok.head in
+    let head = head_kept h.code h.digest_len h.digest_offset c.args.front.now input begins c.in-Ok.ensures.ok in (
+      invalid_size _,
+      whole_over h.code h.digest_len h.digest_offset input head 255 (omega (arith, c.if-head.true)),
+      c.rejected_size.ensures.reports input,
+    )
 
 pub returns-then-head-clause-cut : goal.returns-then-head-clause-cut
-returns-then-head-clause-cut c = λ has. absurd (head_no_error _ _ _ c.args.front.now insufficient c.in-Ok.ensures.ok has)
+returns-then-head-clause-cut c = λ has.
+    let h = c.in-Ok.head in
+    absurd (head_no_error h.code h.digest_len h.digest_offset c.args.front.now insufficient c.in-Ok.ensures.ok has)
 
-pub returns-then-left-size-clause-verdict : goal.returns-then-left-size-clause-verdict
-returns-then-left-size-clause-verdict c = λ input long begins enough.
-    let head = c.in-Ok.head in
+pub returns-then-end-whole_length-clause-verdict : goal.returns-then-end-whole_length-clause-verdict
+returns-then-end-whole_length-clause-verdict c = λ input long begins enough.
+    let h = c.in-Ok.head in
     let has = c.in-Ok.ensures.ok in
-    let rest = drop head.digest_offset input in
-    let exact : length rest ≡ head.digest_len =
-    omega (arith, length-drop head.digest_offset input, long, c.if-left-size.true) in
-    let at : c.accept.result.digest_offset ≡ head.digest_offset =
-    omega (arith, c.accept.ensures.offset, exact, length-drop head.digest_offset input, long, has.within, c.requires) in
+    let head = head_kept h.code h.digest_len h.digest_offset c.args.front.now input begins has in
+    let rest = drop h.digest_offset input in
+    let exact : length rest ≡ h.digest_len =
+    omega (arith, length-drop h.digest_offset input, long, c.if-end-whole_length.true) in
+    let at : c.accept.result.digest_offset ≡ h.digest_offset =
+    omega (arith, c.accept.ensures.offset, exact, length-drop h.digest_offset input, long, has.within, c.requires) in
     let all : take c.accept.result.digest_length (drop c.accept.result.digest_offset input) ≡ rest =
-    rw (c.accept.ensures.length, at) (take_all head.digest_len rest (omega (arith, exact))) in (
+    rw (c.accept.ensures.length, at) (take_all h.digest_len rest (omega (arith, exact))) in (
       accepted _,
-      whole_exact _ _ _ input (head_kept _ _ _ c.args.front.now input begins has) 255 (omega (arith, c.if-head.false)) rest refl exact,
+      whole_exact h.code h.digest_len h.digest_offset input head 255 (omega (arith, c.if-head.false)) rest refl exact,
       c.accept.ensures.reports input _ refl (omega (arith, long)) (sym all),
     )
 
-pub returns-then-left-size-clause-cut : goal.returns-then-left-size-clause-cut
-returns-then-left-size-clause-cut c = λ has. absurd (head_no_error _ _ _ c.args.front.now insufficient c.in-Ok.ensures.ok has)
+pub returns-then-end-whole_length-clause-cut : goal.returns-then-end-whole_length-clause-cut
+returns-then-end-whole_length-clause-cut c = λ has.
+    let h = c.in-Ok.head in
+    absurd (head_no_error h.code h.digest_len h.digest_offset c.args.front.now insufficient c.in-Ok.ensures.ok has)
 
-pub returns-then-left-size-2-clause-verdict : goal.returns-then-left-size-2-clause-verdict
-returns-then-left-size-2-clause-verdict c = λ input long begins enough. (
-  unexpected_eof,
-  whole_short _ _ _ input (head_kept _ _ _ c.args.front.now input begins c.in-Ok.ensures.ok) 255 (omega (arith, c.if-head.false)) (drop _ input) refl
-      (omega (arith, length-drop c.in-Ok.head.digest_offset input, long, c.if-left-size-2.true)),
-  c.rejected_end.ensures.reports input,
-)
+pub returns-then-end-whole_length-2-clause-verdict : goal.returns-then-end-whole_length-2-clause-verdict
+returns-then-end-whole_length-2-clause-verdict c = λ input long begins enough.
+    let h = c.in-Ok.head in
+    let head = head_kept h.code h.digest_len h.digest_offset c.args.front.now input begins c.in-Ok.ensures.ok in
+    let rest = drop h.digest_offset input in
+    let short : length rest < h.digest_len = omega (arith, length-drop h.digest_offset input, long, c.if-end-whole_length-2.true) in (
+      unexpected_eof,
+      whole_short h.code h.digest_len h.digest_offset input head 255 (omega (arith, c.if-head.false)) rest refl short,
+      c.rejected_end.ensures.reports input,
+    )
 
-pub returns-then-left-size-2-clause-cut : goal.returns-then-left-size-2-clause-cut
-returns-then-left-size-2-clause-cut c = λ has. absurd (head_no_error _ _ _ c.args.front.now insufficient c.in-Ok.ensures.ok has)
+pub returns-then-end-whole_length-2-clause-cut : goal.returns-then-end-whole_length-2-clause-cut
+returns-then-end-whole_length-2-clause-cut c = λ has.
+    let h = c.in-Ok.head in
+    absurd (head_no_error h.code h.digest_len h.digest_offset c.args.front.now insufficient c.in-Ok.ensures.ok has)
 
-pub returns-else-left-size-2-clause-verdict : goal.returns-else-left-size-2-clause-verdict
-returns-else-left-size-2-clause-verdict c = λ input long begins enough. (
-  invalid_size _,
-  whole_trailing _ _ _ input (head_kept _ _ _ c.args.front.now input begins c.in-Ok.ensures.ok) 255 (omega (arith, c.if-head.false)) (drop _ input) refl
-      _ (omega (arith, length-drop c.in-Ok.head.digest_offset input, long, c.if-left-size.false, c.if-left-size-2.false))
-      (omega (arith, length-drop c.in-Ok.head.digest_offset input, long)),
-  c.rejected_size-in-Ok.ensures.reports input,
-)
+pub returns-else-end-whole_length-2-clause-verdict : goal.returns-else-end-whole_length-2-clause-verdict
+returns-else-end-whole_length-2-clause-verdict c = λ input long begins enough.
+    let h = c.in-Ok.head in
+    let has = c.in-Ok.ensures.ok in
+    let head = head_kept h.code h.digest_len h.digest_offset c.args.front.now input begins has in
+    let rest = drop h.digest_offset input in (
+      invalid_size _,
+      whole_trailing h.code h.digest_len h.digest_offset input head 255 (omega (arith, c.if-head.false)) rest refl _
+          (omega (arith, length-drop h.digest_offset input, long, c.if-end-whole_length.false, c.if-end-whole_length-2.false))
+          (omega (arith, length-drop h.digest_offset input, long, has.within, c.requires)),
+      c.rejected_size-in-Ok.ensures.reports input,
+    )
 
-pub returns-else-left-size-2-clause-cut : goal.returns-else-left-size-2-clause-cut
-returns-else-left-size-2-clause-cut c = λ has. absurd (head_no_error _ _ _ c.args.front.now insufficient c.in-Ok.ensures.ok has)
+pub returns-else-end-whole_length-2-clause-cut : goal.returns-else-end-whole_length-2-clause-cut
+returns-else-end-whole_length-2-clause-cut c = λ has.
+    let h = c.in-Ok.head in
+    absurd (head_no_error h.code h.digest_len h.digest_offset c.args.front.now insufficient c.in-Ok.ensures.ok has)
