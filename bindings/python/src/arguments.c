@@ -111,6 +111,16 @@ int get_arguments(PyObject *const *given, Py_ssize_t count, PyObject *named, con
     return is_right;
 }
 
+int get_two(PyObject *arguments, PyObject *named, const char *format, char **names, PyObject **first, PyObject **second)
+{
+    if (named != NULL || PyTuple_Size(arguments) != 2) {
+        return PyArg_ParseTupleAndKeywords(arguments, named, format, names, first, second);
+    }
+    *first = PyTuple_GetItem(arguments, 0);
+    *second = PyTuple_GetItem(arguments, 1);
+    return 1;
+}
+
 int get_number(PyObject **argument, const char *name, uint64_t *number)
 {
     PyObject *index = PyNumber_Index(*argument);

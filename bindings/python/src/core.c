@@ -324,7 +324,8 @@ static PyMethodDef functions[] = {
 
 static int fill_module(PyObject *module)
 {
-    PyObject *type = PyType_FromModuleAndSpec(module, &multihash_spec, NULL), *names = Py_BuildValue("(ss)", "code", "digest");
+    PyObject *type = PyType_FromModuleAndSpec(module, &multihash_spec, NULL);
+    PyObject *names = Py_BuildValue("(ss)", "code", "digest");
     PyObject *reader = PyType_FromModuleAndSpec(module, &reader_spec, NULL);
     PyObject *bases = reader == NULL ? NULL : PyTuple_Pack(1, reader);
     PyObject *file_reader = bases == NULL ? NULL : PyType_FromModuleAndSpec(module, &file_reader_spec, bases);

@@ -42,6 +42,9 @@ int get_input(PyObject *argument, const char *name, Py_ssize_t most, input *to);
 /* One argument or two of a function, by position or name. */
 int get_arguments(GIVEN, const char *format, char **names, PyObject **first, PyObject **second);
 
+/* Two arguments of a class, in the same way. */
+int get_two(PyObject *arguments, PyObject *named, const char *format, char **names, PyObject **first, PyObject **second);
+
 /* A whole number that is not negative, and in place of the argument a new int. One of 2^63 or more is the
  * largest, which the library rejects too. */
 int get_number(PyObject **argument, const char *name, uint64_t *number);

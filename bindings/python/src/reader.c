@@ -44,7 +44,7 @@ static int reader_init(PyObject *self, PyObject *arguments, PyObject *named)
     reader_object *reader = (reader_object *)self;
     PyObject *file, *most, *read;
     size_t limit;
-    if (!PyArg_ParseTupleAndKeywords(arguments, named, "OO:MultihashReader", names, &file, &most)) return -1;
+    if (!get_two(arguments, named, "OO:MultihashReader", names, &file, &most)) return -1;
     if (get_size(&most, "limit", &limit) < 0) return -1;
     Py_DECREF(most);
     if ((read = read_of(self, file)) == NULL) return -1;
@@ -130,10 +130,10 @@ static int end(reader_object *reader, PyObject *chunk)
     if (reader->has_lost) {
         PyErr_Format(PyExc_ValueError, "the file returned %zu bytes to read(%zu)", from.whole, most);
     } else {
-        int is_digest = reader->front.status == MULTIHASH_OK && reader->length == reader->front.taken && from.whole == most;
+        int is_digest = reader->front.status == MULTIHASH_OK && reader->length == reader->front.taken;
         memcpy(reader->rest + reader->length, from.bytes, from.whole);
         reader->length += from.whole;
-        if (is_digest) Py_INCREF(reader->digest = from.owner);
+        if (is_digest && from.whole == most) Py_INCREF(reader->digest = from.owner);
     }
     Py_DECREF(from.owner);
     return reader->has_lost ? -1 : from.whole > 0;

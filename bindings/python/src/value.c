@@ -30,12 +30,7 @@ static PyObject *multihash_new(PyTypeObject *type, PyObject *arguments, PyObject
     PyObject *code, *bytes;
     uint64_t number;
     input digest;
-    if (named == NULL && PyTuple_Size(arguments) == 2) { /* as CPython's parser does, which takes longer */
-        code = PyTuple_GetItem(arguments, 0);
-        bytes = PyTuple_GetItem(arguments, 1);
-    } else if (!PyArg_ParseTupleAndKeywords(arguments, named, "OO:Multihash", names, &code, &bytes)) {
-        return NULL;
-    }
+    if (!get_two(arguments, named, "OO:Multihash", names, &code, &bytes)) return NULL;
     if (get_pair(&code, bytes, &number, &digest) < 0) return NULL;
     multihash_encoded length = multihash_encoded_len(number, digest.whole);
     if (length.status == MULTIHASH_OK) {

@@ -1,11 +1,15 @@
 """The test vectors: decoded, read from files, encoded; messages. MULTIHASH_VERDICTS is the path of the list."""
 
 import array
+import importlib.util
 import io
 import itertools
 import os
 import re
+import subprocess
+import sys
 import unittest
+from operator import setitem
 from pathlib import Path
 
 import verified_multihash as vm
@@ -179,8 +183,16 @@ class Many(unittest.TestCase):
             self.assertEqual((column[1], list(column), 7 in column), (numbers[1], numbers, False))
         data += b"more"  # the columns keep no buffer of it
         self.assertRaises(BufferError, vm.read_many, memoryview(data)[::2])
+        self.assertRaises(TypeError, setitem, found.codes, 0, 1)
         found = vm.read_many(array.array("H", [0, 0, 0x101]))
         self.assertEqual((found.taken, found.error.taken, found.error.is_incomplete), (4, 2, True))
+
+
+    @unittest.skipUnless(importlib.util.find_spec("numpy"), "numpy is not installed")
+    def test_numpy(self):
+        program = "import numpy, verified_multihash as vm; a, b = map(numpy.asarray, vm.read_many(bytes(6))[1:3])\n"
+        program += "assert a.tolist() == [2, 4, 6] and not a.flags.owndata and b.base.obj is a.base.obj, a.base"
+        subprocess.run([sys.executable, "-c", program], check=True)
 
 
 class Values(unittest.TestCase):
