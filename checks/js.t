@@ -5,7 +5,7 @@
 top=$PWD
 here=$top/bindings/js
 vectors=$top/crates/vectors/data
-node=node=$(sed -n 's/.*"node": ">=\(.*\)".*/\1/p' bindings/js/package.json)+
+node=node=20.19+ # this version too has what the package needs, but its support has ended
 
 export MULTIHASH_VERDICTS=$vectors/verdicts.tsv
 
@@ -41,10 +41,23 @@ packed_script() {
   cmp "$top/LICENSE" node_modules/verified-multihash/LICENSE
   node --no-warnings --input-type=commonjs -e "
     require('verified-multihash/package.json');
-    if (process.features.require_module) require('verified-multihash').decode(Uint8Array.of(1, 0));
+    const required = require('verified-multihash');
+    console.log(required.decode(Uint8Array.of(1, 0)).code);
     for (const name of ['', '/hashes'])
-      import('verified-multihash' + name).then((found) => console.log(found.decode(Uint8Array.of(1, 0)).code));" |
-    paste -sd ' ' | grep -x '1 1'
+      import('verified-multihash' + name).then(({ Multihash }) => console.log(Multihash === required.Multihash));" |
+    paste -sd ' ' | grep -x '1 true true'
+}
+
+# A bundle with decode alone works, and has at most 8 kB when it is compressed.
+bundle() {
+  local size
+  cd "$work/elsewhere"
+  echo "import { decode } from 'verified-multihash'; console.log(decode(Uint8Array.of(1, 0)).code);" > one.mjs
+  esbuild one.mjs --bundle --minify --format=esm --outfile=bundle/one.mjs
+  node bundle/one.mjs | grep -x 1
+  size=$(gzip -9 < bundle/one.mjs | wc -c)
+  echo "$size bytes"
+  [ "$size" -le 8000 ]
 }
 
 # The types of what is packed, which need none of pages.
@@ -67,6 +80,14 @@ packed_page() {
   node "$here/tests/browser.js" "$1" "tests/page.html?shown=page.html&shown=code+18,+size+2" "$here" "$work/elsewhere"
 }
 
+# The page that decodes what is pasted, in one file, which is opened without a server.
+inspector() {
+  tools/generate inspector "$work/inspector.html"
+  { cat "$work/inspector.html"; echo '<script type="module">'; cat "$here/tests/inspector.js"; echo '</script>'; } \
+    > "$work/tested.html"
+  node "$here/tests/browser.js" "$1" "file://$work/tested.html"
+}
+
 test_browser() {
   local name=$1 tools="$node $2"
   needs=$tools try "in $name" node "$here/tests/browser.js" "$name" tests/page.html "$here" "$vectors"
@@ -77,8 +98,11 @@ needs="$node npm" try "in Node.js" npm_test
 needs="$node npm" try "drawn inputs" drawn
 needs="$node npm" try "the page's installation" page_install
 ONLY='' needs="$node npm" try "the packed package" packed_script
+needs="$node npm esbuild" try "a bundle of the packed package" bundle
 needs="$node npm tsc" try "the packed package's types" packed_types
 test_browser chromium chromium
 test_browser firefox firefox-esr
 test_browser webkit "WebKitWebDriver xvfb-run"
+needs="$node chromium" try "the inspector in chromium" inspector chromium
+needs="$node firefox-esr" try "the inspector in firefox" inspector firefox
 finish

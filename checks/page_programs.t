@@ -17,13 +17,12 @@ from typing import NamedTuple
 
 sys.path.append(str(Path(__file__).with_name("lib")))
 import tap
-from pages import FENCE, JS, README, RUST, TOP, read
+from pages import FENCE, README, RUST, TOP, read
 
 ROW = re.compile(r"^\| \[(\w+)[^\]]*\]\(([^)]*)\) \| `([^`]+)` \|", re.M)
 HEAD = re.compile(r"(?://|#) (\S+): (.*)\n")
 SHOWN = re.findall(r"`(code \d+, digest \w+)`", read(README))[0] + "\n"
 OLDEST = re.findall(r'rust-version = "(.*)"', read(f"{RUST}/verified-multihash/Cargo.toml"))[0]
-NODE = re.findall(r'"node": ">=(.*)"', read(f"{JS}/package.json"))[0]
 REGISTRY = "/usr/share/cargo/registry"  # of Debian, for crates that the program of Rust's page needs
 ALL = "ALL" in os.environ
 SOURCE = f'[source.crates-io]\\nreplace-with = "here"\\n[source.here]\\ndirectory = "{REGISTRY}"\\n'
@@ -40,7 +39,7 @@ class Language(NamedTuple):
 
 
 LANGUAGES = {
-    "JavaScript": Language(".mjs", f"node={NODE}+ npm", "export npm_config_cache=$PWD/npm npm_config_offline=true"),
+    "JavaScript": Language(".mjs", "node=20.19+ npm", "export npm_config_cache=$PWD/npm npm_config_offline=true"),
     "Python": Language(
         ".py",
         "cc /usr/include/python3*/Python.h python:ensurepip python:setuptools python:wheel",

@@ -7,7 +7,6 @@
 # shellcheck source=checks/lib/cmake.sh
 . checks/lib/cmake.sh
 upstream=$(sed -n 's/^version = "\(.*\)"/\1/p' bindings/rust/multihash/Cargo.toml)
-node=$(sed -n 's/.*"node": ">=\(.*\)".*/\1/p' bindings/js/package.json)
 oldest=$(sed -n 's/^rust-version = "\(.*\)"/\1/p' bindings/rust/multihash/Cargo.toml)
 minor=$(sed -n 's/^requires-python = ">=3\.\(.*\)"/\1/p' bindings/python/pyproject.toml)
 emulator="qemu-aarch64 -L /usr/aarch64-linux-gnu"
@@ -68,7 +67,7 @@ try "warnings of them" lintian --allow-root --fail-on warning \
 needs=qemu-x86_64 try "the packages for amd64" try_packages "$work/debian" amd64 x86_64-linux-gnu cc qemu-x86_64
 
 require cc cmake python3=3.11+ readelf pkg-config dpkg-buildpackage dh /lib64/ld-linux-x86-64.so.2 \
-  aarch64-linux-gnu-gcc qemu-aarch64 cargo "rustc=$oldest+" npm "node=$node+" /usr/include/python3*/Python.h \
+  aarch64-linux-gnu-gcc qemu-aarch64 cargo "rustc=$oldest+" npm /usr/include/python3*/Python.h \
   python:{build,ensurepip,setuptools,wheel}
 ONLY='' try "a release" tools/release "$work/release"
 try "its files" has_files "$work/release"

@@ -1,6 +1,7 @@
 // Opens a page in a browser, with what it needs from folders served on a port of this machine, and prints the text that
-// the page sends to /report. The status is 0 if that ends in ' 0 failed'.
-//   node browser.js chromium|firefox|webkit PATH FOLDER..
+// the page sends to /report. The status is 0 if that ends in ' 0 failed'. A page that is a file gets the port in its
+// address.
+//   node browser.js chromium|firefox|webkit PATH|file://PATH FOLDER..
 import { spawn } from 'node:child_process';
 import { existsSync, mkdtempSync, readFileSync, rmSync } from 'node:fs';
 import { createServer } from 'node:http';
@@ -41,7 +42,9 @@ async function serve(request, response) {
 // a new profile, and may take longer. timeout ends a browser and what it has started.
 function start(attempt) {
   const profile = mkdtempSync(join(tmpdir(), `${name}-`));
-  const words = commands[name](profile, `http://127.0.0.1:${server.address().port}/${path}`);
+  const { port } = server.address();
+  const url = path.startsWith('file:') ? `${path}?port=${port}` : `http://127.0.0.1:${port}/${path}`;
+  const words = commands[name](profile, url);
   const env = { ...process.env, HOME: profile, TMPDIR: profile };
   browser = spawn('timeout', ['--kill-after=1', '1800', ...words], { stdio: 'ignore', env });
   startLimit = setTimeout(() => browser.kill(), 120_000 * attempt ** 2);
