@@ -1,5 +1,5 @@
 -- Reading a choice or one of its cases failed: what that shows.
-use Rattle.std.proofs.Common.{◌≡◌, ◌<◌, ◌⊎◌, inl, inr, ℕ, List, ◌++◌, Option, refl, sym, ◌∙◌, subst}
+use Rattle.std.proofs.Common.{◌≡◌, inl, inr, ℕ, List, Option, refl, sym, ◌∙◌, subst}
 use Rattle.multihash.specs.Varint.{IsVarint}
 use Rattle.multihash.specs.Consuming.{ConsumesSome}
 use Rattle.form.specs.Form.{Then}

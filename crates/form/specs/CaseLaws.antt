@@ -1,5 +1,5 @@
 -- The laws of cases and of a choice of them.
-use Rattle.std.proofs.Common.{◌≡◌, ◌<◌, inl, inr, ℕ, List, [], ◌++◌, length, refl, sym}
+use Rattle.std.proofs.Common.{◌≡◌, ◌<◌, inl, inr, ℕ, List, ◌++◌, refl, sym}
 use Rattle.multihash.specs.Varint.{IsVarint, varint_limit}
 use Rattle.form.specs.Form.{Then}
 use Rattle.form.specs.FormLaws.{then_unique, then_one}

@@ -1,6 +1,7 @@
 pub mod ByteCount
 pub mod Case
 pub mod CaseLaws
+pub mod FixedLaws
 pub mod Form
 pub mod FormError
 pub mod FormLaws

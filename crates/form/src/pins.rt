@@ -1,6 +1,7 @@
 //! What callers can know of each part beyond the laws of the trait, as the contracts of functions that do nothing. If a
 //! part exposed less, its proof here would fail.
 ghost use Rattle.std.specs.Prelude.{◌≡◌, ◌≢◌, ◌<◌, ◌↔◌, ◌⊎◌, ℕ, List, length};
+ghost use Rattle.std.specs.Int.{bytes_high_first, bytes_low_first};
 ghost use Rattle.multihash.specs.Multihash.{pair_of};
 ghost use Rattle.multihash.specs.Varint.{IsVarint};
 ghost use Rattle.multihash.specs.Encoding.{IsEncoding};
@@ -15,8 +16,8 @@ ghost use Rattle.form.specs.declared.error.FormError.TheVariants.{TooMany, TooLo
 ghost use Rattle.form.specs.declared.case.Case.TheVariants.{This, Other};
 
 use crate::{
-    Block, Both, Bytes, Case, Cases, Choice, Counted, Form, FormError, NoCase, Number, Others, Tag,
-    Tagged,
+    BigEndian, Block, Both, Bytes, Case, Cases, Choice, Counted, Form, FormError, LittleEndian,
+    NoCase, Number, Others, Tag, Tagged,
 };
 use multihash::Multihash;
 
@@ -49,6 +50,25 @@ fn arrays<const N: usize>(x: &Bytes<N>, y: &Bytes<N>, e: &FormError)
     ensures same { ⟦<Bytes<N> as Form>⟧.same x.now y.now ↔ (x.now.bytes ≡ y.now.bytes) }
     ensures rejects_with { ⟦<Bytes<N> as Form>⟧.rejects_with e.now → IsFailed IsEof e.now }
     ensures rejects { (bytes : List ℕ) → ¬ (⟦<Bytes<N> as Form>⟧.rejects e.now bytes) }
+{}
+
+fn fixed<const N: usize>(
+    x: &BigEndian<N>,
+    y: &BigEndian<N>,
+    z: &LittleEndian<N>,
+    w: &LittleEndian<N>,
+    e: &FormError,
+)
+    ensures big { (bytes : List ℕ) →
+        ⟦<BigEndian<N> as Form>⟧.is_form x.now bytes ↔ (bytes ≡ bytes_high_first N x.now.value) }
+    ensures little { (bytes : List ℕ) →
+        ⟦<LittleEndian<N> as Form>⟧.is_form z.now bytes ↔ (bytes ≡ bytes_low_first 0 N z.now.value) }
+    ensures same_big { ⟦<BigEndian<N> as Form>⟧.same x.now y.now ↔ (x.now.value ≡ y.now.value) }
+    ensures same_little { ⟦<LittleEndian<N> as Form>⟧.same z.now w.now ↔ (z.now.value ≡ w.now.value) }
+    ensures rejects_with_big { ⟦<BigEndian<N> as Form>⟧.rejects_with e.now → IsFailed IsEof e.now }
+    ensures rejects_with_little { ⟦<LittleEndian<N> as Form>⟧.rejects_with e.now → IsFailed IsEof e.now }
+    ensures rejects_big { (bytes : List ℕ) → ¬ (⟦<BigEndian<N> as Form>⟧.rejects e.now bytes) }
+    ensures rejects_little { (bytes : List ℕ) → ¬ (⟦<LittleEndian<N> as Form>⟧.rejects e.now bytes) }
 {}
 
 fn blocks<const MAX: usize>(x: &Block<MAX>, y: &Block<MAX>, e: &FormError)

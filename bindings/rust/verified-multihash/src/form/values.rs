@@ -1,6 +1,7 @@
 //! Values of the parts, written by hand: they keep the limits that ghost fields state in the proved source. And `form!`,
 //! which makes your own types formats.
-use crate::form::{Block, Both, Bytes, Case, Cases, Choice, Counted, FormError, NoCase, Number, Others, Tag, Tagged};
+use crate::form::{BigEndian, Block, Both, Bytes, Case, Cases, Choice, Counted, FormError, LittleEndian};
+use crate::form::{NoCase, Number, Others, Tag, Tagged};
 use crate::varint;
 use alloc::vec::Vec;
 use core::ops::Deref;
@@ -26,6 +27,8 @@ parts! {
     [] Number = 0;
     [const N: u64] Tag<N> = 0;
     [const N: usize] Bytes<N> = 0;
+    [const N: usize] BigEndian<N> = 0;
+    [const N: usize] LittleEndian<N> = 0;
     [const MAX: usize] Block<MAX> = 0;
     [const S: usize] crate::Multihash<S> = 0;
     [A: Part, B: Part] Both<A, B> = above(A::DEPTH, B::DEPTH);
@@ -117,6 +120,34 @@ impl<const N: usize> From<[u8; N]> for Bytes<N> {
 
 impl<const N: usize> Bytes<N> {
     const SOME: () = assert!(N > 0, "no encoding is empty");
+}
+
+macro_rules! integers {
+    ($($name:ident<$size:literal> = $integer:ty;)*) => {
+        $(
+            impl From<$integer> for $name<$size> {
+                fn from(value: $integer) -> Self {
+                    $name { value: value.into() }
+                }
+            }
+
+            impl From<$name<$size>> for $integer {
+                fn from(number: $name<$size>) -> Self {
+                    number.value as $integer
+                }
+            }
+        )*
+    };
+}
+integers! {
+    BigEndian<1> = u8;
+    BigEndian<2> = u16;
+    BigEndian<4> = u32;
+    BigEndian<8> = u64;
+    LittleEndian<1> = u8;
+    LittleEndian<2> = u16;
+    LittleEndian<4> = u32;
+    LittleEndian<8> = u64;
 }
 
 impl<T, const MAX: usize> Counted<T, MAX> {
