@@ -1,9 +1,6 @@
 use Rattle.std.proofs.Common.{◌≡◌, length, drop, arith, rules, length-append, length-drop}
 use Rattle.multihash.proofs.multihash.Multihash.read_digest.Goals as goal
 
-pub returns-clause-faults : goal.returns-clause-faults
-returns-clause-faults g c = search rules
-
 pub returns-then-size-eq32-clause-full : goal.returns-then-size-eq32-clause-full
 returns-then-size-eq32-clause-full g c =
     let buffer = c.args.buffer.now in

@@ -2,9 +2,6 @@ use Rattle.std.proofs.Common.{◌-◌, rules, length}
 use Rattle.multihash.proofs.ReadingLemmas.{Consumes-concatenated, take-put_mid_more}
 use Rattle.multihash.proofs.no_std_io.traits.Read.read_exact.Goals as goal
 
-pub returns-in-Ok-eq0 : goal.returns-in-Ok-eq0
-returns-in-Ok-eq0 g c = search rules
-
 pub loop-filled-preserved : goal.loop-filled-preserved
 loop-filled-preserved g c =
     let filled = c.loop-filled.filled in
