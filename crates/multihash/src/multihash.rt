@@ -61,24 +61,24 @@ impl<const S: usize> Multihash<S> {
     ///
     /// - [`Error::invalid_size`] with the digest's length if it exceeds `min(S, 255)`.
     /// - Otherwise [`Error::invalid_code`] with the code if it is 2^63 or more.
-    pub fn wrap(code: u64, input_digest: &[u8]) -> Result<Self, Error>
+    pub fn wrap(code: u64, digest: &[u8]) -> Result<Self, Error>
         ensures ok { IfOk result (λ m.
-            pair_of m ≡ record { code = code; digest = input_digest.now }) }
+            pair_of m ≡ record { code = code; digest = digest.now }) }
         ensures exactly { IsErr result ↔
-            ((digest_limit S < length input_digest.now) ⊎ (varint_limit ≤ code)) }
+            ((digest_limit S < length digest.now) ⊎ (varint_limit ≤ code)) }
         ensures err { IfErr result (λ e.
-            (IsInvalidSize (length input_digest.now) e × (digest_limit S < length input_digest.now))
-            ⊎ (IsInvalidCode code e × (length input_digest.now ≤ digest_limit S)
+            (IsInvalidSize (length digest.now) e × (digest_limit S < length digest.now))
+            ⊎ (IsInvalidCode code e × (length digest.now ≤ digest_limit S)
             × (varint_limit ≤ code))) }
     {
-        let len = input_digest.len();
+        let len = digest.len();
         if !Self::is_valid_size(len as u64) {
             return Err(Error::from_size(len as u64));
         }
         if code > varint::MAX {
             return Err(Error::from_code(code));
         }
-        Ok(Self::of_digest(code, input_digest))
+        Ok(Self::of_digest(code, digest))
     }
 
     /// Returns the code, which names the hash function: less than 2^63.
@@ -97,7 +97,7 @@ impl<const S: usize> Multihash<S> {
         self.size as u8
     }
 
-    /// Returns the digest.
+    /// Returns the bytes of the digest.
     pub fn digest(&self) -> &[u8]
         ensures digest { result.now ≡ (pair_of self.now).digest }
         ensures fits { FitsBuffer S (pair_of self.now) }

@@ -65,7 +65,7 @@ impl<const S: usize> Multihash<S> {
         upstream::size(&self.0)
     }
 
-    /// Returns the digest.
+    /// Returns the bytes of the digest.
     pub fn digest(&self) -> &[u8] {
         self.0.digest()
     }

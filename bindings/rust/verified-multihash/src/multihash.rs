@@ -22,15 +22,15 @@ impl<const S: usize> Multihash<S> {
     ///
     /// - [`Error::invalid_size`] with the digest's length if it exceeds `min(S, 255)`.
     /// - Otherwise [`Error::invalid_code`] with the code if it is 2^63 or more.
-    pub fn wrap(code: u64, input_digest: &[u8]) -> Result<Self, Error> {
-        let len = input_digest.len();
+    pub fn wrap(code: u64, digest: &[u8]) -> Result<Self, Error> {
+        let len = digest.len();
         if !Self::is_valid_size(len as u64) {
             return Err(Error::from_size(len as u64));
         }
         if code > varint::MAX {
             return Err(Error::from_code(code));
         }
-        Ok(Self::of_digest(code, input_digest))
+        Ok(Self::of_digest(code, digest))
     }
 
     /// Returns the code, which names the hash function: less than 2^63.
@@ -43,7 +43,7 @@ impl<const S: usize> Multihash<S> {
         self.size as u8
     }
 
-    /// Returns the digest.
+    /// Returns the bytes of the digest.
     pub fn digest(&self) -> &[u8] {
         prefix(&self.digest, self.size)
     }
