@@ -13,7 +13,7 @@ use verified_multihash::{form, Multihash};
 type Cid = Both<Tag<1>, Both<Number, Multihash<64>>>;
 type Identifier = Choice<Case<Both<Number, Multihash<64>>, 1, Case<Both<Tag<32>, Bytes<32>>, 0x12, NoCase>>>;
 type Node = Both<Number, Both<Counted<Multihash<64>, 1000>, Block<1_000_000>>>;
-type PeerRecord = Both<Multihash<42>, Counted<Block<1000>, 1>>;
+type PeerRecord = Both<Multihash<42>, Both<LittleEndian<8>, Counted<Block<1000>, 1>>>;
 form! {
     #[derive(Clone, Debug, PartialEq)]
     struct Named { version: Tag<1>, codec: Number, hash: Multihash<64> }
@@ -22,7 +22,7 @@ form! {
     #[derive(Clone, Debug, PartialEq)]
     enum Protocol {
         Ip4(Bytes<4>) = 4,
-        Tcp(Bytes<2>) = 6,
+        Tcp(BigEndian<2>) = 6,
         Dns(Block<253>) = 53,
         P2p(Named) = 421,
         Far(Number) = 0x7fff_ffff_ffff_ffff, // FAR: a literal
@@ -30,7 +30,7 @@ form! {
 }
 
 /// The same cases by the proved parts alone.
-type Protocols = Case<Bytes<4>, 4, Case<Bytes<2>, 6, Case<Block<253>, 53, Case<Named, 421, Case<Number, FAR, NoCase>>>>>;
+type Protocols = Case<Bytes<4>, 4, Case<BigEndian<2>, 6, Case<Block<253>, 53, Case<Named, 421, Case<Number, FAR, NoCase>>>>>;
 const FAR: u64 = 0x7fff_ffff_ffff_ffff;
 
 fn text<T>(result: &Result<T, FormError>) -> String {
@@ -122,7 +122,7 @@ fn named(draw: &mut Draw) -> Named {
 fn protocol(draw: &mut Draw) -> Protocol {
     match draw.below(5) {
         0 => Protocol::Ip4([draw.next() as u8; 4].into()),
-        1 => Protocol::Tcp([draw.next() as u8; 2].into()),
+        1 => Protocol::Tcp((draw.next() as u16).into()),
         2 => Protocol::Dns(Block::new(draw.bytes(253)).expect("it fits")),
         3 => Protocol::P2p(named(draw)),
         _ => Protocol::Far(draw.number()),
@@ -145,7 +145,8 @@ fn node(draw: &mut Draw) -> Node {
 
 fn peer_record(draw: &mut Draw) -> PeerRecord {
     let blocks: Vec<_> = (0..draw.below(2)).map(|_| Block::new(draw.bytes(50)).expect("it fits")).collect();
-    Both { first: draw.multihash(), second: Counted::new(blocks).expect("they fit") }
+    let rest = Both { first: draw.next().into(), second: Counted::new(blocks).expect("they fit") };
+    Both { first: draw.multihash(), second: rest }
 }
 
 /// An enum of `form!` reads as a choice, and writes what it does.
@@ -261,19 +262,25 @@ fn lawless() {
 #[allow(clippy::uninit_vec)]
 fn limits() {
     assert!(matches!(Block::<3>::new(b"1234".to_vec()), Err(FormError::TooLong(4))));
+    assert_eq!(*Block::<3>::new(b"123".to_vec()).expect("it fits"), *b"123");
     assert!(matches!(Counted::<u8, 1>::new([1, 2]), Err(FormError::TooMany(2))));
     let mut items = Vec::<()>::new();
     // SAFETY: they have no size
     unsafe { items.set_len(usize::MAX) };
     assert!(Counted::<(), { usize::MAX }>::new(items).is_err());
     assert_eq!(Counted::<u8, 1>::new([1]).expect("it fits").into_inner(), [1]);
-    assert_eq!(Number::new((1 << 63) - 1).map(u64::from), Some((1 << 63) - 1));
+    assert_eq!(Number::new((1 << 63) - 1).map(Number::get), Some((1 << 63) - 1));
     assert!(Number::try_from((1_u64 << 63) - 1).is_ok());
     assert!(Number::new(1 << 63).is_none() && Number::try_from(1_u64 << 63).is_err());
     assert!(matches!(from_bytes::<Block<3>>(b"\x041234"), Err(FormError::TooLong(4))));
     assert!(matches!(from_bytes::<Counted<Number, 1>>(b"\x02\0\0"), Err(FormError::TooMany(2))));
     assert_eq!(from_bytes::<Block<3>>(b"\x03123").expect("it fits").into_inner(), b"123");
     assert!(from_bytes::<Bytes<0>>(b"").is_err());
+    assert_eq!(to_bytes(&BigEndian::from(0x0102_u16)).expect("memory"), [1, 2]);
+    assert_eq!(to_bytes(&LittleEndian::from(0x0102_u32)).expect("memory"), [2, 1, 0, 0]);
+    assert_eq!(from_bytes::<BigEndian<1>>(b"\xff").map(u8::from).ok(), Some(255));
+    assert_eq!(from_bytes::<LittleEndian<8>>(&[255; 8]).map(u64::from).ok(), Some(u64::MAX));
+    assert!(from_bytes::<BigEndian<0>>(b"").is_err() && from_bytes::<LittleEndian<9>>(&[0; 9]).is_err());
     let [one, twice] = [Case::this(Number::from(7)), Case::this(Number::from(8))];
     assert_eq!(Case::<Number, 3, Case<Number, 4, NoCase>>::other(one.clone()).expect("another").tag().get(), 4);
     assert!(matches!(Case::<Number, 4, Case<Number, 4, NoCase>>::other(twice), Err(FormError::OtherTag(4))));

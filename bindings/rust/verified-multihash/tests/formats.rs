@@ -2,7 +2,7 @@
 #![cfg(feature = "std")]
 use std::io::{Cursor, ErrorKind};
 use verified_multihash::form::{
-    all_from_bytes, from_bytes, to_bytes, with_io, Block, Bytes, Form, FormError, Number, Stream,
+    all_from_bytes, from_bytes, to_bytes, with_io, BigEndian, Block, Bytes, Form, FormError, Number, Stream,
 };
 use verified_multihash::{codes, form, Multihash};
 
@@ -11,7 +11,7 @@ form! {
     #[derive(Clone, Debug, PartialEq)]
     pub enum Protocol {
         Ip4(Bytes<4>) = 4,
-        Tcp(Bytes<2>) = 6,
+        Tcp(BigEndian<2>) = 6,
         Ip6(Bytes<16>) = 41,
         Dns(Block<253>) = 53,
         P2p(Block<100>) = 421,
@@ -27,7 +27,7 @@ fn address() {
     let address: Vec<Protocol> = all_from_bytes(ADDRESS).expect("an address");
     let peer = match &address[..] {
         [Protocol::Ip4(host), Protocol::Tcp(port), Protocol::P2p(peer)] => {
-            assert_eq!((**host, u16::from_be_bytes(**port)), ([127, 0, 0, 1], 4001));
+            assert_eq!((**host, u16::from(*port)), ([127, 0, 0, 1], 4001));
             Multihash::<64>::from_bytes(peer).expect("a multihash")
         }
         other => panic!("{other:?}"),

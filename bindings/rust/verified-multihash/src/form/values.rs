@@ -78,12 +78,6 @@ impl From<u32> for Number {
     }
 }
 
-impl From<Number> for u64 {
-    fn from(number: Number) -> Self {
-        number.value
-    }
-}
-
 /// The error of a number of 2^63 or more is that of [`varint::len`].
 impl TryFrom<u64> for Number {
     type Error = FormError;
@@ -101,12 +95,6 @@ impl<const N: u64> Tag<N> {
     pub const fn new() -> Self {
         let () = Self::IN_RANGE;
         Tag {}
-    }
-}
-
-impl<const N: u64> Default for Tag<N> {
-    fn default() -> Self {
-        Self::new()
     }
 }
 
@@ -252,10 +240,7 @@ macro_rules! form {
 
             fn read<R: $crate::no_std_io::Read>(
                 $r: &mut R,
-            ) -> ::core::result::Result<Self, $crate::form::FormError> {
-                let _ = <Self as $crate::form::values::Part>::DEPTH;
-                $read
-            }
+            ) -> ::core::result::Result<Self, $crate::form::FormError> $read
         }
     };
 }
