@@ -1,5 +1,5 @@
 // Made by tools/generate rust.
-#![doc = include_str!("../FORMATS.md")]
+#![cfg_attr(any(feature = "std", not(doctest)), doc = include_str!("../FORMATS.md"))]
 use crate::rattle::{std, *};
 pub mod frame;
 #[doc(hidden)]
