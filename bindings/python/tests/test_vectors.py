@@ -187,7 +187,6 @@ class Many(unittest.TestCase):
         found = vm.read_many(array.array("H", [0, 0, 0x101]))
         self.assertEqual((found.taken, found.error.taken, found.error.is_incomplete), (4, 2, True))
 
-
     @unittest.skipUnless(importlib.util.find_spec("numpy"), "numpy is not installed")
     def test_numpy(self):
         program = "import numpy, verified_multihash as vm; a, b = map(numpy.asarray, vm.read_many(bytes(6))[1:3])\n"
