@@ -10,7 +10,6 @@ import os
 import pickle
 import re
 import resource
-import sys
 import tempfile
 import unittest
 import weakref

@@ -15,12 +15,12 @@ from __future__ import annotations
 import importlib
 import io
 import struct
-from typing import TYPE_CHECKING, AsyncIterator, Iterator, NamedTuple, Optional, Protocol, Union
+from typing import TYPE_CHECKING, AsyncIterator, NamedTuple, Optional, Protocol, Union
 
-from . import _core, _value
-from ._core import Multihash, compare, decode, encode, encode_varint, encoded_len, read, read_varint, scale_decode
-from ._core import scale_encode
+from . import _core
+from ._core import compare, decode, encode, encode_varint, encoded_len, read, read_varint, scale_decode, scale_encode
 from ._status import INCOMPLETE, TEXTS, Status
+from ._value import Multihash
 
 if TYPE_CHECKING:
     from _typeshed import ReadableBuffer as Buffer

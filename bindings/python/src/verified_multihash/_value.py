@@ -7,6 +7,8 @@ from typing import Any, Type, TypeVar
 
 from ._core import Multihash, decode
 
+__all__ = ["Multihash"]
+
 Own = TypeVar("Own", bound=Multihash)
 
 
