@@ -10,22 +10,22 @@ trap 'rm -rf "$work"' EXIT
 # what core.js calls, and what it asks of the memory
 exports=(__heap_base multihash_{encode,encoded_len,from_bytes,head,read_limit,read_many,read_varint,scale_decode})
 exports+=(multihash_{scale_encode,version,write_varint})
-# By words where it can, since each access of a byte is a statement of JavaScript.
+# Copies few words by statements of JavaScript, and what is longer or not aligned by one call of copyWithin.
 cat > "$work/memcpy.c" << 'END'
 #include <stddef.h>
 #include <stdint.h>
 typedef uint32_t __attribute__((may_alias)) word;
 void *memcpy(void *restrict to, const void *restrict from, size_t length)
 {
-    size_t at = 0;
-    if ((((uintptr_t)to | (uintptr_t)from) & 3) == 0)
-        for (; at + 4 <= length; at += 4) *(word *)((char *)to + at) = *(const word *)((const char *)from + at);
-    for (; at < length; at++) ((char *)to)[at] = ((const char *)from)[at];
+    if ((((uintptr_t)to | (uintptr_t)from | length) & 3) != 0 || length > 64) return __builtin_memcpy(to, from, length);
+    for (size_t at = 0; at < length; at += 4) *(word *)((char *)to + at) = *(const word *)((const char *)from + at);
     return to;
 }
 END
-clang --target=wasm32 -std=c11 -ffreestanding -nostdlib -O2 -I "$c/include" "$c/src/multihash.c" "$work/memcpy.c" \
-  -Wl,--no-entry,--strip-debug,--max-memory=131072 "${exports[@]/#/-Wl,--export=}" -o "$work/library.wasm"
+flags=(--target=wasm32 -std=c11 -ffreestanding -nostdlib -O2)
+clang "${flags[@]}" -mbulk-memory -c "$work/memcpy.c" -o "$work/memcpy.o"
+clang "${flags[@]}" -I "$c/include" "$c/src/multihash.c" "$work/memcpy.o" -Wl,--no-entry,--strip-debug \
+  -Wl,--max-memory=131072 "${exports[@]/#/-Wl,--export=}" -o "$work/library.wasm"
 
 # The version that a tool prints.
 version() { "$1" --version | sed -nE '1s/.* ([0-9.]+).*/\1/p'; }

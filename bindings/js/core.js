@@ -1,99 +1,86 @@
-// Multihashes over the functions of library.js, which is translated from a proved library.
-import { checkedLength, checkedWide, isBytes, shown, viewOf, wrongType } from './arguments.js';
-import { MultihashError, encodingError, forJSON, reasonOf, scaleReasonOf } from './errors.js';
-import { hex, unhex } from './hex.js';
+// The functions of library.js, which is translated from a proved library, over its memory. They are in one module, since
+// engines know the constants of a module, but not those that it imports.
+import { checkedLength, checkedWide, shown, viewOf } from './arguments.js';
+import { MultihashError, encodingError, reasonOf, scaleReasonOf, varintReasonOf } from './errors.js';
 import * as library from './library.js';
-import { DIGEST_MAX, LENGTH_MAX } from './limits.js';
-import { PREFIX_MAX, copied, first, highOf, lengthOf, lowOf, memory, output, put, putFew, result, wide,
-  words } from './memory.js';
+import { DIGEST_MAX, HEAD_MAX, LENGTH_MAX, VARINT_LENGTH_MAX } from './limits.js';
+import { MAKING, Multihash } from './multihash.js';
 import { INCOMPLETE, STATUSES } from './statuses.js';
 
-/** A code as results have it: a bigint only where a number would not be exact. */
-const resultOf = (code) => (code > Number.MAX_SAFE_INTEGER ? code : Number(code) + 0); // -0 is 0
+if (new Uint8Array(Uint32Array.of(1).buffer)[0] !== 1)
+  throw new Error('verified-multihash does not work on big-endian machines: it would return wrong numbers');
 
-export const MAKING = Symbol('making');
+// The longest prefix of an input that a result depends on, except for the number of trailing bytes.
+const PREFIX_MAX = HEAD_MAX + DIGEST_MAX;
 
-/**
- * A code, which names a hash function, and a digest. The fields are not frozen: that would double the time of `decode`.
- */
-export class Multihash {
-  #bytes; // once they were asked for
+// No function of the library grows or frees its memory. After what it uses are a result, an input of up to PREFIX_MAX bytes
+// and an output of up to LENGTH_MAX, at these addresses: aligned, since words are copied faster.
+const memory = new Uint8Array(library.memory.buffer);
+const result = library.__heap_base.value;
+const first = result + 64;
+const output = first + 288;
+const FIRST_WORD = 16; // the index in `words` of the first input
 
-  constructor(making, code, digest) {
-    if (making !== MAKING) throw new TypeError('Multihash.of(code, digest) makes a multihash');
-    this.code = code;
-    this.size = digest.length;
-    this.digest = digest;
-  }
+// The words of the result, and the first of the input: a number of 64 bits has two.
+const words = new Uint32Array(memory.buffer, result, FIRST_WORD + 1);
 
-  /** Makes the multihash of a code and a digest, which is copied. */
-  static of(code, digest) {
-    const length = checkedLength(digest, 'digest');
-    if (length > DIGEST_MAX) encodedLength(code, length); // throws, before a copy
-    const copy = new Uint8Array(digest); // once: its memory may grow meanwhile
-    encodedLength(code, copy.length);
-    return new Multihash(MAKING, resultOf(code), copy);
-  }
+// The addresses of many results, of four words each, and of a long input, which has room for as many of the usual length.
+const items = output + 272;
+const ITEMS = 1024;
+const block = items + 16 * ITEMS;
+const BLOCK = 32768;
+const itemWords = new Uint32Array(memory.buffer, items, 4 * ITEMS);
 
-  /** Decodes a multihash from hexadecimal. */
-  static fromHex(text) {
-    return decode(unhex(text));
-  }
+// Views of the memory by address and length: to make one is as slow as to copy from it.
+const views = [];
 
-  /** Makes the multihash that `toJSON` was called on, of what it returned. */
-  static fromJSON(json) {
-    if (typeof json !== 'object' || json === null) throw wrongType('json', 'an object', json);
-    const { code, size, digest } = json;
-    const bytes = unhex(digest, 'digest');
-    if (size !== undefined && size !== bytes.length)
-      throw new RangeError(`size must be ${bytes.length}, the length of the digest, got ${shown(size)}`);
-    return Multihash.of(typeof code === 'string' && /^\d+$/.test(code) ? BigInt(code) : code, bytes);
-  }
+// ---- arguments
 
-  /** The encoding, which is made once. */
-  get bytes() {
-    return (this.#bytes ??= encode(this.code, this.digest));
-  }
-
-  /** The digest in hexadecimal. */
-  get digestHex() {
-    return hex(this.digest);
-  }
-
-  /** The encoding in hexadecimal. */
-  toString() {
-    return hex(this.bytes);
-  }
-
-  /** The code, and the digest in hexadecimal, for JSON.stringify. */
-  toJSON() {
-    return { code: forJSON(this.code), size: this.size, digest: this.digestHex };
-  }
-
-  /** The same for console.log in Node.js. */
-  [Symbol.for('nodejs.util.inspect.custom')]() {
-    return `Multihash(0x${this.code.toString(16)}, ${this.digestHex || 'empty'})`;
-  }
-
-  /** Whether the other value has the same code and the same digest. */
-  equals(other) {
-    if (other instanceof Multihash) return order(this, other) === 0;
-    const [left, right, code] = [this.digest, other?.digest, other?.code];
-    if (!isBytes(right)) return false;
-    // a number and a bigint of the same value are the same code
-    if ((typeof code !== 'number' && typeof code !== 'bigint') || code != this.code) return false;
-    const length = checkedLength(left, 'the digest');
-    if (checkedLength(right, 'the other digest') !== length) return false;
-    for (let index = 0; index < length; index++) if (left[index] !== right[index]) return false;
-    return true;
-  }
-
-  /** This multihash, whose code is a number: a RangeError if it is a bigint. */
-  narrow() {
-    if (typeof this.code !== 'number') throw new RangeError(`the code ${this.code} is 2^53 or more, so it is a bigint`);
-    return this;
-  }
+/** Copies at most PREFIX_MAX bytes into the library's memory, and returns the length of the whole input. */
+function put(data, name) {
+  const length = checkedLength(data, name);
+  memory.set(length <= PREFIX_MAX ? data : viewOf(data, 0, PREFIX_MAX), first);
+  return length;
 }
+
+/** The low and the high half of a number that `checkedWide` accepts. */
+const lowOf = (number) => (typeof number === 'number' ? number : Number(number & 0xffffffffn)) | 0;
+const highOf = (number) => (typeof number === 'number' ? number / 0x100000000 : Number(number >> 32n)) | 0;
+
+/** A length in the library, in which the largest stands for all above it: a call rejects it too. */
+export const lengthOf = (number) => Math.min(Number(number), 0xffffffff);
+
+/** Decodes one varint or two with a function of the library. Returns the length of the whole input. */
+function putFew(decoder, bytes) {
+  const length = checkedLength(bytes, 'bytes');
+  // four bytes, which suffice mostly, are copied faster so than by `set`
+  words[FIRST_WORD] = bytes[0] | (bytes[1] << 8) | (bytes[2] << 16) | (bytes[3] << 24);
+  decoder(result, first, Math.min(length, 4));
+  if (STATUSES[words[0]] === 'insufficient') {
+    put(bytes, 'bytes');
+    decoder(result, first, Math.min(length, PREFIX_MAX));
+  }
+  return length;
+}
+
+// ---- results
+
+/** A number of 64 bits in the result, or in other words: a bigint only where a number would not be exact. */
+function wide(at, from = words) {
+  const low = from[at];
+  const high = from[at + 1];
+  if (high === 0) return low;
+  return high < 0x200000 ? high * 0x100000000 + low : (BigInt(high) << 32n) | BigInt(low);
+}
+
+/** Copies bytes of the library's memory. */
+function copied(at, length) {
+  const row = (views[at - first] ??= []);
+  return new Uint8Array((row[length] ??= memory.subarray(at, at + length)));
+}
+
+/** A code as results have it: a bigint only where a number would not be exact. */
+export const resultOf = (code) => (code > Number.MAX_SAFE_INTEGER ? code : Number(code) + 0); // -0 is 0
 
 /** What a decoding of the first input found: the fields of `multihash_decoded`, in the order of multihash.h. */
 function found() {
@@ -107,7 +94,7 @@ const detailsOf = (taken) =>
   ({ status: STATUSES[words[0]], size: wide(2) || undefined, code: wide(4) || undefined, taken });
 
 /** The error in the result of a decoding that consumed `taken` bytes of the input at an address, of that length. */
-export function rejected(length, taken, limit = DIGEST_MAX, input = first) {
+function rejected(length, taken, limit = DIGEST_MAX, input = first) {
   const details = detailsOf(taken);
   library.multihash_head(result, input, Math.min(length, PREFIX_MAX));
   const head = { taken: words[6], digestLength: wide(4) };
@@ -151,6 +138,14 @@ export function head(bytes) {
   return { code: wide(2), digestLength: wide(4), taken: words[6] };
 }
 
+/** Decodes the varint at the start of the bytes. */
+export function readVarint(bytes) {
+  const length = putFew(library.multihash_read_varint, bytes);
+  const status = STATUSES[words[0]];
+  if (status !== 'ok') throw new MultihashError(varintReasonOf(status, length), { status });
+  return { value: wide(2), taken: words[4] };
+}
+
 /** Decodes the multihash whose SCALE encoding is a prefix of the bytes. */
 export function scaleDecode(bytes) {
   const length = put(bytes, 'bytes');
@@ -159,6 +154,32 @@ export function scaleDecode(bytes) {
   if (words[0] === 0) return { multihash: found(), taken };
   const details = detailsOf(taken);
   throw new MultihashError(scaleReasonOf(details, memory.subarray(first), length), details);
+}
+
+// ---- many multihashes
+
+/**
+ * Decodes multihashes one after the other, of at most a block of the bytes from an index on: none if the first of them is
+ * malformed or truncated. Returns four words of each: those of `multihash_item`, with offsets from that index on.
+ */
+export function itemsAt(bytes, at, length) {
+  const size = Math.min(length - at, BLOCK);
+  memory.set(viewOf(bytes, at, size), block);
+  library.multihash_read_many(result, block, size, items, ITEMS);
+  return itemWords.slice(0, 4 * words[4]);
+}
+
+/** The multihash of an item that `itemsAt` found from that index of a plain Uint8Array on. */
+export function multihashOf(found, item, bytes, at) {
+  const start = at + found[item + 2];
+  return new Multihash(MAKING, wide(item, found), bytes.slice(start, start + found[item + 3]));
+}
+
+/** The error of the multihash in the block in which `itemsAt` found none, with that many bytes after it began. */
+export function errorOfBlock(length) {
+  const size = Math.min(length, PREFIX_MAX);
+  library.multihash_read_limit(result, block, size, DIGEST_MAX);
+  return rejected(size, words[8], DIGEST_MAX, block);
 }
 
 // ---- encoding
@@ -173,8 +194,10 @@ function encoded(encoder, code, digest) {
   checkedWide(code, 'code');
   const length = put(digest, 'digest');
   if (length > DIGEST_MAX) encodedLength(code, length); // throws
-  encoder(result, lowOf(code), highOf(code), first, length, output, LENGTH_MAX);
-  return copied(output, made(code, length));
+  // a digest after a code of one byte or of three, as most have, and its length is aligned then
+  const to = code > 0x3fff ? output : output + 2;
+  encoder(result, lowOf(code), highOf(code), first, length, to, LENGTH_MAX);
+  return copied(to, made(code, length));
 }
 
 /** Returns the encoding of a code and a digest. */
@@ -191,29 +214,23 @@ export function encodedLength(code, digestLength) {
   return made(code, digestLength);
 }
 
-// ---- comparing
-
-/** The digest of a Multihash, whose memory was not moved elsewhere. */
-function digestOf({ digest, size }, name) {
-  if (digest.length !== size) throw new TypeError(`the digest of ${name} is detached or was replaced`);
-  return digest;
+/** Writes the varint of a number to the output, and returns its length. */
+function varint(value) {
+  checkedWide(value, 'value');
+  library.multihash_write_varint(result, lowOf(value), highOf(value), output, VARINT_LENGTH_MAX);
+  if (words[0] !== 0) throw new MultihashError(`the value ${value} is 2^63 or more`, { status: STATUSES[words[0]] });
+  return words[4];
 }
 
-/** How two multihashes compare. A call of the library takes several times as long, since it copies both digests. */
-function order(left, right) {
-  const leftDigest = digestOf(left, 'left');
-  const rightDigest = digestOf(right, 'right');
-  if (left.code !== right.code) return left.code < right.code ? -1 : 1;
-  const length = leftDigest.length;
-  if (length !== rightDigest.length) return length < rightDigest.length ? -1 : 1;
-  for (let index = 0; index < length; index++)
-    if (leftDigest[index] !== rightDigest[index]) return leftDigest[index] < rightDigest[index] ? -1 : 1;
-  return 0;
-}
+/** Returns the varint of a number. */
+export const encodeVarint = (value) => copied(output, varint(value));
 
-/** Compares by code, then by digest length, then by the first digest byte that differs: -1, 0 or 1. */
-export function compare(left, right) {
-  if (!(left instanceof Multihash)) throw wrongType('left', 'a Multihash', left);
-  if (!(right instanceof Multihash)) throw wrongType('right', 'a Multihash', right);
-  return order(left, right);
+/** Writes the varint of a number to bytes, from an index on, and returns its length. */
+export function writeVarint(value, bytes, at = 0) {
+  const room = checkedLength(bytes, 'bytes');
+  const length = varint(value);
+  if (!Number.isInteger(at) || at < 0 || length > room - at)
+    throw new RangeError(`at must be an index from which bytes has room for ${length} bytes, got ${shown(at)} of ${room}`);
+  for (let index = 0; index < length; index++) bytes[at + index] = memory[output + index];
+  return length;
 }

@@ -1,9 +1,10 @@
 // Hash functions of node:crypto or WebCrypto, which make and verify multihashes.
 import { bufferOf, checkedLength, checkedOptions, checkedWide, isBytes, received, shown, viewOf, wrongType } from './arguments.js';
 import { CODES, NAMES } from './codes.js';
-import { Multihash, decode } from './core.js';
+import { decode } from './core.js';
 import { MultihashError } from './errors.js';
 import { DIGEST_MAX } from './limits.js';
+import { Multihash } from './multihash.js';
 import { sourceOf } from './sources.js';
 
 export { CODES, NAMES };

@@ -2,6 +2,18 @@
 // 14.0.6, LLD 14.0.6 and Binaryen 108.
 // @ts-nocheck
 
+  var bufferView;
+
+  var scratchBuffer = new ArrayBuffer(16);
+  var i32ScratchView = new Int32Array(scratchBuffer);
+  var f32ScratchView = new Float32Array(scratchBuffer);
+  var f64ScratchView = new Float64Array(scratchBuffer);
+  
+  function wasm2js_memory_copy(dest, source, size) {
+    // TODO: traps on invalid things
+    bufferView.copyWithin(dest, source, source + size);
+  }
+      
 function asmFunc(env) {
  var buffer = new ArrayBuffer(131072);
  var HEAP8 = new Int8Array(buffer);
@@ -1049,57 +1061,56 @@ function asmFunc(env) {
  }
  
  function $13($0_1, $1_1, $2_1) {
-  var $3_1 = 0, $4_1 = 0, $5_1 = 0;
-  if (!(($0_1 | $1_1) & 3 | $2_1 >>> 0 < 4)) {
-   while (1) {
-    HEAP32[$0_1 + $3_1 >> 2] = HEAP32[$1_1 + $3_1 >> 2];
-    $4_1 = $3_1 + 8 | 0;
-    $5_1 = $3_1 + 4 | 0;
-    $3_1 = $5_1;
-    if ($2_1 >>> 0 >= $4_1 >>> 0) {
-     continue
+  var $3_1 = 0, $4_1 = 0, $5_1 = 0, $6_1 = 0, $7 = 0;
+  if (!(($0_1 | $1_1 | $2_1) & 3 | $2_1 >>> 0 > 64)) {
+   label$2 : {
+    if (!$2_1) {
+     break label$2
     }
-    break;
-   }
-  }
-  label$3 : {
-   if ($2_1 >>> 0 <= $5_1 >>> 0) {
-    break label$3
-   }
-   $4_1 = ($5_1 ^ -1) + $2_1 | 0;
-   $3_1 = $2_1 & 3;
-   if ($3_1) {
+    $3_1 = $2_1 - 1 | 0;
+    $4_1 = ($3_1 >>> 2 | 0) + 1 | 0;
+    $6_1 = $4_1 & 3;
+    $2_1 = 0;
+    if ($3_1 >>> 0 >= 12) {
+     $3_1 = $4_1 & 2147483644;
+     while (1) {
+      $5_1 = $1_1 + $2_1 | 0;
+      $7 = HEAP32[$5_1 + 4 >> 2];
+      $4_1 = $0_1 + $2_1 | 0;
+      HEAP32[$4_1 >> 2] = HEAP32[$5_1 >> 2];
+      HEAP32[$4_1 + 4 >> 2] = $7;
+      $5_1 = $5_1 + 8 | 0;
+      $7 = HEAP32[$5_1 + 4 >> 2];
+      $4_1 = $4_1 + 8 | 0;
+      HEAP32[$4_1 >> 2] = HEAP32[$5_1 >> 2];
+      HEAP32[$4_1 + 4 >> 2] = $7;
+      $2_1 = $2_1 + 16 | 0;
+      $3_1 = $3_1 - 4 | 0;
+      if ($3_1) {
+       continue
+      }
+      break;
+     };
+    }
+    if (!$6_1) {
+     break label$2
+    }
+    $3_1 = $1_1 + $2_1 | 0;
+    $2_1 = $0_1 + $2_1 | 0;
     while (1) {
-     HEAP8[$0_1 + $5_1 | 0] = HEAPU8[$1_1 + $5_1 | 0];
-     $5_1 = $5_1 + 1 | 0;
-     $3_1 = $3_1 - 1 | 0;
-     if ($3_1) {
+     HEAP32[$2_1 >> 2] = HEAP32[$3_1 >> 2];
+     $3_1 = $3_1 + 4 | 0;
+     $2_1 = $2_1 + 4 | 0;
+     $6_1 = $6_1 - 1 | 0;
+     if ($6_1) {
       continue
      }
      break;
-    }
+    };
    }
-   if ($4_1 >>> 0 < 3) {
-    break label$3
-   }
-   $3_1 = $0_1;
-   while (1) {
-    $0_1 = $3_1 + $5_1 | 0;
-    $4_1 = $1_1 + $5_1 | 0;
-    $4_1 = HEAPU8[$4_1 | 0] | HEAPU8[$4_1 + 1 | 0] << 8 | (HEAPU8[$4_1 + 2 | 0] << 16 | HEAPU8[$4_1 + 3 | 0] << 24);
-    HEAP8[$0_1 | 0] = $4_1;
-    HEAP8[$0_1 + 1 | 0] = $4_1 >>> 8;
-    HEAP8[$0_1 + 2 | 0] = $4_1 >>> 16;
-    HEAP8[$0_1 + 3 | 0] = $4_1 >>> 24;
-    $1_1 = $1_1 + 4 | 0;
-    $3_1 = $3_1 + 4 | 0;
-    $2_1 = $2_1 - 4 | 0;
-    if (($5_1 | 0) != ($2_1 | 0)) {
-     continue
-    }
-    break;
-   };
+   return;
   }
+  wasm2js_memory_copy($0_1, $1_1, $2_1);
  }
  
  function legalstub$7($0_1, $1_1, $2_1, $3_1, $4_1, $5_1, $6_1) {
@@ -1498,6 +1509,7 @@ function asmFunc(env) {
   return 64;
  }
  
+ bufferView = HEAPU8;
  function __wasm_memory_size() {
   return buffer.byteLength / 65536 | 0;
  }

@@ -61,7 +61,7 @@ function imports() {
     for (const [, other] of bytesOf(file).toString().matchAll(/ from '\.\/(.*)';/g)) add(other);
   };
   add('core.js');
-  same(`${[...found].sort()}`, 'arguments.js,core.js,errors.js,hex.js,library.js,limits.js,memory.js,statuses.js', 'imports');
+  same(`${[...found].sort()}`, 'arguments.js,core.js,errors.js,hex.js,library.js,limits.js,multihash.js,statuses.js', 'imports');
 }
 
 /** Large content leaves time for other work, and identity does not copy or compare it. */

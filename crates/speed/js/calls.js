@@ -1,10 +1,13 @@
-// Prints the least nanoseconds of each call, of the package and of plain JavaScript, after it compared what they return.
+// Prints the least nanoseconds of each call, or for each of many multihashes, of the package and of plain JavaScript, after
+// it compared what they return.
 import * as ours from '../../../bindings/js/index.js';
 import * as plain from './plain.js';
 
 // Rounds are short, so that some have no garbage collection, and many, so that the last ones are of optimized code.
 const ROUNDS = 300;
 const CALLS = 100;
+const COUNT = 100_000; // of many multihashes
+const TURNS = 10;
 
 const digest = new Uint8Array(32).map((_, index) => index * 7);
 const bytes = Uint8Array.of(18, 32, ...digest);
@@ -66,6 +69,40 @@ const least = Object.fromEntries(Object.keys(mine).map((name) => [name, [Infinit
 for (let round = 0; round < ROUNDS; round++) {
   for (const [name, times] of Object.entries(least))
     least[name] = [mine, theirs].map((calls, at) => Math.min(times[at], nanoseconds(calls[name])));
+}
+
+const list = new Uint8Array(COUNT * bytes.length).map((_, at) => (at % 34 < 2 ? bytes[at % 34] : (at * 7) ^ (at >> 8)));
+async function* chunks() {
+  for (let at = 0; at < list.length; at += 65536) yield list.subarray(at, at + 65536);
+}
+
+/** What returns the sum of the sizes of all multihashes of the list. */
+function manyOf({ MultihashReader, decode, readMany }) {
+  return {
+    'a multihash by `readMany`': () => readMany(list).lengths.reduce((sum, size) => sum + size, 0),
+    'a multihash by `decode`': () => {
+      let sum = 0;
+      for (let at = 0; at < list.length; at += 34) sum += decode(list.subarray(at, at + 34)).size;
+      return sum;
+    },
+    'a multihash by `MultihashReader`': async () => {
+      let sum = 0;
+      for await (const { size } of new MultihashReader(chunks())) sum += size;
+      return sum;
+    },
+  };
+}
+
+const many = [ours, plain].map(manyOf);
+for (let turn = 0; turn < TURNS; turn++) {
+  for (const name of Object.keys(many[0])) {
+    for (const [at, calls] of many.entries()) {
+      const start = process.hrtime.bigint();
+      if ((await calls[name]()) !== 32 * COUNT) throw new Error(name);
+      (least[name] ??= [Infinity, Infinity])[at] =
+        Math.min(least[name][at], Number(process.hrtime.bigint() - start) / COUNT);
+    }
+  }
 }
 for (const [name, times] of Object.entries(least)) console.log(name, ...times.map((each) => each.toFixed(1)));
 if (objects === 0) throw new Error('no call returned an object');

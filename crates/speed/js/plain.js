@@ -109,3 +109,45 @@ export function compare(left, right) {
   }
   return 0;
 }
+
+/** The multihashes in the bytes, as columns. */
+export function readMany(bytes) {
+  const [codes, offsets, lengths] = [[], [], []];
+  for (let at = 0; at < bytes.length; ) {
+    const [code, next] = varint(bytes, at);
+    const [length, offset] = varint(bytes, next);
+    if (length > 255) fail('invalid_size', { size: length, taken: offset });
+    if (length > bytes.length - offset) fail('unexpected_eof', { taken: offset });
+    codes.push(BigInt(code));
+    offsets.push(offset);
+    lengths.push(length);
+    at = offset + length;
+  }
+  return { codes: BigUint64Array.from(codes), offsets: Float64Array.from(offsets), lengths: Uint8Array.from(lengths) };
+}
+
+/** Yields each multihash of chunks, whose bytes are copied once. */
+export class MultihashReader {
+  constructor(source) {
+    this.source = source;
+  }
+
+  async *[Symbol.asyncIterator]() {
+    let rest = new Uint8Array();
+    for await (const chunk of this.source) {
+      const bytes = new Uint8Array(rest.length + chunk.length);
+      bytes.set(rest);
+      bytes.set(chunk, rest.length);
+      let at = 0;
+      for (let found; (found = whole(bytes.subarray(at))); at += found.taken) yield found.multihash;
+      rest = bytes.subarray(at);
+    }
+    if (rest.length > 0) read(rest); // throws
+  }
+}
+
+/** The multihash at the start of the bytes, or undefined if more bytes are needed. */
+function whole(bytes) {
+  if (bytes.length < 2 || (bytes[0] < 128 && bytes[1] < 128 && bytes.length < 2 + bytes[1])) return undefined;
+  return read(bytes);
+}

@@ -1,0 +1,116 @@
+// The class Multihash, and how multihashes compare.
+import { checkedLength, isBytes, shown, wrongType } from './arguments.js';
+import { decode, encode, encodedLength, resultOf } from './core.js';
+import { forJSON } from './errors.js';
+import { hex, unhex } from './hex.js';
+import { DIGEST_MAX } from './limits.js';
+
+/** What only this package has, to make a multihash that was checked. */
+export const MAKING = Symbol('making');
+
+/**
+ * A code, which names a hash function, and a digest. The fields are not frozen: that would double the time of `decode`.
+ */
+export class Multihash {
+  #bytes; // once they were asked for
+
+  constructor(making, code, digest) {
+    if (making !== MAKING) throw new TypeError('Multihash.of(code, digest) makes a multihash');
+    this.code = code;
+    this.size = digest.length;
+    this.digest = digest;
+  }
+
+  /** Makes the multihash of a code and a digest, which is copied. */
+  static of(code, digest) {
+    const length = checkedLength(digest, 'digest');
+    if (length > DIGEST_MAX) encodedLength(code, length); // throws, before a copy
+    const copy = new Uint8Array(digest); // once: its memory may grow meanwhile
+    encodedLength(code, copy.length);
+    return new Multihash(MAKING, resultOf(code), copy);
+  }
+
+  /** Decodes a multihash from hexadecimal. */
+  static fromHex(text) {
+    return decode(unhex(text));
+  }
+
+  /** Makes the multihash that `toJSON` was called on, of what it returned. */
+  static fromJSON(json) {
+    if (typeof json !== 'object' || json === null) throw wrongType('json', 'an object', json);
+    const { code, size, digest } = json;
+    const bytes = unhex(digest, 'digest');
+    if (size !== undefined && size !== bytes.length)
+      throw new RangeError(`size must be ${bytes.length}, the length of the digest, got ${shown(size)}`);
+    return Multihash.of(typeof code === 'string' && /^\d+$/.test(code) ? BigInt(code) : code, bytes);
+  }
+
+  /** The encoding, which is made once. */
+  get bytes() {
+    return (this.#bytes ??= encode(this.code, this.digest));
+  }
+
+  /** The digest in hexadecimal. */
+  get digestHex() {
+    return hex(this.digest);
+  }
+
+  /** The encoding in hexadecimal. */
+  toString() {
+    return hex(this.bytes);
+  }
+
+  /** The code, and the digest in hexadecimal, for JSON.stringify. */
+  toJSON() {
+    return { code: forJSON(this.code), size: this.size, digest: this.digestHex };
+  }
+
+  /** The same for console.log in Node.js. */
+  [Symbol.for('nodejs.util.inspect.custom')]() {
+    return `Multihash(0x${this.code.toString(16)}, ${this.digestHex || 'empty'})`;
+  }
+
+  /** Whether the other value has the same code and the same digest. */
+  equals(other) {
+    if (other instanceof Multihash) return order(this, other) === 0;
+    const [left, right, code] = [this.digest, other?.digest, other?.code];
+    if (!isBytes(right)) return false;
+    // a number and a bigint of the same value are the same code
+    if ((typeof code !== 'number' && typeof code !== 'bigint') || code != this.code) return false;
+    const length = checkedLength(left, 'the digest');
+    if (checkedLength(right, 'the other digest') !== length) return false;
+    for (let index = 0; index < length; index++) if (left[index] !== right[index]) return false;
+    return true;
+  }
+
+  /** This multihash, whose code is a number: a RangeError if it is a bigint. */
+  narrow() {
+    if (typeof this.code !== 'number') throw new RangeError(`the code ${this.code} is 2^53 or more, so it is a bigint`);
+    return this;
+  }
+}
+
+/** The digest of a Multihash, whose memory was not moved elsewhere. */
+function digestOf({ digest, size }, name) {
+  if (digest.length !== size) throw new TypeError(`the digest of ${name} is detached or was replaced`);
+  return digest;
+}
+
+/** How two multihashes compare. A call of the library takes several times as long, since it copies both digests. */
+function order(left, right) {
+  const leftDigest = digestOf(left, 'left');
+  const rightDigest = digestOf(right, 'right');
+  if (left.code !== right.code) return left.code < right.code ? -1 : 1;
+  const length = leftDigest.length;
+  if (length !== rightDigest.length) return length < rightDigest.length ? -1 : 1;
+  for (let index = 0; index < length; index++)
+    if (leftDigest[index] !== rightDigest[index]) return leftDigest[index] < rightDigest[index] ? -1 : 1;
+  return 0;
+}
+
+/** Compares by code, then by digest length, then by the first digest byte that differs: -1, 0 or 1. */
+export function compare(left, right) {
+  if (!(left instanceof Multihash)) throw wrongType('left', 'a Multihash', left);
+  if (!(right instanceof Multihash)) throw wrongType('right', 'a Multihash', right);
+  return order(left, right);
+}
