@@ -22,7 +22,7 @@ void *memcpy(void *restrict to, const void *restrict from, size_t length)
     return to;
 }
 END
-flags=(--target=wasm32 -std=c11 -ffreestanding -nostdlib -O2)
+flags=(--target=wasm32 -std=c11 -ffreestanding -nostdlib -O2 -fno-unroll-loops)
 clang "${flags[@]}" -mbulk-memory -c "$work/memcpy.c" -o "$work/memcpy.o"
 clang "${flags[@]}" -I "$c/include" "$c/src/multihash.c" "$work/memcpy.o" -Wl,--no-entry,--strip-debug \
   -Wl,--max-memory=131072 "${exports[@]/#/-Wl,--export=}" -o "$work/library.wasm"
@@ -31,4 +31,9 @@ clang "${flags[@]}" -I "$c/include" "$c/src/multihash.c" "$work/memcpy.o" -Wl,--
 version() { "$1" --version | sed -nE '1s/.* ([0-9.]+).*/\1/p'; }
 printf '// %s\n' "The library for C as JavaScript. Made by tools/generate js from bindings/c/src/multihash.c, by Clang" \
   "$(version clang), LLD $(version wasm-ld) and Binaryen $(version wasm2js)." "@ts-nocheck"
-wasm2js -O "$work/library.wasm"
+wasm2js -O "$work/library.wasm" > "$work/library.js"
+# without what each such file declares and this one does not use, since bundles keep it
+unused=$(sed -nE 's/^ *var (\w+) = .*;$/\1/p' "$work/library.js" | while read -r name; do
+  [ "$(grep -cw "$name" "$work/library.js")" != 1 ] || echo "$name"
+done | paste -sd '|')
+sed -E "/^ *var ($unused) = /d" "$work/library.js"

@@ -5,9 +5,6 @@
   var bufferView;
 
   var scratchBuffer = new ArrayBuffer(16);
-  var i32ScratchView = new Int32Array(scratchBuffer);
-  var f32ScratchView = new Float32Array(scratchBuffer);
-  var f64ScratchView = new Float64Array(scratchBuffer);
   
   function wasm2js_memory_copy(dest, source, size) {
     // TODO: traps on invalid things
@@ -17,26 +14,10 @@
 function asmFunc(env) {
  var buffer = new ArrayBuffer(131072);
  var HEAP8 = new Int8Array(buffer);
- var HEAP16 = new Int16Array(buffer);
  var HEAP32 = new Int32Array(buffer);
  var HEAPU8 = new Uint8Array(buffer);
- var HEAPU16 = new Uint16Array(buffer);
- var HEAPU32 = new Uint32Array(buffer);
- var HEAPF32 = new Float32Array(buffer);
- var HEAPF64 = new Float64Array(buffer);
- var Math_imul = Math.imul;
- var Math_fround = Math.fround;
- var Math_abs = Math.abs;
  var Math_clz32 = Math.clz32;
- var Math_min = Math.min;
- var Math_max = Math.max;
- var Math_floor = Math.floor;
- var Math_ceil = Math.ceil;
- var Math_trunc = Math.trunc;
- var Math_sqrt = Math.sqrt;
  var abort = env.abort;
- var nan = NaN;
- var infinity = Infinity;
  var global$0 = 66560;
  var global$1 = 66560;
  function $0($0_1, $1_1, $2_1) {
@@ -1061,52 +1042,17 @@ function asmFunc(env) {
  }
  
  function $13($0_1, $1_1, $2_1) {
-  var $3_1 = 0, $4_1 = 0, $5_1 = 0, $6_1 = 0, $7 = 0;
+  var $3_1 = 0;
   if (!(($0_1 | $1_1 | $2_1) & 3 | $2_1 >>> 0 > 64)) {
-   label$2 : {
-    if (!$2_1) {
-     break label$2
-    }
-    $3_1 = $2_1 - 1 | 0;
-    $4_1 = ($3_1 >>> 2 | 0) + 1 | 0;
-    $6_1 = $4_1 & 3;
-    $2_1 = 0;
-    if ($3_1 >>> 0 >= 12) {
-     $3_1 = $4_1 & 2147483644;
-     while (1) {
-      $5_1 = $1_1 + $2_1 | 0;
-      $7 = HEAP32[$5_1 + 4 >> 2];
-      $4_1 = $0_1 + $2_1 | 0;
-      HEAP32[$4_1 >> 2] = HEAP32[$5_1 >> 2];
-      HEAP32[$4_1 + 4 >> 2] = $7;
-      $5_1 = $5_1 + 8 | 0;
-      $7 = HEAP32[$5_1 + 4 >> 2];
-      $4_1 = $4_1 + 8 | 0;
-      HEAP32[$4_1 >> 2] = HEAP32[$5_1 >> 2];
-      HEAP32[$4_1 + 4 >> 2] = $7;
-      $2_1 = $2_1 + 16 | 0;
-      $3_1 = $3_1 - 4 | 0;
-      if ($3_1) {
-       continue
-      }
-      break;
-     };
-    }
-    if (!$6_1) {
-     break label$2
-    }
-    $3_1 = $1_1 + $2_1 | 0;
-    $2_1 = $0_1 + $2_1 | 0;
+   if ($2_1) {
     while (1) {
-     HEAP32[$2_1 >> 2] = HEAP32[$3_1 >> 2];
+     HEAP32[$0_1 + $3_1 >> 2] = HEAP32[$1_1 + $3_1 >> 2];
      $3_1 = $3_1 + 4 | 0;
-     $2_1 = $2_1 + 4 | 0;
-     $6_1 = $6_1 - 1 | 0;
-     if ($6_1) {
+     if ($3_1 >>> 0 < $2_1 >>> 0) {
       continue
      }
      break;
-    };
+    }
    }
    return;
   }
