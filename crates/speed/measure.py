@@ -1,18 +1,17 @@
 #!/usr/bin/env python3
-"""Measures this library beside others: docs/SPEED.md has the counts.
+"""Measures this library beside what a user would write: docs/SPEED.md has the counts.
 
-    crates/speed/measure.py                        compares the page's counts of this library with new ones, each of
-                                                   which may differ by 1, or by 2 %. Those of others, as of C by hand,
-                                                   are not compared
-    crates/speed/measure.py --write                writes the tables of the page; the columns of upstream's crate stay
+    crates/speed/measure.py                        compares the page's counts of this library from Rattle and from C with
+                                                   new ones, each of which may differ by 1, or by 2 %
+    crates/speed/measure.py --write [UPSTREAM]     writes the tables of instructions: with the folder of the Rust crate
+                                                   also that of calls from Rust, which needs Cargo
     crates/speed/measure.py --rust UPSTREAM        prints the nanoseconds of comparisons by the package for Rust and by
-                                                   upstream's, which is in this folder
-    crates/speed/measure.py --rust-counts UPSTREAM prints the shares of that package in upstream's instructions
+                                                   the Rust crate
     crates/speed/measure.py --js                   prints the nanoseconds of each call of the package for JavaScript, and
                                                    of plain JavaScript
     crates/speed/measure.py --python [PYTHON]      the same of the package that this interpreter has, and of plain Python
 
-Valgrind counts instructions. `--rust` needs what Cargo depends on: without a network CARGO_HOME as of
+Valgrind counts instructions. Cargo needs what the crates depend on: without a network CARGO_HOME as of
 bindings/rust/offline.sh.
 """
 import os
@@ -32,16 +31,18 @@ import tap
 
 C, PAGE = ROOT / "bindings/c", ROOT / "docs/SPEED.md"
 C_BUILDS = [C / "src/multihash.c", HOME / "from_c/plain.c"]
-# the heads of the tables: this library's counts, and others, before the shares in them
-OTHERS = "| Other call | instructions |"
-RUST = "| Call | instructions | tuned Rust | share | default Rust | share |"
-FROM_C = "| Call from C | this library | plain C | share | archive |"
-CAUSES = "| Call | Cause |"
+# the heads of the tables: the counts of this library, of what a user would write, and the share of the first in it
+RATTLE = "| Call | instructions | Rust crate | share |"
+RUST = "| Call from Rust | instructions | Rust crate | share |"
+FROM_C = "| Call from C | instructions | plain C | share |"
+# what a row of a call from Rust ends with, and the bytes of its code's varint and of its digest
+LENGTHS = {", 20 bytes": "1 20", ", 3-byte code": "3 32", "": "1 32"}
+CALLS_COUNTED = 64  # by rust/package.rs
 FEWER, MORE, JOBS = 1000, 3000, 2
 # the turns of the programs in Rust, and of those that time two libraries
 TURNS, FEW_TURNS = 18, 5
 Counts = dict[str, list[int]]
-# a program over a package, and how it is optimized: by default, or as one module
+# a program over a package
 PACKAGE = """[package]
 name = "package"
 version = "0.0.0"
@@ -51,13 +52,8 @@ name = "package"
 path = "{source}"
 [dependencies]
 multihash = {{ path = "{package}" }}
-[profile.fat]
-inherits = "release"
-lto = "fat"
-codegen-units = 1
 [workspace]
 """
-PROFILES = "release", "fat"
 
 
 def run(words: Iterable[str | Path]) -> str:
@@ -77,12 +73,6 @@ def count(program: str, names: Iterable[str]) -> dict[str, int]:
     names = [*names]
     with ThreadPoolExecutor(JOBS) as pool:
         return dict(zip(names, pool.map(of_call, names)))
-
-
-def make_archive(folder: str) -> Path:
-    """Returns the archive that the kit builds of the proved functions."""
-    run([ROOT / "tools/generate", "archive", f"{folder}/proved.a", "--cpu=x86-64"])
-    return Path(folder, "proved.a")
 
 
 def count_c(builds: list[Path]) -> Counts:
@@ -112,49 +102,45 @@ def print_least(heads: list[str], programs: list[tuple[int, Iterable[str | Path]
         print(f"| {name} | {own:.1f} |", *(f"{other:.1f} | {own / other:.2f} |" for other in others))
 
 
-def compile_package(package: Path, profile: str, work: str) -> Path:
+def compile_package(package: Path, work: str) -> Path:
     """Compiles and returns rust/package.rs over a package, after a build for debugging, which compares the results."""
     manifest = PACKAGE.format(source=HOME / "rust/package.rs", package=package.resolve())
     Path(work, "Cargo.toml").write_text(manifest, "utf-8")
-    for command in ["run", "--target-dir=checked"], ["build", "--target-dir=built", "--profile", profile]:
+    for command in ["run"], ["build", "--release"]:
         subprocess.run(["cargo", "--quiet", "--offline", *command], cwd=work, check=True)
-    return next(Path(work).glob("built/*/package"))
+    return Path(work, "target/release/package")
 
 
-def count_package(package: Path, profile: str) -> dict[tuple[str, str], int]:
+def count_package(package: Path) -> dict[tuple[str, str], int]:
     """Returns the instructions of each call of rust/package.rs, and with which lengths, without the loop around it."""
     found: dict[tuple[str, str], int] = {}
     with tempfile.TemporaryDirectory() as work:
-        program = compile_package(package, profile, work)
+        program = compile_package(package, work)
         run(["valgrind", "--tool=callgrind", f"--callgrind-out-file={work}/out", program])
         for path in sorted(Path(work).glob("out.*"), key=lambda path: int(path.suffix[1:])):
             text = path.read_text("utf-8")
             if name := re.search(r"(?m)^desc: Trigger: Client Request: (.*) (\d \d+)$", text):
                 found[name[1], name[2]] = int(re.findall(r"(?m)^(?:totals|summary): (\d+)$", text)[0])
-    return {(call, of): count - found["nothing", of] for (call, of), count in found.items() if call != "nothing"}
+    return {(call, of): round((count - found["nothing", of]) / CALLS_COUNTED) for (call, of), count in found.items()}
 
 
-def print_shares(upstream: Path) -> None:
-    """Prints a table of each profile: the largest share of the package in upstream's instructions, by the digest."""
-    for profile in PROFILES:
-        theirs = count_package(upstream, profile)
-        shares: dict[str, dict[int, float]] = {}
-        for (call, of), count in count_package(ROOT / "bindings/rust/multihash", profile).items():
-            row, size = shares.setdefault(call, {}), int(of.split()[1])
-            row[size] = max(row.get(size, 0), count / max(theirs[call, of], 1))
-        sizes = sorted({size for row in shares.values() for size in row})
-        print(f"| Profile {profile} |", *(f"{size} bytes |" for size in sizes))
-        print("|---|" + "---:|" * len(sizes))
-        for call, row in shares.items():
-            print(f"| `{call}` |", *(f"{row[size]:.2f} |" if size in row else "|" for size in sizes))
+def count_rust(names: Iterable[str], upstream: Path) -> Counts:
+    """Returns the instructions of each call from Rust: of the package, and of the Rust crate in this folder."""
+    counts = [count_package(package) for package in (ROOT / "bindings/rust/multihash", upstream)]
+
+    def of_row(name: str) -> tuple[str, str]:
+        end = next(end for end in LENGTHS if name.endswith(end))
+        return name.removesuffix(end), LENGTHS[end]
+
+    return {name: [found[of_row(name)] for found in counts] for name in names}
 
 
 def print_rust(upstream: Path) -> None:
-    """Prints the time of each comparison of unlike values: of the package and of upstream's."""
+    """Prints the time of each comparison of unlike values: of the package and of the Rust crate."""
     with tempfile.TemporaryDirectory() as ours, tempfile.TemporaryDirectory() as theirs:
         builds = (ROOT / "bindings/rust/multihash", ours), (upstream, theirs)
-        programs = [compile_package(package, PROFILES[0], work) for package, work in builds]
-        print_least(["the package", "upstream"], [(n, [program, "time"]) for n, program in enumerate(programs)])
+        programs = [compile_package(package, work) for package, work in builds]
+        print_least(["the package", "the Rust crate"], [(n, [program, "time"]) for n, program in enumerate(programs)])
 
 
 def rows_of(page: str, head: str) -> Counts:
@@ -165,12 +151,11 @@ def rows_of(page: str, head: str) -> Counts:
 
 
 def table(head: str, rows: Counts) -> str:
-    """Returns a table: after each count whose column a column `share` follows, the share of the first count in it."""
-    lines = [head, "|---" + (head.count("|") - 2) * "|---:" + "|"]
-    for name, (own, *others) in rows.items():
-        many = head.count("share")
-        shares = [f"{other} | {own / other:.2f}" for other in others[:many]]
-        lines.append(f"| {' | '.join([name, str(own), *shares, *map(str, others[many:])])} |")
+    """Returns a table with the shares. In one row nothing else was counted."""
+    lines = [head, "|---|---:|---:|---:|"]
+    for name, (own, *other) in rows.items():
+        share = f"{other[0]} | {own / other[0]:.2f}" if other else "|"
+        lines.append(f"| {name} | {own} | {share} |")
     return "\n".join([*lines, ""])
 
 
@@ -192,15 +177,11 @@ def differences(found: Counts, stored: Counts) -> str:
 
 
 def text_errors(page: str, names: list[str]) -> Iterator[str]:
-    """Compares the page's rows with those of the program, its shares with its counts, and what has a cause."""
-    counts = rows_of(page, RUST)
-    if [*counts, *rows_of(page, OTHERS)] != names:
+    """Compares the page's rows with those of the program, and its shares with its counts."""
+    if [*rows_of(page, RATTLE)] != names:
         yield "the page has other rows than crates/speed/args"
-    if with_tables(page, {head: rows_of(page, head) for head in (RUST, OTHERS, FROM_C)}) != page:
+    if with_tables(page, {head: rows_of(page, head) for head in (RATTLE, RUST, FROM_C)}) != page:
         yield "its tables are not what --write makes of their counts"
-    dearer = {name for name, (own, tuned, _) in counts.items() if own / tuned > 1.05}
-    if dearer != {name for cell in rows_of(page, CAUSES) for name in re.findall("`(.*?)`", cell)}:
-        yield f"the shares above 1.05 are of {sorted(dearer)}"
 
 
 def results(program: str, names: list[str]) -> Iterator[tap.Result]:
@@ -212,22 +193,20 @@ def results(program: str, names: list[str]) -> Iterator[tap.Result]:
     if gone := tap.missing(["valgrind", "cpu:avx2", f"cc={compiler}", f"ldd={library}"]):
         yield tap.left_out("the calls", gone)
         return
-    stored = {name: counts[:1] for head in (RUST, OTHERS) for name, counts in rows_of(page, head).items()}
-    stored |= {name: counts[:1] for name, counts in rows_of(page, FROM_C).items()}
+    stored = {name: counts[:1] for head in (RATTLE, FROM_C) for name, counts in rows_of(page, head).items()}
     counted = {name: [number] for name, number in count(program, names).items()}
     yield "the calls", differences(counted | count_c(C_BUILDS[:1]), stored)
 
 
-def write(program: str, names: list[str]) -> None:
-    """Writes the tables of the page."""
+def write(program: str, upstream: list[str]) -> None:
+    """Writes the tables of the page. The counts of the Rust crate stay, or are of the crate in this folder."""
     page = PAGE.read_text("utf-8")
-    counted = count(program, names)
-    tables = {
-        head: {name: [counted[name], *counts[1:]] for name, counts in rows_of(page, head).items()}
-        for head in (RUST, OTHERS)
-    }
-    with tempfile.TemporaryDirectory() as folder:
-        tables[FROM_C] = count_c([*C_BUILDS, make_archive(folder)])
+    rattle = rows_of(page, RATTLE)
+    counted = count(program, rattle)
+    tables = {RATTLE: {name: [counted[name], *other] for name, (_, *other) in rattle.items()}}
+    tables[FROM_C] = count_c(C_BUILDS)
+    if upstream:
+        tables[RUST] = count_rust(rows_of(page, RUST), Path(upstream[0]))
     PAGE.write_text(with_tables(page, tables), "utf-8")
 
 
@@ -236,12 +215,10 @@ def main() -> int:
     match sys.argv[1:]:
         case []:
             return tap.report(results(tap.program("speed"), names))
-        case ["--write"]:
-            write(tap.program("speed"), names)
+        case ["--write", *upstream] if len(upstream) < 2:
+            write(tap.program("speed"), upstream)
         case ["--rust", upstream]:
             print_rust(Path(upstream))
-        case ["--rust-counts", upstream]:
-            print_shares(Path(upstream))
         case ["--js"]:
             print_least(["the package", "plain JavaScript"], [(0, ["node", HOME / "js/calls.js"])], FEW_TURNS)
         case ["--python", *python]:

@@ -7,8 +7,9 @@
 #include <stdlib.h>
 #include <string.h>
 
-static uint64_t code = 18;
-static uint8_t digest[64], short_bytes[34], long_bytes[75], out[MULTIHASH_LENGTH_MAX];
+static uint64_t code = 18, blake = 0xb220;
+/* encodings with codes of 1, 3 and 9 bytes */
+static uint8_t digest[64], short_bytes[34], blake_bytes[36], long_bytes[75], out[MULTIHASH_LENGTH_MAX];
 
 /* The same pointer; the compiler does not know what it points to. */
 static void *hidden(void *pointer)
@@ -27,6 +28,11 @@ static uint64_t from_bytes_34(void)
     return count_of(multihash_from_bytes((uint8_t *)hidden(short_bytes), 34));
 }
 
+static uint64_t from_bytes_3_byte_code(void)
+{
+    return count_of(multihash_from_bytes((uint8_t *)hidden(blake_bytes), 36));
+}
+
 static uint64_t from_bytes_long_code(void)
 {
     return count_of(multihash_from_bytes((uint8_t *)hidden(long_bytes), 74));
@@ -35,6 +41,11 @@ static uint64_t from_bytes_long_code(void)
 static uint64_t read_34(void)
 {
     return count_of(multihash_read((uint8_t *)hidden(short_bytes), 34));
+}
+
+static uint64_t read_3_byte_code(void)
+{
+    return count_of(multihash_read((uint8_t *)hidden(blake_bytes), 36));
 }
 
 static uint64_t read_long_code(void)
@@ -46,6 +57,29 @@ static uint64_t head_34(void)
 {
     multihash_front found = multihash_head((uint8_t *)hidden(short_bytes), 34);
     return found.status + found.code + found.taken;
+}
+
+static uint64_t head_3_byte_code(void)
+{
+    multihash_front found = multihash_head((uint8_t *)hidden(blake_bytes), 36);
+    return found.status + found.code + found.taken;
+}
+
+static uint64_t read_varint_1(void)
+{
+    multihash_varint found = multihash_read_varint((uint8_t *)hidden(short_bytes), 34);
+    return found.status + found.value + found.length;
+}
+
+static uint64_t read_varint_3(void)
+{
+    multihash_varint found = multihash_read_varint((uint8_t *)hidden(blake_bytes), 36);
+    return found.status + found.value + found.length;
+}
+
+static uint64_t write_varint_3(void)
+{
+    return multihash_write_varint(*(uint64_t *)hidden(&blake), (uint8_t *)hidden(out), sizeof out).length;
 }
 
 static uint64_t scale_decode_32(void)
@@ -87,10 +121,16 @@ static const struct {
     uint64_t result;
 } operations[] = {
     {"from_bytes_34", from_bytes_34, 18 + 34},
+    {"from_bytes_3_byte_code", from_bytes_3_byte_code, 0xb220 + 36},
     {"from_bytes_long_code", from_bytes_long_code, (uint64_t)INT64_MAX + 74},
     {"read_34", read_34, 18 + 34},
+    {"read_3_byte_code", read_3_byte_code, 0xb220 + 36},
     {"read_long_code", read_long_code, (uint64_t)INT64_MAX + 74},
     {"head_34", head_34, 18 + 2},
+    {"head_3_byte_code", head_3_byte_code, 0xb220 + 4},
+    {"read_varint_1", read_varint_1, 18 + 1},
+    {"read_varint_3", read_varint_3, 0xb220 + 3},
+    {"write_varint_3", write_varint_3, 3},
     {"encoded_len_32", encoded_len_32, 34},
     {"encode_32", encode_32, 34},
     {"compare_8", compare_8, 0},
@@ -106,6 +146,7 @@ static void fill(void)
 {
     memset(digest, 9, sizeof digest);
     multihash_encode(18, digest, 32, short_bytes, sizeof short_bytes);
+    multihash_encode(blake, digest, 32, blake_bytes, sizeof blake_bytes);
     multihash_encode(INT64_MAX, digest, 64, long_bytes, sizeof long_bytes);
     multihash_scale_encode(18, digest, 32, out, sizeof out);
 }

@@ -144,6 +144,18 @@ multihash_decoded multihash_scale_decode(const uint8_t *bytes, size_t length)
     return found;
 }
 
+multihash_varint multihash_read_varint(const uint8_t *bytes, size_t length)
+{
+    multihash_varint found = {0};
+    uint64_t value;
+    size_t taken;
+    found.status = read_varint(bytes, length, &value, &taken);
+    if (found.status != MULTIHASH_OK) return found;
+    found.value = value;
+    found.length = taken;
+    return found;
+}
+
 static size_t varint_length(uint64_t number)
 {
     size_t length = 1;
@@ -156,6 +168,22 @@ static uint8_t *put_varint(uint8_t *to, uint64_t number)
     for (; number >= 0x80; number >>= 7) *to++ = (uint8_t)(number | 0x80);
     *to++ = (uint8_t)number;
     return to;
+}
+
+multihash_encoded multihash_write_varint(uint64_t value, uint8_t *out, size_t out_length)
+{
+    multihash_encoded result = {0};
+    if (value > INT64_MAX) {
+        result.status = MULTIHASH_OVERFLOW;
+        return result;
+    }
+    result.length = varint_length(value);
+    if (result.length > out_length) {
+        result.status = MULTIHASH_NO_ROOM;
+    } else {
+        put_varint(out, value);
+    }
+    return result;
 }
 
 static inline multihash_status check_pair(uint64_t code, size_t length, multihash_encoded *result)
