@@ -184,7 +184,7 @@ static PyObject *read_varint(PyObject *module, GIVEN)
 static size_t read_items(const uint8_t *bytes, size_t length, PyObject *items)
 {
     size_t count = 0, taken = 0;
-    for (size_t capacity = length / 32 + 1;; capacity *= 2) {
+    for (size_t capacity = length < 1 << 25 ? length / 32 + 1 : 1 << 20;; capacity *= 2) {
         if (PyByteArray_Resize(items, (Py_ssize_t)(capacity * sizeof(multihash_item))) < 0) return 0;
         multihash_item *to = (multihash_item *)(void *)PyByteArray_AsString(items) + count;
         multihash_batch part = multihash_read_many(bytes + taken, length - taken, to, capacity - count);

@@ -196,7 +196,8 @@ static PyObject *reader_next(PyObject *self, PyObject *unused)
     return begun < 0 || kept < 0 ? NULL : take_multihash(reader);
 }
 
-/* The steps of `reader_next`, for a call of the file that is awaited: to begin, end or fail, and the result. */
+/* The steps of `reader_next`, for a call of the file that is awaited: to begin one, to end it and begin the next one, or
+ * to fail, and the result. The first two return the number of bytes that are wanted, or 0 if the result is known. */
 static PyObject *reader_begin(PyObject *self, PyObject *unused)
 {
     int begun = begin((reader_object *)self);
@@ -207,7 +208,7 @@ static PyObject *reader_begin(PyObject *self, PyObject *unused)
 static PyObject *reader_end(PyObject *self, PyObject *chunk)
 {
     int kept = end((reader_object *)self, chunk);
-    return kept < 0 ? NULL : PyBool_FromLong(kept);
+    return kept > 0 ? reader_begin(self, NULL) : kept < 0 ? NULL : PyLong_FromLong(0);
 }
 
 static PyObject *reader_fail(PyObject *self, PyObject *error)

@@ -190,7 +190,8 @@ class AsyncMultihashReader(_core.Reader):
 
     async def read(self) -> Optional[Multihash]:
         """Returns the next multihash, or None at the end of the stream."""
-        while wanted := self._begin():
+        wanted = self._begin()
+        while wanted:
             try:
                 called = self._read(wanted)
                 if isinstance(called, bytes):
@@ -199,8 +200,7 @@ class AsyncMultihashReader(_core.Reader):
             except BaseException as error:
                 self._fail(error)
                 raise
-            if not self._end(chunk):
-                break
+            wanted = self._end(chunk)
         return self._take()
 
     def __aiter__(self) -> AsyncIterator[Multihash]:
