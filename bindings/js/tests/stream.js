@@ -248,6 +248,32 @@ async function many(module, encoding) {
   if (start) same(process.cpuUsage(start).user < 60e6, true, 'the time of a chunk');
 }
 
+/** A loop is what an async generator is: it goes on where it was, and ends at `return` and `throw`, for good. */
+async function loops(module, stream, wanted) {
+  const hexOf = ({ done, value }) => `${done} ${value && hex(value.bytes)}`;
+  const first = wanted.slice(0, 68);
+  for (const [name, argument, ending] of [['return', 7, 'true 7'], ['throw', new Error('left'), 'Error: left']]) {
+    let isCancelled = false;
+    const source = new ReadableStream({ start: (each) => each.enqueue(stream), cancel: () => void (isCancelled = true) });
+    const reader = new module.MultihashReader(source);
+    const loop = reader[Symbol.asyncIterator]();
+    same(loop[Symbol.asyncIterator](), loop, 'a loop of a loop');
+    same(hexOf(await loop.next()), `false ${first}`, 'the first one');
+    const end = loop[name](argument).then(({ done, value }) => `${done} ${value}`, String);
+    same(`${await end} ${isCancelled} ${source.locked}`, `${ending} true false`, `a loop at ${name}`);
+    for (const call of [loop.next(), loop.next()]) same(hexOf(await call), 'true undefined', 'after the end');
+    same(await reader.read(), null, 'the reader after a loop');
+  }
+  const unread = new module.MultihashReader(chunks(stream))[Symbol.asyncIterator]();
+  const calls = await Promise.all([unread.next(), unread.next(), unread.next(), unread.next(), unread.next()]);
+  same(`${calls.map((each) => hexOf(each))}`, `${wanted.split(',').map((each) => `false ${each}`)},true undefined,true undefined`,
+    'calls that overlap');
+  const waiting = new module.MultihashReader(new ReadableStream())[Symbol.asyncIterator]();
+  const next = waiting.next();
+  await waiting.return();
+  same(hexOf(await next), 'true undefined', 'a call that waits');
+}
+
 async function overlappingCalls(module, stream, wanted) {
   const hexOf = (found) => `${found.map((multihash) => multihash && hex(multihash.bytes))}`;
   const reader = new module.MultihashReader(chunks(stream));
@@ -267,7 +293,7 @@ export async function streams(module) {
   const wanted = `${encodings.map(hex)}`;
   for (let cut = 0; cut <= stream.length; cut++) await cutAt(module, stream, cut, wanted);
   for (const check of [endedSources, malformedStream, leftLoops, givenUp, failingCancellations, wrongSources,
-    overlappingCalls])
+    loops, overlappingCalls])
     await check(module, stream, wanted);
   const pull = (bytes) => async (controller) => {
     const { done, value } = await bytes.next();
