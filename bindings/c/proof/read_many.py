@@ -14,13 +14,14 @@ from definitions import OK, Case, first, read
 from function import Check, outside
 from machine import Machine
 from memory import Frame, State, is_valid, rewritten
-from values import Refused, Value, simple, vector, widened
+from values import Refused, Value, names, simple, vector, widened
 
 Place = tuple[str, int]
-# Items: codes of one to nine bytes, and digests of 3, 32 and 136 bytes.
+Form = tuple[int, int, Value]  # factors of what is written and consumed, and the rest
+# Items, every second one with a code of one byte, the others with one of two to nine.
 ITEMS = [
-    [130] * more + [5, *size] + [0] * count
-    for more, (size, count) in product(range(9), (([3], 3), ([32], 32), ([32], 32), ([136, 1], 136)))
+    [130] * (i % 2 * (i + 1) // 2) + [5 + i] + ([size] if size < 128 else [size, 1]) + [0] * size
+    for i, size in ((i, size) for i in range(17) for size in (3 + i, 32, 32, 130 + i))
 ]
 ITEM = 16
 
@@ -38,7 +39,7 @@ class ReadMany(Check):
         self.whole = {name: (symbols[name], symbols[name] + behind[name]) for name in behind}
         # at each loop: the states with what is written and consumed there, and with what is left
         self.arrivals: dict[int, list[tuple[int, int, int, int, State]]] = {}
-        self.forms: dict[int, dict[Place, tuple[int, int, Value]]] = {}
+        self.forms: dict[int, dict[Place, Form]] = {}
         self.idle: dict[int | None, set[int]] = {}  # the loops that a loop may come to with nothing written
 
     def machine(self) -> Machine:
@@ -54,8 +55,12 @@ class ReadMany(Check):
         self.trace(len(ITEMS) + 1)
         for loop, arrivals in self.arrivals.items():
             self.forms[loop] = self.fit([(count, taken, self.values(state)) for count, taken, _, _, state in arrivals])
-        for turn in [None, *self.forms]:
-            self.turn(turn)
+        doubtful = True
+        while doubtful:
+            before = sum(map(len, self.forms.values()))
+            for turn in [None, *self.forms]:
+                self.turn(turn)
+            doubtful = sum(map(len, self.forms.values())) < before
         try:
             TopologicalSorter(self.idle).prepare()
         except CycleError as cycle:
@@ -91,8 +96,8 @@ class ReadMany(Check):
             found |= {(name, i): x for i, x in enumerate(numbers)}
         return found
 
-    def fit(self, seen: list[tuple[int, int, dict[Place, Value]]]) -> dict[Place, tuple[int, int, Value]]:
-        """The places that depend linearly on what is written and consumed: the factors, and the rest."""
+    def fit(self, seen: list[tuple[int, int, dict[Place, Value]]]) -> dict[Place, Form]:
+        """The places that depend linearly on what is written and consumed."""
         form = {}
         for place in set.intersection(*(set(values) for _, _, values in seen)):
             for p, q in product((0, 1, -1, ITEM, -ITEM), (0, 1, -1)):
@@ -101,10 +106,17 @@ class ReadMany(Check):
                     x = values[place]
                     width = self.word if isinstance(x, int) else x.size()
                     rests.append(z3.simplify(vector(x, width) - p * count - q * taken))
+                if any("[" in name for name in names(rests[0])):  # of what the stack had at the start
+                    break
                 if all(rest.eq(rests[0]) for rest in rests) and (rests[0].size() == self.word or p == q == 0):
                     form[place] = p, q, simple(rests[0])
                     break
         return form
+
+    def place(self, form: Form, whole: dict[str, tuple[Any, Any]], count: Value, taken: Value) -> Value:
+        """What a place has by its form."""
+        p, q, rest = form
+        return simple(rewritten(rest, whole) + p * count + q * taken) if p or q else rewritten(rest, whole)
 
     def ahead(self, loop: int, *left: Any) -> list[Any]:
         """That something is left of `out` and of the input, if it always is at a loop."""
@@ -117,10 +129,7 @@ class ReadMany(Check):
         for place, x in self.values(before).items():
             values[place] = z3.BitVec(f"old {place}", self.word if isinstance(x, int) else x.size())
             if place in self.forms[loop]:
-                p, q, rest = self.forms[loop][place]
-                values[place] = rest
-                if p or q or not isinstance(rest, int):
-                    values[place] = simple(rewritten(rest, self.whole) + p * self.count + q * self.taken)
+                values[place] = self.place(self.forms[loop][place], self.whole, self.count, self.taken)
         old = before.frames[0]
         local, stack = (
             [values[n, i] for i in range(len(x))] for n, x in (("local", old.local), ("operand", old.stack))
@@ -146,11 +155,19 @@ class ReadMany(Check):
         else:
             state = self.state(machine, loop, case)
         for end in machine.explore(state):
-            machine.refuse("read_many is wrong", z3.Or(self.wrong(machine, loop, end)))
+            if end.frames and end.frames[0].at not in self.forms:
+                raise Refused("read_many has a loop that the run of known items did not reach")
+            wrong, count, taken = self.wrong(machine, loop, end)
+            doubts = self.doubts(machine, loop, end, count, taken) if end.frames else {}
+            while machine.sat(z3.Or(wrong + list(doubts.values()))):
+                model = machine.solver.model()
+                machine.refuse("read_many is wrong", z3.Or(wrong))
+                for place in [place for place, doubt in doubts.items() if z3.is_true(model.eval(doubt, True))]:
+                    del doubts[place], self.forms[end.frames[0].at][place]
         self.paths, self.queries = self.paths + machine.paths, self.queries + machine.queries
 
-    def wrong(self, machine: Machine, loop: int | None, end: State) -> list[Any]:
-        """The conditions under which a turn is wrong that ends so."""
+    def wrong(self, machine: Machine, loop: int | None, end: State) -> tuple[list[Any], Value, Value]:
+        """The conditions under which a turn is wrong that ends so, and what is written and consumed then."""
         count, taken = (0, 0) if loop is None else (self.count, self.taken)
         written = {offset + i for offset, size, _ in end.writes for i in range(size)}
         result = end.case.result
@@ -163,24 +180,24 @@ class ReadMany(Check):
             item = {**result, "digest_offset": widened(taken) + result["digest_offset"]}
             wrong += self.differs(machine, end, "out", self.header.fields["multihash_item"], item)
             count, taken, room, length = count + 1, taken + moved, room - 1, length - moved
-        elif not end.frames and result and status == OK:
-            machine.refuse("read_many leaves out an item")
-        if not end.frames:
-            wrong += [z3.And(room != 0, length != 0)] if status == OK else []
-            batch = {"status": status, "size": result.get("size", 0), "count": count, "taken": taken}
-            return wrong + self.different(machine, end, batch)
-        if not written:
+        elif end.frames:
             self.idle.setdefault(loop, set()).add(end.frames[0].at)
-        place = end.frames[0].at
-        if place not in self.forms or end.pointer != self.arrivals[place][0][4].pointer:
-            raise Refused("read_many has a loop that the run of known items did not reach")
-        wrong += [z3.Not(x) for x in self.ahead(place, room, length)]
-        values = self.values(end)
-        for (kind, i), (p, q, rest) in self.forms[place].items():
+        elif result and status == OK:
+            machine.refuse("read_many leaves out an item")
+        if end.frames:
+            return wrong + [z3.Not(x) for x in self.ahead(end.frames[0].at, room, length)], count, taken
+        wrong += [z3.And(room != 0, length != 0)] if status == OK else []
+        batch = {"status": status, "size": result.get("size", 0), "count": count, "taken": taken}
+        return wrong + self.different(machine, end, batch), count, taken
+
+    def doubts(self, machine: Machine, loop: int | None, end: State, count: Value, taken: Value) -> dict[Place, Any]:
+        """The conditions under which a state at a loop is not of its form, for each place."""
+        at, values, doubts = end.frames[0].at, self.values(end), {}
+        if end.pointer != self.arrivals[at][0][4].pointer:
+            raise Refused("read_many has another stack pointer at a loop")
+        for (kind, i), (p, q, rest) in self.forms[at].items():
             x = machine.number(end, "", i, self.word // 8) if kind == "word" else values[kind, i]
-            wanted = rest
-            if p or q or not isinstance(rest, int):
-                wanted = simple((rest if loop is None else rewritten(rest, self.whole)) + p * count + q * taken)
-            width = x.size() if not isinstance(x, int) else wanted.size() if not isinstance(wanted, int) else self.word
-            wrong.append(vector(x, width) != vector(wanted, width))
-        return wrong
+            wanted = self.place((p, q, rest), {} if loop is None else self.whole, count, taken)
+            width = x.size() if not isinstance(x, int) else wanted.size() if not isinstance(wanted, int) else 64
+            doubts[kind, i] = vector(x, width) != vector(wanted, width)
+        return doubts
