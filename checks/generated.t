@@ -19,7 +19,7 @@ beside_archive() {
     "${calls[@]}"
 }
 
-for what in c rust contracts vectors tables; do try "tools/generate $what" tools/generate "$what" --check; done
+for what in c rust contracts vectors tables chart; do try "tools/generate $what" tools/generate "$what" --check; done
 try "the version that files state" tools/version.py --check
 needs="clang=$clang wasm-ld=$lld wasm2js=$binaryen" try "tools/generate js" tools/generate js --check
 needs="rt cc objcopy /lib64/ld-linux-x86-64.so.2" try "beside the C source" beside_archive

@@ -9,16 +9,16 @@ from pathlib import Path
 from xml.sax.saxutils import escape
 
 PAGE = Path(__file__).resolve().parents[2] / "docs/SPEED.md"
-# a row of the chart: its language, what it is compared with, and the first cell of its table
+# a row of the chart: its language, what it is compared with, and the heading over its table
 ROWS = (
-    ("C", "plain C", "Call from C"),
-    ("Rust", "the crate multihash", "Call from Rust"),
-    ("Rattle", "the crate multihash", "Call"),
-    ("JavaScript", "plain JavaScript", "Call from JavaScript"),
-    ("Python", "plain Python", "Call from Python"),
+    ("C", "plain C", "From C"),
+    ("Rust", "the Rust crate", "From Rust"),
+    ("Rattle", "the Rust crate", "From Rattle"),
+    ("JavaScript", "plain JavaScript", "The package for JavaScript"),
+    ("Python", "plain Python", "The package for Python"),
 )
 LEFT, WIDTH, HEIGHT, TOP = 200, 560, 58, 64
-LEAST, MOST = 1 / 8, 8.0
+LEAST, MOST = 1 / 32, 8.0
 STYLE = """text { font: 14px sans-serif; fill: #24292f } .small { font-size: 12px; fill: #57606a }
 line { stroke: #8c959f; stroke-width: 1 } .one { stroke-width: 2 }
 circle { fill: #0969da; fill-opacity: .55 } .more { fill: #bc4c00 }
@@ -27,15 +27,11 @@ circle { fill: #0969da; fill-opacity: .55 } .more { fill: #bc4c00 }
 }"""
 
 
-def shares(page: str, first: str) -> list[tuple[str, float]]:
-    """Returns the calls of the tables that begin with a cell, each with its share."""
-    found = []
-    for head, body in re.findall(rf"^\| {first} \|(.*)\n\|[-:|]+\n((?:\|.*\n)+)", page, re.M):
-        names = [cell.strip() for cell in head.split("|")]
-        for row in body.splitlines() if "share" in names else ():
-            call, *cells = [cell.strip(" `") for cell in row.strip("|").split("|")]
-            found.append((call, float(cells[names.index("share")])))
-    return found
+def shares(page: str, heading: str) -> list[tuple[str, float]]:
+    """Returns the calls of the first table with shares below a heading, each with its share."""
+    found = re.search(rf"^## {heading}\n(?:(?!## ).*\n)*?\|.*\| share \|\n\|[-:|]+\n((?:\|.*\n)+)", page, re.M)
+    rows = [[cell.strip(" `") for cell in row.strip("|").split("|")] for row in found[1].splitlines()] if found else []
+    return [(row[0], float(row[-1])) for row in rows if row[-1]]
 
 
 def place(share: float) -> float:
@@ -63,14 +59,14 @@ def row(number: int, language: str, other: str, calls: list[tuple[str, float]]) 
 
 
 def chart(page: str) -> str:
-    rows = [(language, other, found) for language, other, first in ROWS if (found := shares(page, first))]
+    rows = [(language, other, found) for language, other, heading in ROWS if (found := shares(page, heading))]
     bottom = TOP + HEIGHT * len(rows)
     lines = [f'<svg xmlns="http://www.w3.org/2000/svg" viewBox="0 0 {LEFT + WIDTH + 24} {bottom + 12}" role="img">']
     lines += ["<title>Cost of each call, as a share of what a user would write</title>", f"<style>{STYLE}</style>"]
     for power in range(round(math.log2(LEAST)), round(math.log2(MOST)) + 1):
         x, name = place(2.0**power), "" if power else ' class="one"'
         lines.append(f'<line x1="{x:.0f}" x2="{x:.0f}" y1="{TOP - 8}" y2="{bottom}"{name}/>')
-        lines.append(text(x, TOP - 16, f"{2.0 ** power:g}", "middle", small=True))
+        lines.append(text(x, TOP - 16, f"1/{2 ** -power}" if power < 0 else f"{2 ** power}", "middle", small=True))
     lines += [text(place(0.98), 20, "faster", "end"), text(place(1.03), 20, "slower")]
     for number, (language, other, calls) in enumerate(rows):
         lines += row(number, language, other, calls)
