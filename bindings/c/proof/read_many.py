@@ -74,7 +74,10 @@ class ReadMany(Check):
         state = machine.start("multihash_read_many", self.arguments, Case())
         state.cells |= {("bytes", i): byte for i, byte in enumerate(data)}
         while True:
-            ends = list(machine.explore(state))
+            ends = []
+            for end in machine.explore(state):
+                machine.refuse("read_many is wrong, with known items,", z3.Or(outside(machine, end)))
+                ends.append(end)
             if len(ends) != 1:
                 raise Refused("read_many branches on known items")
             if not ends[0].frames:
