@@ -294,8 +294,9 @@ MH_INLINE uint64_t mh_join_digits(uint64_t half)
     return (fours & UINT64_C(0xffffffff)) + ((fours >> 32) << 28);
 }
 
-/* Does what `mh_read_word` does, if all bytes of the low half are continuation bytes. */
-MH_INLINE mh_varint_or_error_at mh_read_high(mh_u128 word, size_t present)
+/* Does what `mh_read_word` does, if all bytes of the low half are continuation bytes. That is rare, so it is out of
+ * line. */
+MH_NOT_INLINE mh_varint_or_error_at mh_read_high(mh_u128 word, size_t present)
 {
     const uint64_t low = word.low;
     const uint64_t last = word.high & 0xff;

@@ -64,8 +64,9 @@ fn read_word(word: u128, present: usize) -> Result<(u64, usize), (Error, usize)>
     Ok((join_digits(varint), continuation_bytes + 1))
 }
 
-// Does what `read_word` does, if all bytes of the low half are continuation bytes.
-#[inline(always)]
+// Does what `read_word` does, if all bytes of the low half are continuation bytes. That is rare, so it is out of
+// line.
+#[inline(never)]
 fn read_high(word: u128, present: usize) -> Result<(u64, usize), (Error, usize)> {
     let low = (word & 0xffff_ffff_ffff_ffff) as u64;
     let last = (word >> 64) as u64 & 0xff;
