@@ -108,7 +108,7 @@ fn print_faults_of(page: &mut Page, call: Call, (reads, writes): (&str, &str), i
     page.put(reads);
     page.put("::<4> of ");
     page.put_bytes(input);
-    page.heading(", over readers that fail once");
+    page.heading(", over readers that fail once, and over readers that do not");
     print_reads(page, call, input);
     page.put(writes);
     page.put(" of ");
