@@ -63,31 +63,32 @@ pub fn verdict<const S: usize>(bytes: &[u8]) -> Result<Multihash<S>, Error>
 /// Reads the multihash that comes next in a reader. `read` stops at the byte that decides the result. The
 /// clauses say what was read and what is left if the reader's input is known (`rest`), as it is for a slice.
 pub fn read_verdict<const S: usize, R: Read>(r: &mut R) -> Result<Multihash<S>, Error>
-    // Either the reader failed and its error is the result; or it did not fail, the grammar assigns
-    // exactly one verdict to the rest, and that is the result.
+    // Either the reader failed, and the result is an error that a reader itself returns; or it did not fail,
+    // the grammar assigns exactly one verdict to the rest, and that is the result.
     ensures one { ((R.failures r.old < R.failures r.new) × IsErrAnd result IsOwnError)
         ⊎ ((R.failures r.new ≡ R.failures r.old) × IfSome (R.rest r.old)
         (λ rest. (one : ExactlyOne (HasVerdict S rest)) × (verdict_of result ≡ Some one.value))) }
 
-    // The result is a pair exactly if an encoding of it that fits is at the front of the rest.
+    // If the reader did not fail, the result is a pair exactly if an encoding of it that fits is at the front
+    // of the rest.
     ensures canonical { IfSome (R.rest r.old) (λ rest. R.failures r.new ≡ R.failures r.old →
         (p : Pair) → ((left : List ℕ) × BeginsWith p rest left × FitsBuffer S p)
         ↔ IsOkAnd result (λ m. pair_of m ≡ p)) }
 
-    // If the rest is not truncated, it has exactly one shortest prefix that settles the verdict, and exactly
-    // that was consumed.
+    // If it did not fail, and the rest is not truncated, then the rest has exactly one shortest prefix that
+    // settles the verdict, and exactly that was consumed.
     ensures settled { IfSome (R.rest r.old) (λ rest. R.failures r.new ≡ R.failures r.old →
         (v : Verdict) → HasVerdict S rest v → v ≢ malformed insufficient → v ≢ unexpected_eof →
         (front : ExactlyOne (IsShortestSettling S rest)) × ((left : List ℕ)
         × (R.rest r.new ≡ Some left) × (rest ≡ front.value ++ left))) }
 
-    // If it is truncated, or the reader failed, no prefix of what was consumed settles a verdict.
+    // If the rest is truncated, or the reader failed, no prefix of what was consumed settles a verdict.
     ensures unsettled { IfSome (R.rest r.old) (λ rest. (R.failures r.old < R.failures r.new)
         ⊎ HasVerdict S rest (malformed insufficient) ⊎ HasVerdict S rest unexpected_eof →
         (consumed left : List ℕ) × (R.rest r.new ≡ Some left) × (rest ≡ consumed ++ left)
         × ((front : List ℕ) → IsPrefix front consumed → ¬ (Settles S front))) }
 
-    // If it is truncated, no prefix of it settles a verdict, whatever was consumed.
+    // If the rest is truncated, no prefix of it settles a verdict, whatever was consumed.
     ensures truncated { IfSome (R.rest r.old) (λ rest. HasVerdict S rest (malformed insufficient)
         ⊎ HasVerdict S rest unexpected_eof →
         (front : List ℕ) → IsPrefix front rest → ¬ (Settles S front)) }
@@ -120,7 +121,7 @@ pub fn same<const A: usize, const B: usize>(a: &Multihash<A>, b: &Multihash<B>) 
 }
 
 /// Writes a list to any writer, and reads it back from any reader, into values of the same capacity or of
-/// another. What was written is read back, if the digest fits.
+/// another. What was written is read back, if the reader's input is that and the digests fit.
 pub fn list_through<const S: usize, const T: usize, W: Write, R: Read>(
     alloc: Global,
     items: &[Multihash<S>],
