@@ -29,7 +29,7 @@ const items = output + 272;
 const ITEMS = 1024;
 const block = items + 16 * ITEMS;
 const BLOCK = 32768;
-const itemWords = new Uint32Array(memory.buffer, items, 4 * ITEMS);
+const itemWords = new Int32Array(memory.buffer, items, 4 * ITEMS);
 
 // Views of the memory by address and length: to make one is as slow as to copy from it.
 const views = [];
@@ -67,8 +67,8 @@ function putFew(decoder, bytes) {
 
 /** A number of 64 bits in the result, or in other words: a bigint only where a number would not be exact. */
 function wide(at, from = words) {
-  const low = from[at];
-  const high = from[at + 1];
+  const low = from[at] >>> 0;
+  const high = from[at + 1] >>> 0;
   if (high === 0) return low;
   return high < 0x200000 ? high * 0x100000000 + low : (BigInt(high) << 32n) | BigInt(low);
 }
@@ -160,13 +160,27 @@ export function scaleDecode(bytes) {
 
 /**
  * Decodes multihashes one after the other, of at most a block of the bytes from an index on: none if the first of them is
- * malformed or truncated. Returns four words of each: those of `multihash_item`, with offsets from that index on.
+ * malformed or truncated. Returns their number.
  */
-export function itemsAt(bytes, at, length) {
+export function decodeBlock(bytes, at, length) {
   const size = Math.min(length - at, BLOCK);
   memory.set(viewOf(bytes, at, size), block);
   library.multihash_read_many(result, block, size, items, ITEMS);
-  return itemWords.slice(0, 4 * words[4]);
+  return words[4];
+}
+
+/** The same. Returns four words of each: those of `multihash_item`, with offsets from that index on. */
+export const itemsAt = (bytes, at, length) => itemWords.slice(0, 4 * decodeBlock(bytes, at, length));
+
+/** Writes `found` multihashes of the block, which starts at that index of the input, to columns, from one of theirs on. */
+export function putItems(found, at, { codes, offsets, lengths }, index) {
+  const halves = new Int32Array(codes.buffer);
+  for (let item = 0, to = index; item < 4 * found; item += 4, to++) {
+    halves[2 * to] = itemWords[item];
+    halves[2 * to + 1] = itemWords[item + 1];
+    offsets[to] = at + itemWords[item + 2];
+    lengths[to] = itemWords[item + 3];
+  }
 }
 
 /** The multihash of an item that `itemsAt` found from that index of a plain Uint8Array on. */

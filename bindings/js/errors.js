@@ -27,7 +27,7 @@ export class MultihashError extends Error {
     return ALL.includes(cause?.status) ? new MultihashError(value.message, cause) : undefined;
   }
 
-  /** Whether the input is truncated. In `read`, `head` and `scaleDecode` only then can more input change the result. */
+  /** Whether the input is truncated. But for `decode`, only then can more input change the result. */
   get isIncomplete() {
     return INCOMPLETE.includes(this.status);
   }

@@ -1,35 +1,30 @@
 // Many multihashes at once.
 import { checkedLength } from './arguments.js';
-import { errorOfBlock, itemsAt } from './core.js';
+import { decodeBlock, errorOfBlock, putItems } from './core.js';
+
+// The columns have room for as many encodings of this length as fit, at first for at most so many.
+const USUAL = 34;
+const MOST = 2 ** 20;
+
+/** Columns, with those codes, offsets and lengths of others that are there. */
+function columnsOf(capacity, others = {}) {
+  const codes = new BigUint64Array(capacity);
+  const columns = { codes, offsets: new Float64Array(capacity), lengths: new Uint8Array(capacity) };
+  for (const [name, column] of Object.entries(others)) columns[name].set(column.subarray(0, capacity));
+  return columns;
+}
 
 /** Decodes the multihashes at the start of the bytes, one after the other, into columns. */
 export function readMany(bytes) {
   const length = checkedLength(bytes, 'bytes');
-  const blocks = [];
+  let columns = columnsOf(Math.min(Math.ceil(length / USUAL), MOST));
   let [taken, count] = [0, 0];
-  for (let found; taken < length && (found = itemsAt(bytes, taken, length)).length > 0; ) {
-    blocks.push([taken, found]);
-    count += found.length / 4;
-    taken += found[found.length - 2] + found[found.length - 1]; // the last digest ends there
+  for (let found; taken < length && (found = decodeBlock(bytes, taken, length)) > 0; count += found) {
+    if (count + found > columns.lengths.length) columns = columnsOf(2 * (count + found), columns);
+    putItems(found, taken, columns, count);
+    const last = count + found - 1;
+    taken = columns.offsets[last] + columns.lengths[last];
   }
   const error = taken < length ? errorOfBlock(length - taken) : undefined;
-  return { ...columnsOf(blocks, count), taken, error };
-}
-
-/** The columns of the items of blocks, with the index in the input at which each block starts. */
-function columnsOf(blocks, count) {
-  const codes = new BigUint64Array(count);
-  const halves = new Uint32Array(codes.buffer);
-  const offsets = new Float64Array(count); // a Uint32Array would be too small for an input of 4 GiB
-  const lengths = new Uint8Array(count);
-  let at = 0;
-  for (const [start, found] of blocks) {
-    for (let item = 0; item < found.length; item += 4, at++) {
-      halves[2 * at] = found[item];
-      halves[2 * at + 1] = found[item + 1];
-      offsets[at] = start + found[item + 2];
-      lengths[at] = found[item + 3];
-    }
-  }
-  return { codes, offsets, lengths };
+  return { ...(count < columns.lengths.length ? columnsOf(count, columns) : columns), taken, error };
 }

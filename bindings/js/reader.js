@@ -4,7 +4,7 @@ import { itemsAt, lengthOf, multihashOf, readAt } from './core.js';
 import { DIGEST_MAX } from './limits.js';
 import { sourceOf } from './sources.js';
 
-const NONE = new Uint32Array();
+const NONE = new Int32Array();
 
 /** Reads concatenated encodings from a `ReadableStream` or an async iterable of `Uint8Array`. */
 export class MultihashReader {
@@ -166,7 +166,7 @@ export class MultihashReader {
   }
 }
 
-/** What an async generator is, which takes longer to return what needs not be awaited. */
+/** Iterates as an async generator does, which takes twice as long for a multihash that was received before. */
 class Loop {
   #reader;
   #ready;
