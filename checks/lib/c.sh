@@ -18,10 +18,10 @@ clang_runtime=$(clang --rtlib=compiler-rt -print-libgcc-file-name 2> /dev/null |
 # Prints the names of the functions that the header declares.
 exported() { cc -E -P "$c/include/multihash.h" | tr -s '\n ' ' ' | grep -oP '\w+(?=\([^()]*\);)' | sort; }
 
-# The program `$1`, which the remaining words build, passes for each line of the lists and for drawn inputs; `$2` is a
-# command that runs it, or empty.
+# The program `$1`, which the remaining words build, passes for each line of the lists; `$2` is a command that runs it, or
+# empty.
 build_and_run() {
   "${@:3}" -I "$c/include" -o "$work/$1"
   # shellcheck disable=SC2086
-  prints "drawn: 20000" $2 "$work/$1" 1 20000 "$data"/{verdicts,values,messages}.tsv
+  prints passed $2 "$work/$1" "$data"/{verdicts,values,messages}.tsv
 }

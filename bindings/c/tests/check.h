@@ -24,7 +24,6 @@ uint8_t *buffer(size_t length);
 uint8_t *copy_of(const uint8_t *bytes, size_t length);
 void release(uint8_t *bytes);
 uint8_t *sparse(uint64_t length);
-void draw_inputs(uint64_t seed, unsigned long count);
 
 /* models.c */
 void check_decodings(const uint8_t *bytes, size_t length, size_t limit);
@@ -33,7 +32,6 @@ void check_encodings(uint64_t code, const uint8_t *digest, size_t length, size_t
 void check_length(uint64_t code, size_t length);
 void check_varint(const uint8_t *bytes, size_t length);
 void check_number(uint64_t value, size_t room);
-void check_input(uint64_t code, const uint8_t *bytes, size_t length, size_t limit);
 
 /* verdicts.c */
 void replay(const char *name);

@@ -1,7 +1,8 @@
-/* The tests of the library: each function is compared with the models, over the test vectors, random inputs, streams and
- * large buffers; and messages. C11 and C++17. Exits with status 1 at the first error.
+/* The tests of the library: each function is compared with the models, over the test vectors, streams and large buffers;
+ * and messages. They are for other compilers and machines: `proof` checks the source for all inputs. C11 and C++17. Exits
+ * with status 1 at the first error.
  *
- *   test SEED COUNT LIST..     LIST is a list of crates/vectors/data, and COUNT the number of random inputs */
+ *   test LIST..     LIST is a list of crates/vectors/data */
 #include "check.h"
 #include "multihash_message.h"
 #include "multihash_names.h"
@@ -23,16 +24,6 @@ static void check_streams(void)
         uint8_t *input = copy_of(bytes, part);
         for (size_t room = 0; room <= 31; room++) check_many(input, part, room);
         release(input);
-    }
-}
-
-/* Digests of each length up to 80 bytes that differ in one byte, at each place. */
-static void check_orders(void)
-{
-    uint8_t bytes[80];
-    for (size_t i = 0; i < sizeof bytes; i++) bytes[i] = (uint8_t)(7 * i + 3);
-    for (size_t length = 1; length <= sizeof bytes; length++) {
-        for (size_t at = 0; at < length; at++) check_input(at, bytes, length, 2 * at);
     }
 }
 
@@ -167,15 +158,13 @@ static void check_messages(void)
 
 int main(int argc, char **argv)
 {
-    CHECK(argc > 3 && buffer(0) == NULL);
+    CHECK(argc > 1 && buffer(0) == NULL);
     check_streams();
-    check_orders();
     check_varints();
     check_large();
     check_version();
     check_messages();
-    for (int i = 3; i < argc; i++) replay(argv[i]);
-    draw_inputs(strtoul(argv[1], NULL, 10), strtoul(argv[2], NULL, 10));
-    printf("drawn: %s\n", argv[2]);
+    for (int i = 1; i < argc; i++) replay(argv[i]);
+    puts("passed");
     return 0;
 }
