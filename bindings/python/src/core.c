@@ -325,17 +325,14 @@ static PyMethodDef functions[] = {
 static int fill_module(PyObject *module)
 {
     PyObject *type = PyType_FromModuleAndSpec(module, &multihash_spec, NULL);
-    PyObject *names = Py_BuildValue("(ss)", "code", "digest");
     PyObject *reader = PyType_FromModuleAndSpec(module, &reader_spec, NULL);
     PyObject *bases = reader == NULL ? NULL : PyTuple_Pack(1, reader);
     PyObject *file_reader = bases == NULL ? NULL : PyType_FromModuleAndSpec(module, &file_reader_spec, bases);
     ((state *)PyModule_GetState(module))->type = (PyTypeObject *)type;
-    int is_filled = type != NULL && names != NULL && file_reader != NULL &&
-                    PyObject_SetAttrString(type, "__match_args__", names) == 0 &&
+    int is_filled = type != NULL && file_reader != NULL &&
                     PyObject_SetAttrString(module, "Multihash", type) == 0 &&
                     PyObject_SetAttrString(module, "Reader", reader) == 0 &&
                     PyObject_SetAttrString(module, "FileReader", file_reader) == 0;
-    Py_XDECREF(names);
     Py_XDECREF(reader);
     Py_XDECREF(bases);
     Py_XDECREF(file_reader);
@@ -345,7 +342,6 @@ static int fill_module(PyObject *module)
 static int visit_state(PyObject *module, visitproc visit, void *arg)
 {
     state *own = PyModule_GetState(module);
-    if (own == NULL) return 0;
     Py_VISIT(own->type);
     Py_VISIT(own->error);
     Py_VISIT(own->statuses);
@@ -355,7 +351,6 @@ static int visit_state(PyObject *module, visitproc visit, void *arg)
 static int clear_state(PyObject *module)
 {
     state *own = PyModule_GetState(module);
-    if (own == NULL) return 0;
     Py_CLEAR(own->type);
     Py_CLEAR(own->error);
     Py_CLEAR(own->statuses);
@@ -368,11 +363,9 @@ static void free_state(void *module)
     clear_state(module);
 }
 
-static PyModuleDef_Slot module_slots[] = {{Py_mod_exec, fill_module}, {0, NULL}};
-
-/* The same, and Py_mod_multiple_interpreters with Py_MOD_PER_INTERPRETER_GIL_SUPPORTED, which CPython knows from 3.12
- * on: all that changes is in the module's state. */
-static PyModuleDef_Slot slots_of_3_12[] = {{Py_mod_exec, fill_module}, {3, (void *)2}, {0, NULL}};
+/* The second one, for CPython 3.12 and later, is Py_mod_multiple_interpreters with Py_MOD_PER_INTERPRETER_GIL_SUPPORTED:
+ * all that changes is in the module's state. */
+static PyModuleDef_Slot slots[] = {{Py_mod_exec, fill_module}, {3, (void *)2}, {0, NULL}};
 
 static struct PyModuleDef definition = {
     PyModuleDef_HEAD_INIT,
@@ -380,7 +373,7 @@ static struct PyModuleDef definition = {
     "The library for C.",
     sizeof(state),
     functions,
-    module_slots,
+    slots,
     visit_state,
     clear_state,
     free_state,
@@ -389,6 +382,6 @@ static struct PyModuleDef definition = {
 PyMODINIT_FUNC PyInit__core(void)
 {
     PyObject *hexversion = PySys_GetObject("hexversion");
-    if (hexversion != NULL && PyLong_AsLong(hexversion) >= 0x030c0000) definition.m_slots = slots_of_3_12;
+    if (hexversion == NULL || PyLong_AsLong(hexversion) < 0x030c0000) slots[1].slot = 0;
     return PyModuleDef_Init(&definition);
 }

@@ -59,3 +59,4 @@ for method in (__repr__, __format__, __getnewargs__, __reduce_ex__, __replace__)
     method.__qualname__ = "Multihash." + method.__name__
     setattr(Multihash, method.__name__, method)
 setattr(Multihash, "fromhex", classmethod(fromhex))
+setattr(Multihash, "__match_args__", ("code", "digest"))
