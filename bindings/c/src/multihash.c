@@ -353,6 +353,7 @@ MH_INLINE mh_varint_or_error_at mh_word_read_front(const uint8_t *bytes, size_t 
     if (bytes_length >= 1 && bytes[0] < 128) {
         return (mh_varint_or_error_at){.is_ok = true, .ok = {(uint64_t)bytes[0], 1}};
     }
+    /* Each word is read where it is made, so that for sixteen bytes the tests of how many are there are gone. */
     if (bytes_length >= MH_WORD_LEN) return mh_read_word(mh_u128_from_le_bytes(bytes), MH_WORD_LEN);
     return mh_read_word(mh_padded_word(bytes, bytes_length), bytes_length);
 }

@@ -33,6 +33,7 @@ pub(crate) fn read_front(bytes: &[u8]) -> Result<(u64, usize), (Error, usize)>
     if bytes.len() >= 1 && bytes[0] < 128 {
         return Ok((u64::from(bytes[0]), 1));
     }
+    // Each word is read where it is made, so that for sixteen bytes the tests of how many are there are gone.
     match bytes.first_chunk::<WORD_LEN>() {
         Some(front) => read_word(u128::from_le_bytes(*front), WORD_LEN),
         None => read_word(padded_word(bytes), bytes.len()),
