@@ -22,7 +22,8 @@ void *memcpy(void *restrict to, const void *restrict from, size_t length)
     return to;
 }
 END
-flags=(--target=wasm32 -std=c11 -ffreestanding -nostdlib -O2 -fno-unroll-loops)
+# with -O2 a bundle is larger, and no call takes less time
+flags=(--target=wasm32 -std=c11 -ffreestanding -nostdlib -O1)
 clang "${flags[@]}" -mbulk-memory -c "$work/memcpy.c" -o "$work/memcpy.o"
 clang "${flags[@]}" -I "$c/include" "$c/src/multihash.c" "$work/memcpy.o" -Wl,--no-entry,--strip-debug \
   -Wl,--max-memory=131072 "${exports[@]/#/-Wl,--export=}" -o "$work/library.wasm"
