@@ -23,17 +23,17 @@ FAILED = 'error: "an allocation failed"'
 FORMS = (rf"(.*\n)?{re.escape(FAILED)}\n(.*\n)?101", r"(.*\n)?test result: ok\n(.*\n)?0")
 # how many allocations each test makes
 TESTS = {
-    "allocating_forms_at_each_size": 48,
+    "allocating_encodings_at_each_size": 48,
     "allocating_read_of_lists": 14,
-    # 2 for the binary form, 2 for SCALE, 3 for a list
+    # 2 for the binary encoding, 2 for SCALE, 3 for a list
     "allocating_writes": 7,
     "allocating_write_of_a_vector": 2,
     "allocating_push": 2,
     # each block by 7, of 256 bytes to 16384
-    "allocating_storage": 14,
+    "allocating_blocks": 14,
     # the same 7: memory grows with the bytes that arrive, and not with the length that is claimed
     "allocating_claimed_length": 7,
-    # 3 for 4, 8 and 16 items, 1, again 3 for items that are counted; 1, 2 and 1 for the forms
+    # 3 for 4, 8 and 16 items, 1, again 3 for items that are counted; 1, 2 and 1 for the encodings
     "allocating_examples": 11,
     "calls_over_slices_need_no_memory": 0,
     "an_odd_line_needs_no_memory": 0,

@@ -1,11 +1,11 @@
-//! Callers of each kind, by public paths of the library alone: what the pages show, and users of multihashes.
+//! Callers of each kind, by public paths of the library and of `form` alone: what the pages show, and users of multihashes.
 #![tactic(auto)]
 
-pub mod any_reader;
 pub mod capacities;
-pub mod code_table;
-pub mod forms;
+pub mod content;
+pub mod encodings;
 pub mod loops;
+pub mod parts;
 pub mod peer_id;
 pub mod slices;
 pub mod std_reader;

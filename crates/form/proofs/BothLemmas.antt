@@ -1,5 +1,6 @@
 -- Reading and writing two parts: for `Both`, `Counted`, `Choice`, `write_two`, `write_three`, and `storage`.
-use Rattle.std.proofs.Common.{ℕ, List, ◌++◌, Option, refl}
+use Rattle.std.proofs.Common.{◌≡◌, ℕ, List, ◌++◌, Option, refl, sym, subst}
+use Rattle.multihash.specs.Varint.{IsVarint}
 use Rattle.multihash.specs.Consuming.{ConsumesSome}
 use Rattle.multihash.proofs.ReadingLemmas.{Consumes-concatenated}
 use Rattle.multihash.proofs.WritingLemmas.{AppendsBoth, AppendsPrefix-append, AppendsPrefix-concatenated}
@@ -8,6 +9,11 @@ use Rattle.form.specs.Form.{Then, AppendsSome, AppendsPrefixOfSome}
 -- the parts make the whole
 make : (P Q : List ℕ → Type 0) (a b : List ℕ) → P a → Q b → Then P Q (a ++ b)
 make P Q a b is_a is_b = record { first = a; second = b; is_first = is_a; is_second = is_b; parts = refl }
+
+-- the varint of a number that is another
+pub number_is : (n m : ℕ) (old new : Option (List ℕ)) → m ≡ n → ConsumesSome (IsVarint n) old new
+    → ConsumesSome (IsVarint m) old new
+number_is n m old new is (bytes, varint, consumes) = (bytes, subst (λ k. IsVarint k bytes) (sym is) varint, consumes)
 
 -- both parts were read
 pub then_read : (P Q : List ℕ → Type 0) (old mid new : Option (List ℕ)) → ConsumesSome P old mid

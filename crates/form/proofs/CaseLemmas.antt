@@ -1,5 +1,5 @@
 -- Reading a choice or one of its cases failed: what that shows.
-use Rattle.std.proofs.Common.{◌≡◌, inl, inr, ℕ, List, Option, refl, sym, ◌∙◌, subst}
+use Rattle.std.proofs.Common.{◌≡◌, inl, inr, ℕ, List, Option, refl, sym, ◌∙◌}
 use Rattle.multihash.specs.Varint.{IsVarint}
 use Rattle.multihash.specs.Consuming.{ConsumesSome}
 use Rattle.form.specs.Form.{Then}
@@ -81,8 +81,3 @@ module _ {C : Type 0} (tag_of : C → ℕ) (IsC : C → List ℕ → Type 0) whe
         → ReadStops IsChoice (RejectsNumberThen RejectsC) before after e old new
     value_stops n middle mid =
         from_stops RejectsC (IsCase tag_of IsC) IsChoice split n before middle after e old mid new
-
--- the varint of a number that is the tag
-pub tag_is : (n tag : ℕ) (old new : Option (List ℕ)) → tag ≡ n → ConsumesSome (IsVarint n) old new
-    → ConsumesSome (IsVarint tag) old new
-tag_is n tag old new is (bytes, varint, consumes) = (bytes, subst (λ k. IsVarint k bytes) (sym is) varint, consumes)

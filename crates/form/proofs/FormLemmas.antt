@@ -1,5 +1,5 @@
 -- What `err` and `faults` of `read` state, from the contracts of the library's calls: for `read` of each part.
-use Rattle.std.proofs.Common.{◌≡◌, ℕ, ◌<◌, ◌≤◌, ◌⊎◌, inl, inr, List, [], length, length-append, Option, Some, refl, sym, ap, subst, ◌∙◌, append-nil, arith}
+use Rattle.std.proofs.Common.{◌≡◌, ℕ, ◌<◌, ◌⊎◌, inl, inr, List, [], length, Option, Some, refl, sym, subst, ◌∙◌, append-nil, arith}
 use Rattle.std.specs.Prelude.{None}
 use Rattle.multihash.specs.Bytes.{IsPrefix}
 use Rattle.multihash.specs.Varint.{VarintError, insufficient, overflow, not_minimal, IsVarint, IsInsufficient}
@@ -7,7 +7,7 @@ use Rattle.multihash.specs.Encoding.{IsEncoding}
 use Rattle.multihash.specs.Verdict.{Verdict, accepted, HasVerdict, IsIncomplete}
 use Rattle.multihash.specs.Settling.{Settles, IsShortestSettling}
 use Rattle.multihash.specs.Outcome.{IsErrorOf}
-use Rattle.multihash.specs.Refusal.{Refusal, of_varint, IsReaderError, IsAnyVarintError, IsVarintError, IsEof, IsOutOfMemory}
+use Rattle.multihash.specs.Refusal.{Refusal, of_varint, IsReaderError, IsAnyVarintError, IsVarintError}
 use Rattle.multihash.specs.Multihash.{Fields, pair_of}
 use Rattle.multihash.proofs.EncodingLemmas.{digest_fits}
 use Rattle.multihash.proofs.VerdictLemmas.{verdict_unique}
@@ -15,18 +15,13 @@ use Rattle.multihash.proofs.VarintLemmas.{number_no_error}
 use Rattle.multihash.proofs.SettlingLemmas.{late_settles, none_settles, incomplete_not_settles, verdict_kept}
 use Rattle.multihash.proofs.ReadConsumingLemmas.{incomplete_error}
 use Rattle.multihash.proofs.CallingLemmas.{front_error_unique, incomplete_or_not}
-use Rattle.multihash.specs.Consuming.{FailsBy, ExactFails, ReadFails, ConsumesAtVarintError, ConsumesVarint, ConsumesShortestSettling, ConsumesNothingSettling, EndsOrFails}
+use Rattle.multihash.specs.Consuming.{FailsBy, ExactFails, ReadFails, ConsumesAtVarintError, ConsumesShortestSettling, ConsumesNothingSettling, EndsOrFails}
 use Rattle.multihash.proofs.ReadingLemmas.{all_read, Consumes-none}
-use Rattle.frame.specs.Frame.{IsFramed, FrameFails, MayFailWith}
-use Rattle.frame.specs.Frame.{IsFailed as IsFrameFailed}
-use Rattle.frame.specs.declared.error.FrameError.{FrameError}
-use Rattle.form.specs.Form.{Then}
-use Rattle.form.specs.FormError.{IsFailed, IsTruncated, IsErrorOfFrame}
+use Rattle.form.specs.FormError.{IsFailed, IsTruncated}
 use Rattle.form.specs.RejectLaws.{malformed_kept}
-use Rattle.form.specs.Rejecting.{ShowsMalformed, RejectsNumber, RejectsMultihash, RejectsNumberThen, RejectsTooLong, IsUndecided, StopsAt, ReadStops}
+use Rattle.form.specs.Rejecting.{ShowsMalformed, RejectsNumber, RejectsMultihash, IsUndecided, StopsAt, ReadStops}
 use Rattle.form.specs.declared.error.FormError.{FormError}
-use Rattle.form.specs.declared.error.FormError.TheVariants.{Failed, TooLong}
-use Rattle.form.proofs.StopLemmas.{first_stops, next_rejected, from_stops}
+use Rattle.form.specs.declared.error.FormError.TheVariants.{Failed}
 
 -- ---- numbers
 
@@ -155,7 +150,7 @@ undecided_stops IsForm Rejects before e None undecided ends = inr tt
 undecided_stops IsForm Rejects before e (Some input) undecided ends =
     inr (record { consumed = []; consumes = Consumes-none (Some input); cause = inr (inr (ends, undecided input)) })
 
--- ---- frames and faults
+-- ---- faults
 
 -- the clause `faults`, of an error that `?` converts
 pub faults_as : (before after : ℕ) (Listed : Refusal → Type 0) (e : Refusal)
@@ -163,53 +158,3 @@ pub faults_as : (before after : ℕ) (Listed : Refusal → Type 0) (e : Refusal)
     → ((before < after) × IsFailed IsReaderError (Failed e)) ⊎ ((after ≡ before) × IsFailed Listed (Failed e))
 faults_as before after Listed e (inl (up, own)) = inl (up, (e, refl, own))
 faults_as before after Listed e (inr (same, listed)) = inr (same, (e, refl, listed))
-
--- the error of a frame, converted by `?`
-frame_failure : (P : Refusal → Type 0) (f : FrameError) (e : FormError) → IsErrorOfFrame f e → IsFrameFailed P f
-    → IsFailed P e
-frame_failure P f e passed (cause, is, holds) =
-    (cause, subst (λ (x : FrameError). IsErrorOfFrame x e) is passed, holds)
-
--- `frame::read` failed
-module _ {A : Type 0} (IsForm : A → List ℕ → Type 0) (framed : (x : A) (bytes : List ℕ) → IsForm x bytes → (block : List ℕ) × IsFramed block bytes) (limit : ℕ) where
-  abbrev HasLength : ℕ → ℕ → List ℕ → Type 0
-  HasLength n z bytes = length bytes ≡ n
-
-  split : (x : A) (bytes : List ℕ) → IsForm x bytes → (n : ℕ) × (z : ℕ) × Then (IsVarint n) (HasLength n z) bytes
-  split x bytes is =
-      let (block, f) = framed x bytes is in
-      (length block, 0, record { first = f.len; second = block; is_first = f.is_len; is_second = refl; parts = f.parts })
-
-  undecided : (n : ℕ) → n ≤ limit → (x : List ℕ) → length x < n → IsUndecided (HasLength n) (RejectsTooLong limit n) x
-  undecided n within x few = record {
-    no_form = λ z front rest cut long. omega (arith, few, long, ap length cut, length-append front rest);
-    no_error = λ e front rest cut rejects. omega (arith, within, rejects.0);
-  }
-
-  pub frame_stops : (before after : ℕ) (f : FrameError) (e : FormError) (old new : Option (List ℕ)) → IsErrorOfFrame f e
-      → FrameFails limit before after f old new → ReadStops IsForm (RejectsNumberThen (RejectsTooLong limit)) before after e old new
-  frame_stops before after f e old new passed (inl (r, is, fails)) =
-      rw (subst (λ (x : FrameError). IsErrorOfFrame x e) is passed)
-      (first_stops IsVarint RejectsNumber (RejectsTooLong limit) HasLength IsForm split before after (Failed r) old new
-      (varint_stops before after r old new fails.cause fails.consumed))
-  frame_stops before after f e old new passed (inr (n, mid, number, inl (is, over, same, kept))) =
-      next_rejected IsVarint RejectsNumber (RejectsTooLong limit) HasLength IsForm split n before after e old new
-      (subst (λ (o : Option (List ℕ)). ConsumesVarint n old o) (sym kept) number)
-      (over, subst (λ (x : FrameError). IsErrorOfFrame x e) is passed, refl)
-  frame_stops before after f e old new passed (inr (n, mid, number, inr (within, inl (memory, _, _)))) =
-      inl (frame_failure IsOutOfMemory f e passed memory)
-  frame_stops before after f e old new passed (inr (n, mid, number, inr (within, inr (r, is, fails)))) =
-      from_stops (RejectsTooLong limit) HasLength IsForm split n before before after e old mid new refl number
-      (rw (subst (λ (x : FrameError). IsErrorOfFrame x e) is passed)
-      (exact_stops (HasLength n) (RejectsTooLong limit n) n before after r mid new (undecided n within) fails))
-
--- the clause `faults` of `frame::read`, as that of `read` of a block
-pub block_faults : (limit before after : ℕ) (f : FrameError) (e : FormError) → IsErrorOfFrame f e
-    → ((before < after) × IsFrameFailed IsReaderError f) ⊎ ((after ≡ before) × MayFailWith limit f)
-    → ((before < after) × IsFailed IsReaderError e) ⊎ ((after ≡ before)
-    × (IsFailed (λ r. IsAnyVarintError r ⊎ IsEof r ⊎ IsOutOfMemory r) e ⊎ ((n : ℕ) × (e ≡ TooLong n) × (limit < n))))
-block_faults limit before after f e passed (inl (own, fails)) = inl (own, frame_failure IsReaderError f e passed fails)
-block_faults limit before after f e passed (inr (same, inl fails)) =
-    inr (same, inl (frame_failure (λ r. IsAnyVarintError r ⊎ IsEof r ⊎ IsOutOfMemory r) f e passed fails))
-block_faults limit before after f e passed (inr (same, inr (n, is, over))) =
-    inr (same, inr (n, subst (λ (x : FrameError). IsErrorOfFrame x e) is passed, over))

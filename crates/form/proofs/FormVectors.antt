@@ -6,10 +6,9 @@ use Rattle.multihash.specs.Refusal.{of_varint, of_size}
 use Rattle.multihash.specs.Varint.{insufficient, overflow, not_minimal}
 use Rattle.multihash.specs.Verdict.{accepted, invalid_size, invalid_code, malformed, unexpected_eof}
 use Rattle.multihash.proofs.ReadingLemmas.{all_read, Consumes-known}
-use Rattle.frame.specs.declared.error.FrameError.TheVariants.{TooLong as FrameTooLong}
 use Rattle.form.specs.ByteCount.{HasCounted}
 use Rattle.form.specs.Form.{Then, AreSame}
-use Rattle.form.specs.FormError.{IsFailed, IsTruncated, IsErrorOfFrame, form_error_text}
+use Rattle.form.specs.FormError.{IsFailed, IsTruncated, form_error_text}
 use Rattle.form.specs.Case.{AreSameCase}
 use Rattle.form.specs.Rejecting.{IsShortest, ShowsMalformed, ShowsError, IsUndecided, StopsAt, ReadStops, IsReadError, IsWholeError}
 use Rattle.form.specs.Stream.{rest_from, AppendsValues, AppendsUpTo, AppendsThenStops}
@@ -101,9 +100,6 @@ too_many_is_not_failed n (error, is, _) = cc
 overflow_is_not_truncated : ¬ (IsTruncated (of_varint overflow))
 overflow_is_not_truncated (inl is) = cc
 overflow_is_not_truncated (inr (error, is, _)) = cc
-
-other_length : ¬ (IsErrorOfFrame (FrameTooLong 1) (TooLong 2))
-other_length is = cc
 
 texts : (form_error_text (TooMany 12) ≡ codes "12 items are too many")
     × (form_error_text (TooLong 77) ≡ codes "a block of 77 bytes is too long")

@@ -1,3 +1,4 @@
+pub mod BlockLemmas
 pub mod BothLemmas
 pub mod CaseLemmas
 pub mod CountedLemmas

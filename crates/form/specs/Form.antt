@@ -1,5 +1,6 @@
 -- What the clauses of a form state.
-use Rattle.std.specs.Prelude.{◌≡◌, ⊤, ℕ, List, [], ◌∷◌, ◌++◌}
+use Rattle.std.specs.Prelude.{◌≡◌, ⊤, ℕ, List, [], ◌∷◌, ◌++◌, length}
+use Rattle.multihash.specs.Varint.{IsVarint}
 use Rattle.multihash.specs.Writing.{AppendsPrefix}
 
 -- the bytes are one part, followed by the other
@@ -9,6 +10,10 @@ pub record Then (IsFirst IsSecond : List ℕ → Type 0) (bytes : List ℕ) : Ty
   pub is_first : IsFirst first
   pub is_second : IsSecond second
   pub parts : bytes ≡ first ++ second
+
+-- the varint of the number of bytes, and the bytes
+abbrev pub IsBlock : List ℕ → List ℕ → Type 0
+IsBlock block = Then (IsVarint (length block)) (λ rest. rest ≡ block)
 
 -- equally many items, each the same as its counterpart
 abbrev pub AreSame : {A : Type 0} → (A → A → Type 0) → List A → List A → Type 0

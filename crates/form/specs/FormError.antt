@@ -3,8 +3,6 @@ use Rattle.std.specs.Prelude.{◌≡◌, ◌⊎◌, ℕ, List, ◌++◌, codes}
 use Rattle.std.specs.Fmt.{decimal}
 use Rattle.multihash.specs.Refusal.{Refusal, IsVarintError, IsEof, refusal_text}
 use Rattle.multihash.specs.Varint.{insufficient}
-use Rattle.frame.specs.declared.error.FrameError.{FrameError}
-use Rattle.frame.specs.declared.error.FrameError.TheVariants.{Failed as FrameFailed, TooLong as FrameTooLong}
 use Rattle.form.specs.declared.error.FormError.{FormError}
 use Rattle.form.specs.declared.error.FormError.TheVariants.{Failed, TooMany, TooLong, OtherTag, Trailing}
 
@@ -15,11 +13,6 @@ IsFailed P e = (error : Refusal) × (e ≡ Failed error) × P error
 -- the input is truncated
 abbrev pub IsTruncated : Refusal → Type 0
 IsTruncated e = IsVarintError insufficient e ⊎ IsEof e
-
--- the error of a frame, as an error of a form
-abbrev pub IsErrorOfFrame : FrameError → FormError → Type 0
-IsErrorOfFrame (FrameFailed error) e = e ≡ Failed error
-IsErrorOfFrame (FrameTooLong n) e = e ≡ TooLong n
 
 -- the text of an error
 abbrev pub form_error_text : FormError → List ℕ

@@ -1,13 +1,11 @@
 -- The laws of each form: an encoding exists, is unique, is the only one of its value, and is not empty.
 use Rattle.std.proofs.Common.{◌≡◌, ℕ, ◌<◌, List, [], ◌∷◌, ◌++◌, length, refl, sym, ap, ◌∙◌, append_assoc, subst, arith}
 use Rattle.multihash.specs.Streams.{AreParts}
-use Rattle.form.specs.Form.{Then, AreSame}
+use Rattle.form.specs.Form.{Then, IsBlock, AreSame}
 use Rattle.form.specs.FormLaws.{then_exists, then_unique, then_one, then_some}
 use Rattle.multihash.specs.Varint.{IsVarint, varint_limit}
 use Rattle.multihash.proofs.VarintLemmas.{varint_unique, varint_same, varint_some}
 use Rattle.multihash.proofs.VarintWriteLemmas.{varint_exists}
-use Rattle.frame.specs.Frame.{IsFramed}
-use Rattle.frame.proofs.FrameLemmas.{framed_unique, framed_same, framed_some, framed_exists}
 use Rattle.multihash.specs.Multihash.{Fields, pair_of}
 use Rattle.multihash.specs.Pair.{Pair}
 use Rattle.multihash.specs.Encoding.{IsEncoding, encoding_of}
@@ -58,22 +56,6 @@ tag_unique n a b r s x y cut = (tt, (number_unique n n a b r s x y cut).1)
 pub tag_one : (n : ℕ) (a b : List ℕ) → Unit {0} → IsVarint n a → IsVarint n b → a ≡ b
 tag_one n a b same = varint_same n a b
 
--- a block has a frame
-pub block_exists : (block : List ℕ) (n : ℕ) → n ≡ length block → n < varint_limit → (bytes : List ℕ) × IsFramed block bytes
-block_exists block n long below = framed_exists block (omega (arith, long, below))
-
--- two at the start of one input are equal
-pub block_unique : (m n a b r s : List ℕ) → IsFramed m a → IsFramed n b → a ++ r ≡ b ++ s → (m ≡ n) × (r ≡ s)
-block_unique m n a b r s x y cut = let t = framed_unique m n a b r s x y cut in (t.0, t.2)
-
--- and a block has one frame
-pub block_one : (m n a b : List ℕ) → m ≡ n → IsFramed m a → IsFramed n b → a ≡ b
-block_one m n a b same x y = framed_same m a b x (subst (λ (k : List ℕ). IsFramed k b) (sym same) y)
-
--- and it is not empty
-pub block_some : (block bytes : List ℕ) → IsFramed block bytes → 0 < length bytes
-block_some = framed_some
-
 -- an array has an encoding
 pub array_exists : (x : List ℕ) → (bytes : List ℕ) × (bytes ≡ x)
 array_exists x = (x, refl)
@@ -92,6 +74,26 @@ array_one x y a b same is is_b = is ∙ same ∙ sym is_b
 -- and it is not empty
 pub array_some : (n : ℕ) (x : List ℕ) → length x ≡ n → 0 < n → (bytes : List ℕ) → bytes ≡ x → 0 < length bytes
 array_some n x long some bytes is = omega (arith, long, some, ap length is)
+
+-- a block has an encoding
+pub block_exists : (block : List ℕ) (n : ℕ) → n ≡ length block → n < varint_limit → (bytes : List ℕ) × IsBlock block bytes
+block_exists block n long below = then_exists (varint_exists (length block) (omega (arith, long, below))) (array_exists block)
+
+-- two at the start of one input are the same
+pub block_unique : (x y a b r s : List ℕ) → IsBlock x a → IsBlock y b → a ++ r ≡ b ++ s → (x ≡ y) × (r ≡ s)
+block_unique x y a b r s g h cut =
+    let bytes = λ (same : length x ≡ length y). array_unique (length y) x y same refl in
+    let told = then_unique (length x ≡ length y) (x ≡ y) (number_unique (length x) (length y)) bytes a b r s g h cut in
+    (told.0.1, told.1)
+
+-- and a block has one encoding
+pub block_one : (x y a b : List ℕ) → x ≡ y → IsBlock x a → IsBlock y b → a ≡ b
+block_one x y a b same =
+    then_one a b (λ c d. number_one (length x) (length y) c d (ap length same)) (λ c d. array_one x y c d same)
+
+-- and it is not empty
+pub block_some : (block bytes : List ℕ) → IsBlock block bytes → 0 < length bytes
+block_some block = then_some (varint_some (length block))
 
 -- items have encodings, one after another
 pub items_exist : {A : Type 0} (IsPart : A → List ℕ → Type 0) → ((x : A) → (bytes : List ℕ) × IsPart x bytes)

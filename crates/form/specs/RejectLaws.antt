@@ -7,14 +7,13 @@ use Rattle.multihash.specs.Verdict.{malformed, IsIncomplete}
 use Rattle.multihash.specs.Outcome.{IsErrorOf}
 use Rattle.multihash.specs.Refusal.{Refusal, of_varint}
 use Rattle.multihash.specs.Encoding.{IsEncoding}
-use Rattle.frame.specs.Frame.{IsFramed}
 use Rattle.multihash.specs.Streams.{AreParts}
 use Rattle.multihash.specs.Bytes.{IsStrictPrefix}
 use Rattle.multihash.proofs.EncodingLemmas.{same_cut}
 use Rattle.multihash.proofs.VerdictLemmas.{verdict_unique}
 use Rattle.multihash.proofs.SettlingLemmas.{compare_prefixes, error_kept, error_of_part, verdict_kept}
 use Rattle.multihash.proofs.CallingLemmas.{front_error_unique, encoding_no_error, error_of_unique}
-use Rattle.form.specs.Form.{Then}
+use Rattle.form.specs.Form.{Then, IsBlock}
 use Rattle.form.specs.FormLaws.{then_unique, then_some}
 use Rattle.form.specs.PartLaws.{number_unique, number_some}
 use Rattle.form.specs.Rejecting.{IsShortest, ShowsMalformed, ShowsError, RejectsNumber, RejectsMultihash, RejectsInTurn, RejectsNumberThen, RejectsItem, RejectsOtherTag, RejectsTooLong, RejectsCounted}
@@ -194,11 +193,11 @@ pub tag_rejects_unique : (N : ℕ) (e f : FormError) (a b r s : List ℕ) → Re
 tag_rejects_unique N e f = from_unique (RejectsOtherTag N) e f
     (λ n a b r s x y. here_unique (OtherTag n) e f a b r s x.1 y.1 x.2 y.2)
 
-pub block_not_both : (MAX n : ℕ) (block : List ℕ) → n ≡ length block → n ≤ MAX → (e : FormError) (a b r s : List ℕ) → IsFramed block a
-    → RejectsNumberThen (RejectsTooLong MAX) e b → a ++ r ≡ b ++ s → ⊥
-block_not_both MAX n block long within e a b r s is =
-    from_not_both (RejectsTooLong MAX) (λ c. c ≡ block) (length block) e (λ c d p q _ rejects _. omega (arith, rejects.0, long, within)) a b r s
-    (record { first = is.len; second = block; is_first = is.is_len; is_second = refl; parts = is.parts })
+pub block_not_both : (MAX n : ℕ) (block : List ℕ) → n ≡ length block → n ≤ MAX → (e : FormError) (a b r s : List ℕ)
+    → IsBlock block a → RejectsNumberThen (RejectsTooLong MAX) e b → a ++ r ≡ b ++ s → ⊥
+block_not_both MAX n block long within e =
+    from_not_both (RejectsTooLong MAX) (λ c. c ≡ block) (length block) e
+    (λ c d p q _ rejects _. omega (arith, rejects.0, long, within))
 
 pub block_rejects_unique : (MAX : ℕ) (e f : FormError) (a b r s : List ℕ) → RejectsNumberThen (RejectsTooLong MAX) e a → RejectsNumberThen (RejectsTooLong MAX) f b
     → a ++ r ≡ b ++ s → (e ≡ f) × (r ≡ s)

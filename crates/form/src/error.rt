@@ -1,10 +1,9 @@
 //! The error of reading and writing forms.
 ghost use Rattle.std.specs.Prelude.{◌≡◌, ◌↔◌, IsTrue, Some};
 ghost use Rattle.form.specs.declared.error.FormError.TheVariants.{Failed};
-ghost use Rattle.form.specs.FormError.{IsFailed, IsTruncated, IsErrorOfFrame, form_error_text};
+ghost use Rattle.form.specs.FormError.{IsFailed, IsTruncated, form_error_text};
 ghost use Rattle.multihash.specs.Refusal.{IsOutOfMemory, of_io};
 
-use frame::FrameError;
 use multihash::{Error, no_std_io};
 use std::alloc::{AllocError, AllocFailed};
 use std::fmt;
@@ -66,17 +65,6 @@ impl From<no_std_io::Error> for FormError {
 
     fn from(e: no_std_io::Error) -> Self {
         FormError::Failed(Error::from(e))
-    }
-}
-
-impl From<FrameError> for FormError {
-    ghost from_gives = { IsErrorOfFrame };
-
-    fn from(e: FrameError) -> Self {
-        match e {
-            FrameError::Failed(e) => FormError::Failed(e),
-            FrameError::TooLong(n) => FormError::TooLong(n),
-        }
     }
 }
 

@@ -8,8 +8,7 @@ ghost use Rattle.multihash.specs.Encoding.{IsEncoding};
 ghost use Rattle.multihash.specs.Streams.{AreParts};
 ghost use Rattle.multihash.specs.Consuming.{ReadMayFailWith};
 ghost use Rattle.multihash.specs.Refusal.{IsAnyVarintError, IsEof, IsOutOfMemory};
-ghost use Rattle.frame.specs.Frame.{IsFramed};
-ghost use Rattle.form.specs.Form.{Then, AreSame};
+ghost use Rattle.form.specs.Form.{Then, IsBlock, AreSame};
 ghost use Rattle.form.specs.FormError.{IsFailed};
 ghost use Rattle.form.specs.Rejecting.{RejectsNumber, RejectsMultihash, RejectsInTurn, RejectsNumberThen, RejectsOtherTag, RejectsTooLong, RejectsCounted, RejectsCase, RejectsNoCase};
 ghost use Rattle.form.specs.declared.error.FormError.TheVariants.{TooMany, TooLong, OtherTag};
@@ -73,7 +72,7 @@ fn fixed<const N: usize>(
 
 fn blocks<const MAX: usize>(x: &Block<MAX>, y: &Block<MAX>, e: &FormError)
     ensures is_form { (bytes : List ℕ) →
-        ⟦<Block<MAX> as Form>⟧.is_form x.now bytes ↔ IsFramed x.now.bytes.items bytes }
+        ⟦<Block<MAX> as Form>⟧.is_form x.now bytes ↔ IsBlock x.now.bytes.items bytes }
     ensures same { ⟦<Block<MAX> as Form>⟧.same x.now y.now ↔ (x.now.bytes.items ≡ y.now.bytes.items) }
     ensures rejects_with { ⟦<Block<MAX> as Form>⟧.rejects_with e.now →
         IsFailed (λ r. IsAnyVarintError r ⊎ IsEof r ⊎ IsOutOfMemory r) e.now

@@ -1,18 +1,16 @@
-//! Tests of `examples`, `form` and `storage`: known values, and a reader over one of `std`.
+//! Tests of `examples` and `form`: known values, and a reader over one of `std`.
 ghost use Rattle.std.specs.Prelude.{◌<◌};
 
 use crate::expect::{check, check_eq, expect_ok};
-use examples::loops;
+use examples::content::{UnknownCode, hash_of, is_damaged, verify};
 use examples::std_reader::StdReader;
+use examples::{loops, parts};
 use fakes::{Cuts, FailAt};
 use form::{Case, FormError, Stream, all_from_bytes};
 use multihash::Multihash;
 use multihash::no_std_io::Read;
 use std::alloc::Global;
 use std::process::Abort;
-use storage::content::{UnknownCode, hash_of, is_damaged, verify};
-use storage::formats;
-use storage::log::{hash_next, valid_prefix, write_entry};
 
 // The identifier (CID) of `aaaa` as raw bytes, with its SHA-256 from another implementation.
 const IDENTIFIER: [u8; 36] = [
@@ -88,13 +86,9 @@ const LOG: [u8; 73] = [
 ];
 
 #[test]
-fn a_known_log_is_valid(rt: HostRuntime) {
-    check_eq!(&rt; valid_prefix(&LOG), LOG.as_slice());
-    let mut log = Vec::new(rt.alloc());
-    expect_ok!(&rt; write_entry(&hash_of::<32>(b"one"), b"one", &mut log));
-    check_eq!(&rt; log.as_slice(), &LOG[..38]);
-    let hash = expect_ok!(&rt; hash_next(rt.alloc(), &mut &LOG[34..], usize::MAX));
-    check_eq!(&rt; hash, Multihash::from_bytes(&LOG[..34]).ok());
+fn a_known_content_is_hashed(rt: HostRuntime) {
+    check_eq!(&rt; Some(hash_of::<32>(b"one")), Multihash::from_bytes(&LOG[..34]).ok());
+    check_eq!(&rt; Some(hash_of::<32>(b"")), Multihash::from_bytes(&LOG[38..72]).ok());
 }
 
 #[test]
@@ -109,7 +103,7 @@ fn a_known_content_is_verified(rt: HostRuntime) {
 
 // Its digest comes after that many bytes.
 fn expect_identifier(rt: &impl Abort, alloc: Global, bytes: &[u8], at: usize) {
-    let id = expect_ok!(rt; formats::read_identifier(alloc, bytes));
+    let id = expect_ok!(rt; parts::read_identifier(alloc, bytes));
     let digest = match &id.case {
         Case::This(tagged) => tagged.value.second.digest(),
         Case::Other(others) => match &others.case {
@@ -121,7 +115,7 @@ fn expect_identifier(rt: &impl Abort, alloc: Global, bytes: &[u8], at: usize) {
     check_eq!(rt; expect_ok!(rt; form::to_bytes(alloc, &id)).as_slice(), bytes);
     check_eq!(rt; form::encoded_len(&id), bytes.len() as u64);
     for len in 0..bytes.len() {
-        let outcome = formats::read_identifier(alloc, bytes.get(..len).unwrap_or(&[]));
+        let outcome = parts::read_identifier(alloc, bytes.get(..len).unwrap_or(&[]));
         check!(rt; outcome.is_err_and(|e| e.is_incomplete()), len);
     }
 }
@@ -131,9 +125,9 @@ fn known_identifiers_are_read(rt: HostRuntime) {
     let alloc = rt.alloc();
     expect_identifier(&rt, alloc, &IDENTIFIER, 4);
     expect_identifier(&rt, alloc, &LOG[..34], 2);
-    let outcome = formats::read_identifier(alloc, &LOG);
+    let outcome = parts::read_identifier(alloc, &LOG);
     check!(&rt; matches!(outcome, Err(FormError::Trailing(39))));
-    let outcome = formats::read_identifier(alloc, &[2]);
+    let outcome = parts::read_identifier(alloc, &[2]);
     check!(&rt; matches!(outcome, Err(FormError::OtherTag(2))));
 }
 
@@ -144,9 +138,9 @@ fn numbers_of_entries_are_read(rt: HostRuntime) {
     log[..2].copy_from_slice(&[0xac, 2]);
     log[2..40].copy_from_slice(&LOG[..38]);
     log[41..].copy_from_slice(&LOG[38..]);
-    let numbers = expect_ok!(&rt; formats::entry_numbers(rt.alloc(), &log));
+    let numbers = expect_ok!(&rt; parts::entry_numbers(rt.alloc(), &log));
     check!(&rt; matches!(numbers.as_slice(), [300, 6]));
-    let mut list = expect_ok!(&rt; all_from_bytes::<formats::LogEntry>(rt.alloc(), &log));
+    let mut list = expect_ok!(&rt; all_from_bytes::<parts::LogEntry>(rt.alloc(), &log));
     let mut stream = Stream::new(log.as_slice());
-    expect_ok!(&rt; formats::read_entries(rt.alloc(), &mut stream, usize::MAX, &mut list));
+    expect_ok!(&rt; parts::read_entries(rt.alloc(), &mut stream, usize::MAX, &mut list));
 }

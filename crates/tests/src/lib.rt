@@ -4,14 +4,10 @@
 #[cfg(test)]
 mod callers;
 #[cfg(test)]
+mod calls;
+#[cfg(test)]
 mod expect;
 #[cfg(test)]
 mod memory;
 #[cfg(test)]
-mod readers;
-#[cfg(test)]
-mod samples;
-#[cfg(test)]
 mod values;
-#[cfg(test)]
-mod writers;

@@ -4,11 +4,11 @@
 ghost use Rattle.std.specs.Prelude.{◌<◌, ◌^◌};
 
 use crate::expect::{check, check_eq, expect_ok, is_passed_on};
-use crate::samples::{Form, samples};
-use examples::any_reader::read_up_to;
-use examples::forms::{json, scale, there_and_back};
+use examples::content::hash_of;
+use examples::encodings::{json, scale, there_and_back};
+use examples::parts::LogEntry;
 use fakes::OUT_OF_MEMORY;
-use form::{Counted, FormError};
+use form::{Block, Counted, FormError, Stream};
 use multihash::list::{read_list, write_list};
 use multihash::no_std_io::Write;
 use multihash::{Error, Multihash};
@@ -17,8 +17,6 @@ use std::alloc::Global;
 use std::hash::{DefaultHasher, Hash};
 use std::process::Abort;
 use std::test::Fail;
-use storage::content;
-use storage::log::{EntryError, read_entry};
 use theorems::list_through;
 
 fn capacity_of(value: &Value) -> usize {
@@ -28,24 +26,17 @@ fn capacity_of(value: &Value) -> usize {
     }
 }
 
-fn expect_each_kept<const S: usize>(rt: &impl Abort, alloc: Global)
-    requires { S < 2 ^ 16 }
-{
-    for sample in &expect_ok!(rt; samples::<S>(alloc, &[Form::Binary], 0)) {
-        for m in &sample.items {
-            let len = m.encoded_len();
-            check_eq!(rt; expect_ok!(rt; m.to_bytes(alloc)).capacity(), len);
-            check_eq!(rt; capacity_of(&expect_ok!(rt; m.to_value(alloc))), len);
-            check!(rt; expect_ok!(rt; m.clone()) == *m, len);
-        }
-    }
-}
-
+// A vector and a JSON array have exactly the capacity that they need, for sizes of one and of two bytes.
 #[test]
-fn each_length_is_kept(rt: HostRuntime) {
-    expect_each_kept::<0>(&rt, rt.alloc());
-    expect_each_kept::<64>(&rt, rt.alloc());
-    expect_each_kept::<255>(&rt, rt.alloc());
+fn no_more_memory_than_needed_is_kept(rt: HostRuntime) {
+    let alloc = rt.alloc();
+    for len in [0, 1, 32, 64, 127, 128, 255] {
+        let m = expect_ok!(&rt; Multihash::<255>::wrap(1 << 20, &[65; 255][..len]));
+        let size = m.encoded_len();
+        check_eq!(&rt; expect_ok!(&rt; m.to_bytes(alloc)).capacity(), size);
+        check_eq!(&rt; capacity_of(&expect_ok!(&rt; m.to_value(alloc))), size);
+        check!(&rt; expect_ok!(&rt; m.clone()) == m, len);
+    }
 }
 
 const FAILED: &str = "an allocation failed";
@@ -60,8 +51,8 @@ fn unless_failed(succeeded: bool) -> Result<(), Fail> {
     if succeeded { Ok(()) } else { Err(FAILED)? }
 }
 
-// Each form is one allocation.
-fn makes_forms<const S: usize>(rt: &impl Abort, alloc: Global, code: u64) -> bool
+// Each encoding is one allocation.
+fn makes_encodings<const S: usize>(rt: &impl Abort, alloc: Global, code: u64) -> bool
     requires { S < 2 ^ 16 }
 {
     let bytes = [65; 255];
@@ -77,9 +68,9 @@ fn makes_forms<const S: usize>(rt: &impl Abort, alloc: Global, code: u64) -> boo
 }
 
 #[test]
-fn allocating_forms_at_each_size(rt: HostRuntime) -> Result<(), Fail> {
-    unless_failed(makes_forms::<64>(&rt, rt.alloc(), 1 << 20))?;
-    unless_failed(makes_forms::<255>(&rt, rt.alloc(), 300))
+fn allocating_encodings_at_each_size(rt: HostRuntime) -> Result<(), Fail> {
+    unless_failed(makes_encodings::<64>(&rt, rt.alloc(), 1 << 20))?;
+    unless_failed(makes_encodings::<255>(&rt, rt.alloc(), 300))
 }
 
 // The capacity is the one allocation: the input ends after one pair. If it fails, nothing was read.
@@ -150,14 +141,6 @@ fn keep(held: &mut Vec<Vec<u8>>, bytes: Result<Vec<u8>, Error>) -> Result<(), Er
     Ok(())
 }
 
-fn of_entry<T: Drop>(outcome: Result<T, EntryError>) -> Result<(), Error> {
-    match outcome {
-        Ok(_entry) => Ok(()),
-        Err(EntryError::Failed(e)) => Err(e),
-        Err(EntryError::TooLong(_n)) => Ok(()),
-    }
-}
-
 fn of_form<T: Drop>(outcome: Result<T, FormError>) -> Result<(), Error> {
     match outcome {
         Ok(_value) => Ok(()),
@@ -168,16 +151,18 @@ fn of_form<T: Drop>(outcome: Result<T, FormError>) -> Result<(), Error> {
 
 // More than a new vector has capacity for.
 #[test]
-fn allocating_storage(rt: HostRuntime) -> Result<(), Fail> {
+fn allocating_blocks(rt: HostRuntime) -> Result<(), Fail> {
     let alloc = rt.alloc();
-    let rt = &rt;
-    let mut entry = [0u8; 10004];
-    entry[2..4].copy_from_slice(&[0x90, 0x4e]);
-    let (mut block, mut log) = (&entry[2..], entry.as_slice());
-    let read = of_entry(frame::read(alloc, &mut block, 10000));
+    let mut entry = [0u8; 10005];
+    entry[3..5].copy_from_slice(&[0x90, 0x4e]);
+    let (mut block, mut log) = (&entry[3..], entry.as_slice());
+    let read = of_form(form::read::<Block<10000>, &[u8]>(alloc, &mut block));
     unless_failed(
-        succeeded(rt, &read)
-            && succeeded(rt, &of_entry(read_entry::<4, _>(alloc, &mut log, 10000))),
+        succeeded(&rt, &read)
+            && succeeded(
+                &rt,
+                &of_form(form::read::<LogEntry, &[u8]>(alloc, &mut log)),
+            ),
     )
 }
 
@@ -186,22 +171,28 @@ fn allocating_storage(rt: HostRuntime) -> Result<(), Fail> {
 fn allocating_claimed_length(rt: HostRuntime) -> Result<(), Fail> {
     let mut claimed = [128u8; 10009];
     claimed[8] = 64;
-    let outcome = of_entry(frame::read(rt.alloc(), &mut claimed.as_slice(), usize::MAX));
+    let read = form::read::<Block<{ usize::MAX }>, &[u8]>(rt.alloc(), &mut claimed.as_slice());
+    let outcome = of_form(read);
     unless_failed(is_passed_on(&outcome, "failed to fill whole buffer") || succeeded(&rt, &outcome))
+}
+
+fn up_to_the_end(alloc: Global, input: &[u8]) -> Result<(), Error> {
+    let mut list: Vec<Multihash<4>> = Vec::new(alloc);
+    of_form(Stream::new(input).read_up_to(alloc, usize::MAX, &mut list))
 }
 
 #[test]
 fn allocating_examples(rt: HostRuntime) -> Result<(), Fail> {
     let alloc = rt.alloc();
     let rt = &rt;
-    let (m, nine) = (content::hash_of::<32>(b"a"), [Multihash::<4>::default(); 9]);
+    let (m, nine) = (hash_of::<32>(b"a"), [Multihash::<4>::default(); 9]);
     let (input, mut out) = ([0u8; 18], [0u8; 36]);
     let mut counted = [0u8; 19];
     counted[0] = 9;
-    let (mut read, mut list, mut links) = (input.as_slice(), input.as_slice(), counted.as_slice());
+    let (mut list, mut links) = (input.as_slice(), counted.as_slice());
     let mut room = out.as_mut_slice();
     unless_failed(
-        succeeded(rt, &read_up_to::<4, _>(alloc, &mut read, usize::MAX))
+        succeeded(rt, &up_to_the_end(alloc, &input))
             && succeeded(
                 rt,
                 &list_through::<4, 4, _, _>(alloc, &nine, &mut room, &mut list),

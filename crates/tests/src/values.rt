@@ -1,7 +1,6 @@
 //! Values: what `Debug` prints, and traits that callers need.
 use crate::expect::{check, check_eq, expect_ok};
 use form::{Bytes, FormError, Number};
-use frame::FrameError;
 use multihash::{Head, Multihash, MultihashGeneric, no_std_io};
 use std::alloc::Global;
 use std::error::Error;
@@ -28,7 +27,7 @@ fn known_values_are_shown(rt: HostRuntime) {
     let lines = expect_ok!(rt; format!(in alloc; "{:#?}", cut.truncate(1)));
     let wanted = "Multihash {\n    code: 18,\n    size: 1,\n    digest: [\n        102,\n    ],\n}";
     check_eq!(rt; lines.as_str(), wanted);
-    have::<no_std_io::Error, FrameError, FormError, Head, Number, Bytes<1>>();
+    have::<no_std_io::Error, multihash::Error, FormError, Head, Number, Bytes<1>>();
     let long = expect_ok!(rt; Multihash::<64>::wrap(18, &[65; 64]));
     let digest = expect_ok!(rt; format!(in alloc; "size: 64, digest: {:?} }}", [65; 64]));
     let shown = expect_ok!(rt; format!(in alloc; "{long:?}"));

@@ -1,8 +1,8 @@
 use Rattle.form.specs.declared.error.FormError.TheVariants.{Failed}
 use Rattle.multihash.specs.Varint.{IsVarint}
 use Rattle.multihash.proofs.OutcomeLemmas.{passed_on}
-use Rattle.form.proofs.BothLemmas.{then_read}
-use Rattle.form.proofs.CaseLemmas.{tag_stops, value_stops, tag_is}
+use Rattle.form.proofs.BothLemmas.{number_is, then_read}
+use Rattle.form.proofs.CaseLemmas.{tag_stops, value_stops}
 use Rattle.form.proofs.FormLemmas.{varint_stops}
 use Rattle.form.proofs.choice.ChoiceForm.read.Goals as goal
 
@@ -36,5 +36,5 @@ returns-clause-ok g c =
     let C = g.C.Cases in
     let case = c.in_ok-case.case in
     let old = g.R.Read.rest c.args.r.now in
-    let tag = tag_is c.in_ok-tag.tag (C.tag_of case) old _ c.in_ok-case.ensures.tag c.in_ok-tag.ensures.ok in
+    let tag = number_is c.in_ok-tag.tag (C.tag_of case) old _ c.in_ok-case.ensures.tag c.in_ok-tag.ensures.ok in
     then_read (IsVarint (C.tag_of case)) (C.is_value case) old _ _ tag c.in_ok-case.ensures.ok

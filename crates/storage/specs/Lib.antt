@@ -1,3 +1,0 @@
-pub mod Content
-pub mod Formats
-pub mod Log
