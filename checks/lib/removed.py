@@ -8,7 +8,7 @@ from pathlib import Path
 
 PACKAGE = Path("bindings/rust/verified-multihash/src")
 # of the modules of formats, and of the others
-SOURCES = (("form/frame/", "crates/frame/src"), ("form/", "crates/form/src"), ("", "crates/multihash/src"))
+SOURCES = (("form/", "crates/form/src"), ("", "crates/multihash/src"))
 ADDED = re.compile(
     r"(?m)^ *(?:#!?\[|extern crate|(?:pub )?mod |(?:pub )?use (?:crate|values)::).*\n"
     r"|\bcrate::(?:\w+::)*|(?<=pub)\(crate\)|: super::values::Part\b|(?<=push|erve)_or_fail\b"

@@ -1,5 +1,6 @@
 -- Items, one after another: for `all_from_bytes` and `read_up_to`.
-use Rattle.std.proofs.Common.{◌≡◌, ℕ, ◌<◌, ◌⊎◌, inl, inr, List, [], ◌∷◌, ◌++◌, length, length-append, append_assoc, refl, sym, ap, ◌∙◌, arith}
+use Rattle.std.proofs.Common.{◌≡◌, ℕ, ◌<◌, ◌⊎◌, inl, inr, List, [], ◌∷◌, ◌++◌, length, length-append, append_assoc}
+use Rattle.std.proofs.Common.{refl, sym, ap, ◌∙◌, arith}
 use Rattle.multihash.specs.Streams.{AreParts}
 use Rattle.form.specs.Form.{AreSame}
 
@@ -43,7 +44,8 @@ parts_compared IsPart Same unique some (f ∷ found) [] a left bytes more (part,
         length-append bytes more,
       ),
     ))
-parts_compared IsPart Same unique some (f ∷ found) (x ∷ xs) a left bytes more (p, others, is_p, are, split) (q, rest, is_q, are_too, split_too) cut =
+parts_compared IsPart Same unique some (f ∷ found) (x ∷ xs) a left bytes more (p, others, is_p, are, split)
+    (q, rest, is_q, are_too, split_too) cut =
     let joined : p ++ (others ++ left) ≡ q ++ (rest ++ more) =
     sym (append_assoc p others left) ∙ ap (λ (l : List ℕ). l ++ left) (sym split) ∙ cut
     ∙ ap (λ (l : List ℕ). l ++ more) split_too ∙ append_assoc q rest more in

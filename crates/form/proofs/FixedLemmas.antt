@@ -1,5 +1,6 @@
 -- The bytes of a number of fixed size among the 8 bytes of a word.
-use Rattle.std.proofs.Common.{◌≡◌, ◌<◌, ◌≤◌, ◌+◌, ◌-◌, ◌*◌, ◌/◌, ◌^◌, ℕ, zero, suc, inl, inr, List, [], ◌∷◌, ◌++◌, length, sym, ap, ◌∙◌, subst, append-nil, arith}
+use Rattle.std.proofs.Common.{◌≡◌, ◌<◌, ◌≤◌, ◌+◌, ◌-◌, ◌*◌, ◌/◌, ◌^◌, ℕ, zero, suc, inl, inr, List, [], ◌∷◌, ◌++◌}
+use Rattle.std.proofs.Common.{length, sym, ap, ◌∙◌, subst, append-nil, arith}
 use Rattle.std.specs.Prelude.{take, drop}
 use Rattle.std.specs.Int.{byte_at, bytes_low_first, bytes_high_first, to_le_bytes, to_be_bytes, w64}
 use Rattle.std.proofs.Math.Nat.{div-lt_iff_lt-mul, one-le-pow, pow-suc}
@@ -22,17 +23,21 @@ low_split i (suc k) j n =
     subst (λ m. bytes_low_first i m n ≡ byte_at i n ∷ (bytes_low_first (suc i) k n ++ bytes_low_first (i + suc k) j n)) whole
     (ap (λ (l : List ℕ). byte_at i n ∷ l) (low_split (suc i) k j n ∙ ap (λ l. bytes_low_first (suc i) k n ++ l) next))
 
+low_parts : (N n : ℕ) → N ≤ 8 → to_le_bytes w64 n ≡ bytes_low_first 0 N n ++ bytes_low_first (0 + N) (8 - N) n
+low_parts N n fits =
+    let whole : N + (8 - N) ≡ 8 = omega (arith, fits) in
+    subst (λ m. bytes_low_first 0 m n ≡ bytes_low_first 0 N n ++ bytes_low_first (0 + N) (8 - N) n) whole
+    (low_split 0 N (8 - N) n)
+
 -- the lowest N of 8 bytes
 pub low_front : (N n : ℕ) → N ≤ 8 → take N (to_le_bytes w64 n) ≡ bytes_low_first 0 N n
 low_front N n fits =
-    let whole : N + (8 - N) ≡ 8 = omega (arith, fits) in
-    ap (take N) (subst (λ m. bytes_low_first 0 m n ≡ bytes_low_first 0 N n ++ bytes_low_first (0 + N) (8 - N) n) whole (low_split 0 N (8 - N) n))
+    ap (take N) (low_parts N n fits)
     ∙ take_at (bytes_low_first 0 N n) (bytes_low_first (0 + N) (8 - N) n) N (low_length 0 N n)
 
 low_back : (N n : ℕ) → N ≤ 8 → drop N (to_le_bytes w64 n) ≡ bytes_low_first (0 + N) (8 - N) n
 low_back N n fits =
-    let whole : N + (8 - N) ≡ 8 = omega (arith, fits) in
-    ap (drop N) (subst (λ m. bytes_low_first 0 m n ≡ bytes_low_first 0 N n ++ bytes_low_first (0 + N) (8 - N) n) whole (low_split 0 N (8 - N) n))
+    ap (drop N) (low_parts N n fits)
     ∙ drop_at (bytes_low_first 0 N n) (bytes_low_first (0 + N) (8 - N) n) N (low_length 0 N n)
 
 high_drop : (j k n : ℕ) → drop j (bytes_high_first (j + k) n) ≡ bytes_high_first k n
@@ -91,13 +96,15 @@ module _ (N k n : ℕ) (buf : List ℕ) (fits : N ≤ 8) (below : n < 2 ^ 64) (l
   low_read whole =
       let word = put_mid 0 k zeros buf in
       let front : take N word ≡ buf = take-put_mid 0 k zeros buf N (omega (arith, long)) (omega arith) in
-      let back : drop N word ≡ drop N (to_le_bytes w64 0) = drop-put_mid 0 k zeros buf N (omega (arith, same)) (omega arith) (omega (arith, long, same)) in
+      let back : drop N word ≡ drop N (to_le_bytes w64 0) =
+      drop-put_mid 0 k zeros buf N (omega (arith, same)) (omega arith) (omega (arith, long, same)) in
       let eight : N + (8 - N) ≡ 8 = omega (arith, fits) in
       let high : bytes_low_first (0 + N) (8 - N) n ≡ bytes_low_first (0 + N) (8 - N) 0 =
       sym (low_back N n fits) ∙ ap (drop N) whole ∙ back ∙ low_back N 0 fits in (
         sym front ∙ ap (take N) (sym whole) ∙ low_front N n fits,
         in_range (8 - N) N n (subst (λ m. n < 256 ^ m) (sym eight) below)
-            (λ i from to. low_at (0 + N) (8 - N) n 0 high i (omega (arith, from)) (omega (arith, to)) ∙ no_byte 0 0 i (omega arith) (omega arith)),
+            (λ i from to. low_at (0 + N) (8 - N) n 0 high i (omega (arith, from)) (omega (arith, to))
+            ∙ no_byte 0 0 i (omega arith) (omega arith)),
       )
 
   -- the bytes are at the end

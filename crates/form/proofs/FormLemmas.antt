@@ -15,7 +15,8 @@ use Rattle.multihash.proofs.VarintLemmas.{number_no_error}
 use Rattle.multihash.proofs.SettlingLemmas.{late_settles, none_settles, incomplete_not_settles, verdict_kept}
 use Rattle.multihash.proofs.ReadConsumingLemmas.{incomplete_error}
 use Rattle.multihash.proofs.CallingLemmas.{front_error_unique, incomplete_or_not}
-use Rattle.multihash.specs.Consuming.{FailsBy, ExactFails, ReadFails, ConsumesAtVarintError, ConsumesShortestSettling, ConsumesNothingSettling, EndsOrFails}
+use Rattle.multihash.specs.Consuming.{FailsBy, ExactFails, ReadFails, ConsumesAtVarintError, ConsumesShortestSettling}
+use Rattle.multihash.specs.Consuming.{ConsumesNothingSettling, EndsOrFails}
 use Rattle.multihash.proofs.ReadingLemmas.{all_read, Consumes-none}
 use Rattle.form.specs.FormError.{IsFailed, IsTruncated}
 use Rattle.form.specs.RejectLaws.{malformed_kept}
@@ -28,7 +29,8 @@ use Rattle.form.specs.declared.error.FormError.TheVariants.{Failed}
 -- an input that ends within a varint shows no error
 not_shown : (x : List ℕ) → IsInsufficient x → (e : Refusal) → ShowsMalformed e x → ⊥
 not_shown x ends e (error, named, whole, bad) =
-    let same : of_varint insufficient ≡ e = front_error_unique x (of_varint insufficient) e (insufficient, refl, ends) (error, named, bad) in
+    let same : of_varint insufficient ≡ e =
+    front_error_unique x (of_varint insufficient) e (insufficient, refl, ends) (error, named, bad) in
     let both : of_varint insufficient ≡ of_varint error = same ∙ named in
     whole (cc)
 
@@ -62,7 +64,8 @@ varint_stops before after e (Some input) new cause c = inr (record {
     | inl (up, own) ↦ inr (inl (up, insufficient_undecided c.consumed (c.failed own)))
     | inr (same, (insufficient, named)) ↦ inr (inr (
       (e, refl, inl named),
-      insufficient_undecided input (subst IsInsufficient (sym (all_read input c.consumed new c.consumes (c.all named))) (c.shows insufficient named)),
+      insufficient_undecided input
+      (subst IsInsufficient (sym (all_read input c.consumed new c.consumes (c.all named))) (c.shows insufficient named)),
     ))
     | inr (same, (overflow, named)) ↦ inl (rejects_malformed overflow e (Some input) new c named (λ is. cc))
     | inr (same, (not_minimal, named)) ↦ inl (rejects_malformed not_minimal e (Some input) new c named (λ is. cc))
@@ -87,7 +90,8 @@ module _ (S : ℕ) where
       → IsShortestSettling S input front → RejectsMultihash S (Failed e) front
   settled_shows input front e v has late names x =
       let (rest, cut) = x.begins in
-      let own = subst (λ (z : List ℕ). HasVerdict S z x.settles.verdict) (append-nil front) (x.settles.always [] (λ k d few. absurd (omega (arith, few)))) in
+      let own = subst (λ (z : List ℕ). HasVerdict S z x.settles.verdict) (append-nil front)
+      (x.settles.always [] (λ k d few. absurd (omega (arith, few)))) in
       let stays : ¬ (IsIncomplete x.settles.verdict) = λ soon. incomplete_not_settles S front x.settles.verdict soon own x.settles in
       let same : x.settles.verdict ≡ v = verdict_unique S input x.settles.verdict v
       (subst (λ (z : List ℕ). HasVerdict S z x.settles.verdict) (sym cut) (verdict_kept S front rest x.settles.verdict stays own)) has in (
@@ -95,7 +99,8 @@ module _ (S : ℕ) where
         refl,
         record {
           holds = (v, subst (HasVerdict S front) same own, late, names);
-          shortest = λ shorter strict shown. let (w, also, whole, _) = shown in x.shortest shorter strict (late_settles S shorter w whole also);
+          shortest = λ shorter strict shown. let (w, also, whole, _) = shown in
+              x.shortest shorter strict (late_settles S shorter w whole also);
         },
       )
 
@@ -109,7 +114,8 @@ module _ (S : ℕ) where
       consumes = none.consumes;
       cause = inr (inl (up, unsettled_undecided none.consumed none.unsettled));
     }
-    | inr (same, _) ↦ by_verdict (r.verdict same).0 (r.verdict same).1 (r.verdict same).2 (incomplete_or_not (r.verdict same).0) (r.settled same) r.unsettled
+    | inr (same, _) ↦ by_verdict (r.verdict same).0 (r.verdict same).1 (r.verdict same).2 (incomplete_or_not (r.verdict same).0)
+    (r.settled same) r.unsettled
   ])
     where
       by_verdict : (v : Verdict) → HasVerdict S input v → IsErrorOf e v → IsIncomplete v ⊎ (¬ (IsIncomplete v))
@@ -145,7 +151,8 @@ exact_stops IsForm Rejects n before after e (Some input) new undecided f = inr (
 
 -- no input decides
 pub undecided_stops : {A : Type 0} (IsForm : A → List ℕ → Type 0) (Rejects : FormError → List ℕ → Type 0) (before : ℕ) (e : FormError)
-    (old : Option (List ℕ)) → ((x : List ℕ) → IsUndecided IsForm Rejects x) → IsFailed IsTruncated e → ReadStops IsForm Rejects before before e old old
+    (old : Option (List ℕ)) → ((x : List ℕ) → IsUndecided IsForm Rejects x) → IsFailed IsTruncated e
+        → ReadStops IsForm Rejects before before e old old
 undecided_stops IsForm Rejects before e None undecided ends = inr tt
 undecided_stops IsForm Rejects before e (Some input) undecided ends =
     inr (record { consumed = []; consumes = Consumes-none (Some input); cause = inr (inr (ends, undecided input)) })

@@ -1,5 +1,6 @@
 -- Two parts, one after the other, of which one was not read: for `read` of the parts, and for `Stream`.
-use Rattle.std.proofs.Common.{◌≡◌, ℕ, zero, suc, ◌<◌, inl, inr, List, [], ◌∷◌, ◌++◌, length, length-append, Option, Some, refl, sym, ap, subst, ◌∙◌, append_assoc, append-nil, arith}
+use Rattle.std.proofs.Common.{◌≡◌, ℕ, zero, suc, ◌<◌, inl, inr, List, [], ◌∷◌, ◌++◌, length, length-append, Option}
+use Rattle.std.proofs.Common.{Some, refl, sym, ap, subst, ◌∙◌, append_assoc, append-nil, arith}
 use Rattle.std.specs.Prelude.{None, IfSome}
 use Rattle.std.specs.Io.KnownBytes.{prepend_known}
 use Rattle.multihash.specs.Varint.{IsVarint}
@@ -15,8 +16,10 @@ use Rattle.form.specs.declared.error.FormError.{FormError}
 
 -- reading failed: the same in other words
 pub stops_as : {A B : Type 0} (IsA : A → List ℕ → Type 0) (IsB : B → List ℕ → Type 0) (RejectsA RejectsB : FormError → List ℕ → Type 0)
-    → ((y : B) (bytes : List ℕ) → IsB y bytes → (x : A) × IsA x bytes) → ((e : FormError) (bytes : List ℕ) → RejectsA e bytes → RejectsB e bytes)
-    → ((e : FormError) (bytes : List ℕ) → RejectsB e bytes → RejectsA e bytes) → (before after : ℕ) (e : FormError) (old new : Option (List ℕ))
+    → ((y : B) (bytes : List ℕ) → IsB y bytes → (x : A) × IsA x bytes)
+    → ((e : FormError) (bytes : List ℕ) → RejectsA e bytes → RejectsB e bytes)
+    → ((e : FormError) (bytes : List ℕ) → RejectsB e bytes → RejectsA e bytes)
+    → (before after : ℕ) (e : FormError) (old new : Option (List ℕ))
     → ReadStops IsA RejectsA before after e old new → ReadStops IsB RejectsB before after e old new
 stops_as IsA IsB RejectsA RejectsB form to of before after e old new (inl memory) = inl memory
 stops_as IsA IsB RejectsA RejectsB form to of before after e None new (inr s) = inr tt
@@ -80,7 +83,8 @@ module _ {A B C : Type 0} (IsFirst : A → List ℕ → Type 0) (RejectsFirst : 
     cause = inl (inr (x, record { first = c; second = []; is_first = is_c; is_second = rejects; parts = sym (append-nil c) }));
   })
 
-  module _ (Same : A → A → Type 0) (unique : (x y : A) (a b r s : List ℕ) → IsFirst x a → IsFirst y b → a ++ r ≡ b ++ s → Same x y × (r ≡ s))
+  module _ (Same : A → A → Type 0)
+      (unique : (x y : A) (a b r s : List ℕ) → IsFirst x a → IsFirst y b → a ++ r ≡ b ++ s → Same x y × (r ≡ s))
       (not_both : (x : A) (e : FormError) (a b r s : List ℕ) → IsFirst x a → RejectsFirst e b → a ++ r ≡ b ++ s → ⊥)
       (respects : (x y : A) (bytes : List ℕ) → Same x y → IsUndecided (IsNext x) (RejectsNext x) bytes
       → IsUndecided (IsNext y) (RejectsNext y) bytes) where
@@ -88,17 +92,20 @@ module _ {A B C : Type 0} (IsFirst : A → List ℕ → Type 0) (RejectsFirst : 
         → IsUndecided IsForm (RejectsInTurn IsFirst RejectsFirst RejectsNext) (c ++ bytes)
     next_undecided x c bytes is_c u = record {
       no_form = λ y front rest cut is. let (x2, z, t) = split y front is in
-          let told = unique x x2 c t.first bytes (t.second ++ rest) is_c t.is_first (regroup (c ++ bytes) t.first t.second front rest t.parts cut) in
+          let told = unique x x2 c t.first bytes (t.second ++ rest) is_c t.is_first
+          (regroup (c ++ bytes) t.first t.second front rest t.parts cut) in
           (respects x x2 bytes told.0 u).no_form z t.second rest told.1 t.is_second;
       no_error = λ e front rest cut rejects. elim rejects [
         | inl first ↦ not_both x e c front bytes rest is_c first cut
         | inr (x2, t) ↦
-            let told = unique x x2 c t.first bytes (t.second ++ rest) is_c t.is_first (regroup (c ++ bytes) t.first t.second front rest t.parts cut) in
+            let told = unique x x2 c t.first bytes (t.second ++ rest) is_c t.is_first
+            (regroup (c ++ bytes) t.first t.second front rest t.parts cut) in
             (respects x x2 bytes told.0 u).no_error e t.second rest told.1 t.is_second
       ];
     }
 
-    after_first : (x : A) (before middle after : ℕ) (e : FormError) (input c left : List ℕ) (new : Option (List ℕ)) → middle ≡ before → IsFirst x c
+    after_first : (x : A) (before middle after : ℕ) (e : FormError) (input c left : List ℕ) (new : Option (List ℕ)) → middle ≡ before
+        → IsFirst x c
         → Consumes (Some input) c (Some left) → input ≡ c ++ left → StopsAt (IsNext x) (RejectsNext x) (middle < after) e left new
         → StopsAt IsForm (RejectsInTurn IsFirst RejectsFirst RejectsNext) (before < after) e input new
     after_first x before middle after e input c left new same is_c consumes cut s = record {
@@ -128,7 +135,8 @@ module _ {A B C : Type 0} (IsFirst : A → List ℕ → Type 0) (RejectsFirst : 
         (subst (λ (o : Option (List ℕ)). IfSome o (λ rest. StopsAt (IsNext x) (RejectsNext x) (middle < after) e rest new)) is_left s))
 
 -- a number was read, and what follows it was not
-pub from_stops : {B C : Type 0} (RejectsNext : ℕ → FormError → List ℕ → Type 0) (IsNext : ℕ → C → List ℕ → Type 0) (IsForm : B → List ℕ → Type 0)
+pub from_stops : {B C : Type 0} (RejectsNext : ℕ → FormError → List ℕ → Type 0) (IsNext : ℕ → C → List ℕ → Type 0) 
+    (IsForm : B → List ℕ → Type 0)
     → ((y : B) (bytes : List ℕ) → IsForm y bytes → (n : ℕ) × (z : C) × Then (IsVarint n) (IsNext n z) bytes)
     → (n before middle after : ℕ) (e : FormError) (old mid new : Option (List ℕ)) → middle ≡ before → ConsumesSome (IsVarint n) old mid
     → ReadStops (IsNext n) (RejectsNext n) middle after e mid new → ReadStops IsForm (RejectsNumberThen RejectsNext) before after e old new
@@ -147,10 +155,12 @@ items_split IsPart n (x ∷ xs) bytes (long, (a, b, is_a, are_b, cut)) =
 pub items_stop : {A : Type 0} (IsPart : A → List ℕ → Type 0) (Rejects : FormError → List ℕ → Type 0) (Same : A → A → Type 0)
     → ((x y : A) (a b r s : List ℕ) → IsPart x a → IsPart y b → a ++ r ≡ b ++ s → Same x y × (r ≡ s))
     → ((x : A) (e : FormError) (a b r s : List ℕ) → IsPart x a → Rejects e b → a ++ r ≡ b ++ s → ⊥)
-    → (found : List A) (n : ℕ) (c : List ℕ) (before middle after : ℕ) (e : FormError) (old mid new : Option (List ℕ)) → AreParts IsPart found c
+    → (found : List A) (n : ℕ) (c : List ℕ) (before middle after : ℕ) (e : FormError) (old mid new : Option (List ℕ))
+    → AreParts IsPart found c
     → length found < n → middle ≡ before → Consumes old c mid → ReadStops IsPart Rejects middle after e mid new
     → ReadStops (AreItems IsPart n) (RejectsItem IsPart Rejects n) before after e old new
-items_stop IsPart Rejects Same unique not_both [] zero c before middle after e old mid new are few same consumes stops = absurd (omega (arith, few))
+items_stop IsPart Rejects Same unique not_both [] zero c before middle after e old mid new are few same consumes stops =
+    absurd (omega (arith, few))
 items_stop IsPart Rejects Same unique not_both (f ∷ found) zero c before middle after e old mid new are few same consumes stops =
     absurd (omega (arith, few))
 items_stop IsPart Rejects Same unique not_both [] (suc n) c before middle after e old mid new none few same consumes stops =
@@ -159,15 +169,19 @@ items_stop IsPart Rejects Same unique not_both [] (suc n) c before middle after 
     before after e old new
     (subst (λ (k : ℕ). ReadStops IsPart Rejects k after e old new) same
     (subst (λ (o : Option (List ℕ)). ReadStops IsPart Rejects middle after e o new) back stops))
-items_stop IsPart Rejects Same unique not_both (f ∷ found) (suc n) c before middle after e old mid new (p, others, is_p, are, cut) few same consumes stops =
+items_stop IsPart Rejects Same unique not_both (f ∷ found) (suc n) c before middle after e old mid new
+    (p, others, is_p, are, cut) few same consumes stops =
     let between : Option (List ℕ) = prepend_known others mid in
-    let start : Consumes old p between = consumes ∙ ap (λ (l : List ℕ). prepend_known l mid) cut ∙ sym (prepend_known-append p others mid) in
+    let start : Consumes old p between = consumes ∙ ap (λ (l : List ℕ). prepend_known l mid) cut
+    ∙ sym (prepend_known-append p others mid) in
     next_stops IsPart Rejects (λ _. RejectsItem IsPart Rejects n) (λ _. AreItems IsPart n) (AreItems IsPart (suc n)) (items_split IsPart n)
     Same unique not_both (λ x y bytes _ u. u) f before before after e old between new refl (p, is_p, start)
-    (items_stop IsPart Rejects Same unique not_both found n others before middle after e between mid new are (omega (arith, few)) same refl stops)
+    (items_stop IsPart Rejects Same unique not_both found n others before middle after e between mid new are
+    (omega (arith, few)) same refl stops)
 
 -- the same before calls that counted no failure and consumed nothing
-pub stops_later : {A : Type 0} (IsForm : A → List ℕ → Type 0) (Rejects : FormError → List ℕ → Type 0) (before middle after : ℕ) (e : FormError)
+pub stops_later : {A : Type 0} (IsForm : A → List ℕ → Type 0) (Rejects : FormError → List ℕ → Type 0)
+    (before middle after : ℕ) (e : FormError)
     (old mid new : Option (List ℕ)) → middle ≡ before → mid ≡ old → ReadStops IsForm Rejects middle after e mid new
     → ReadStops IsForm Rejects before after e old new
 stops_later IsForm Rejects before middle after e old mid new same kept stops =
@@ -176,8 +190,10 @@ stops_later IsForm Rejects before middle after e old mid new same kept stops =
 
 -- the reader failed, and nothing was consumed
 pub nothing_stops : {A : Type 0} (IsForm : A → List ℕ → Type 0) (Rejects : FormError → List ℕ → Type 0)
-    → ((x : A) (bytes : List ℕ) → IsForm x bytes → 0 < length bytes) → ((e : FormError) (bytes : List ℕ) → Rejects e bytes → 0 < length bytes)
-    → (before after : ℕ) (e : FormError) (old new : Option (List ℕ)) → before < after → new ≡ old → ReadStops IsForm Rejects before after e old new
+    → ((x : A) (bytes : List ℕ) → IsForm x bytes → 0 < length bytes)
+    → ((e : FormError) (bytes : List ℕ) → Rejects e bytes → 0 < length bytes)
+    → (before after : ℕ) (e : FormError) (old new : Option (List ℕ)) → before < after → new ≡ old
+    → ReadStops IsForm Rejects before after e old new
 nothing_stops IsForm Rejects some rejects_some before after e None new failed kept = inr tt
 nothing_stops IsForm Rejects some rejects_some before after e (Some input) new failed kept = inr (record {
   consumed = [];

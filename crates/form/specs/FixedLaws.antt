@@ -49,8 +49,10 @@ no_byte N n (suc i) below from =
 
 -- numbers of the same 8 bytes are equal
 same_number : (x y : ℕ) → x < 2 ^ 64 → y < 2 ^ 64 → ((i : ℕ) → i < 8 → byte_at i x ≡ byte_at i y) → x ≡ y
-same_number x y x_fits y_fits same =
-    let bytes : to_le_bytes w64 x ≡ to_le_bytes w64 y = cc (same 0 (omega arith), same 1 (omega arith), same 2 (omega arith), same 3 (omega arith), same 4 (omega arith), same 5 (omega arith), same 6 (omega arith), same 7 (omega arith)) in
+same_number x y x_fits y_fits at =
+    let bytes : to_le_bytes w64 x ≡ to_le_bytes w64 y =
+    cc (at 0 (omega arith), at 1 (omega arith), at 2 (omega arith), at 3 (omega arith), at 4 (omega arith), at 5 (omega arith),
+    at 6 (omega arith), at 7 (omega arith)) in
     sym (from_le_bytes-to_le_bytes_8 x x_fits) ∙ ap (from_le_bytes w64) bytes ∙ from_le_bytes-to_le_bytes_8 y y_fits
 
 word : (N n : ℕ) → N ≤ 8 → n < 256 ^ N → n < 2 ^ 64

@@ -1,6 +1,7 @@
 -- The laws of what is rejected: none of it is at the start of an input that starts with an encoding, and an input has
 -- only one error, which is shown at one place.
-use Rattle.std.proofs.Common.{◌≡◌, ◌<◌, ◌≤◌, inl, inr, ℕ, zero, suc, List, [], ◌∷◌, ◌++◌, length, refl, sym, ap, ◌∙◌, append_assoc, append-nil, subst, arith}
+use Rattle.std.proofs.Common.{◌≡◌, ◌<◌, ◌≤◌, inl, inr, ℕ, zero, suc, List, [], ◌∷◌, ◌++◌, length, refl, sym, ap, ◌∙◌}
+use Rattle.std.proofs.Common.{append_assoc, append-nil, subst, arith}
 use Rattle.multihash.specs.Pair.{Pair, FitsBuffer}
 use Rattle.multihash.specs.Varint.{VarintError, insufficient, overflow, not_minimal, IsVarint, IsInsufficient}
 use Rattle.multihash.specs.Verdict.{malformed, IsIncomplete}
@@ -16,7 +17,8 @@ use Rattle.multihash.proofs.CallingLemmas.{front_error_unique, encoding_no_error
 use Rattle.form.specs.Form.{Then, IsBlock}
 use Rattle.form.specs.FormLaws.{then_unique, then_some}
 use Rattle.form.specs.PartLaws.{number_unique, number_some}
-use Rattle.form.specs.Rejecting.{IsShortest, ShowsMalformed, ShowsError, RejectsNumber, RejectsMultihash, RejectsInTurn, RejectsNumberThen, RejectsItem, RejectsOtherTag, RejectsTooLong, RejectsCounted}
+use Rattle.form.specs.Rejecting.{IsShortest, ShowsMalformed, ShowsError, RejectsNumber, RejectsMultihash, RejectsInTurn}
+use Rattle.form.specs.Rejecting.{RejectsNumberThen, RejectsItem, RejectsOtherTag, RejectsTooLong, RejectsCounted}
 use Rattle.form.specs.declared.error.FormError.{FormError}
 use Rattle.form.specs.declared.error.FormError.TheVariants.{Failed, TooMany, TooLong, OtherTag}
 
@@ -61,7 +63,8 @@ pub number_rejects_some : (e : FormError) (bytes : List ℕ) → RejectsNumber e
 number_rejects_some e (x ∷ bytes) rejects = omega arith
 number_rejects_some e [] (cause, _, x) =
     let (error, named, whole, bad) = x.holds in
-    let same : of_varint insufficient ≡ cause = front_error_unique [] (of_varint insufficient) cause (insufficient, refl, nothing) (error, named, bad) in
+    let same : of_varint insufficient ≡ cause =
+    front_error_unique [] (of_varint insufficient) cause (insufficient, refl, nothing) (error, named, bad) in
     let both : of_varint insufficient ≡ of_varint error = same ∙ named in
     absurd (whole (cc))
 
@@ -122,7 +125,8 @@ module _ {A E : Type 0} (IsFirst : A → List ℕ → Type 0) (RejectsFirst : E 
   turn_not_both IsNext x e next a b r s t (inl first) cut =
       not_both x e t.first b (t.second ++ r) s t.is_first first (regroup t.first t.second r a (b ++ s) t.parts cut)
   turn_not_both IsNext x e next a b r s t (inr (y, u)) cut =
-      (then_unique (Same x y) ⊥ (unique x y) (λ same c d q p is rejects split. absurd (next y same c d q p is rejects split)) a b r s t u cut).0.1
+      (then_unique (Same x y) ⊥ (unique x y)
+      (λ same c d q p is rejects split. absurd (next y same c d q p is rejects split)) a b r s t u cut).0.1
 
   pub turn_unique : (e f : E) → ((a b r s : List ℕ) → RejectsFirst e a → RejectsFirst f b → a ++ r ≡ b ++ s → (e ≡ f) × (r ≡ s))
       → ((x y : A) → Same x y → (a b r s : List ℕ) → RejectsNext x e a → RejectsNext y f b → a ++ r ≡ b ++ s → (e ≡ f) × (r ≡ s))
@@ -138,7 +142,8 @@ module _ {A E : Type 0} (IsFirst : A → List ℕ → Type 0) (RejectsFirst : E 
 
 -- ---- a number, and what follows it
 
-pub from_rejects_some : (RejectsNext : ℕ → FormError → List ℕ → Type 0) (e : FormError) (bytes : List ℕ) → RejectsNumberThen RejectsNext e bytes
+pub from_rejects_some : (RejectsNext : ℕ → FormError → List ℕ → Type 0) (e : FormError) (bytes : List ℕ)
+    → RejectsNumberThen RejectsNext e bytes
     → 0 < length bytes
 from_rejects_some RejectsNext e bytes (inl rejects) = number_rejects_some e bytes rejects
 from_rejects_some RejectsNext e bytes (inr (n, t)) = then_some (number_some n) bytes t
@@ -183,12 +188,14 @@ pub here_unique : (g e f : FormError) (a b r s : List ℕ) → e ≡ g → f ≡
 here_unique g e f a b r s is also none empty cut =
     (is ∙ sym also, sym (ap (λ (l : List ℕ). l ++ r) none) ∙ cut ∙ ap (λ (l : List ℕ). l ++ s) empty)
 
-pub tag_not_both : (N : ℕ) (e : FormError) (a b r s : List ℕ) → IsVarint N a → RejectsNumberThen (RejectsOtherTag N) e b → a ++ r ≡ b ++ s → ⊥
+pub tag_not_both : (N : ℕ) (e : FormError) (a b r s : List ℕ) → IsVarint N a
+    → RejectsNumberThen (RejectsOtherTag N) e b → a ++ r ≡ b ++ s → ⊥
 tag_not_both N e a b r s is =
     from_not_both (RejectsOtherTag N) (λ c. c ≡ []) N e (λ c d p q _ rejects _. rejects.0 refl) a b r s
     (record { first = a; second = []; is_first = is; is_second = refl; parts = sym (append-nil a) })
 
-pub tag_rejects_unique : (N : ℕ) (e f : FormError) (a b r s : List ℕ) → RejectsNumberThen (RejectsOtherTag N) e a → RejectsNumberThen (RejectsOtherTag N) f b
+pub tag_rejects_unique : (N : ℕ) (e f : FormError) (a b r s : List ℕ) → RejectsNumberThen (RejectsOtherTag N) e a
+    → RejectsNumberThen (RejectsOtherTag N) f b
     → a ++ r ≡ b ++ s → (e ≡ f) × (r ≡ s)
 tag_rejects_unique N e f = from_unique (RejectsOtherTag N) e f
     (λ n a b r s x y. here_unique (OtherTag n) e f a b r s x.1 y.1 x.2 y.2)
@@ -199,7 +206,8 @@ block_not_both MAX n block long within e =
     from_not_both (RejectsTooLong MAX) (λ c. c ≡ block) (length block) e
     (λ c d p q _ rejects _. omega (arith, rejects.0, long, within))
 
-pub block_rejects_unique : (MAX : ℕ) (e f : FormError) (a b r s : List ℕ) → RejectsNumberThen (RejectsTooLong MAX) e a → RejectsNumberThen (RejectsTooLong MAX) f b
+pub block_rejects_unique : (MAX : ℕ) (e f : FormError) (a b r s : List ℕ) → RejectsNumberThen (RejectsTooLong MAX) e a
+    → RejectsNumberThen (RejectsTooLong MAX) f b
     → a ++ r ≡ b ++ s → (e ≡ f) × (r ≡ s)
 block_rejects_unique MAX e f = from_unique (RejectsTooLong MAX) e f
     (λ n a b r s x y. here_unique (TooLong n) e f a b r s x.1 y.1 x.2 y.2)
@@ -220,7 +228,8 @@ module _ {A : Type 0} (IsPart : A → List ℕ → Type 0) (Rejects : FormError 
       → RejectsNumberThen (RejectsCounted IsPart Rejects MAX) f b → a ++ r ≡ b ++ s → (e ≡ f) × (r ≡ s)
   counted_rejects_unique one e f = from_unique (RejectsCounted IsPart Rejects MAX) e f next
     where
-      next : (n : ℕ) (a b r s : List ℕ) → RejectsCounted IsPart Rejects MAX n e a → RejectsCounted IsPart Rejects MAX n f b → a ++ r ≡ b ++ s
+      next : (n : ℕ) (a b r s : List ℕ) → RejectsCounted IsPart Rejects MAX n e a → RejectsCounted IsPart Rejects MAX n f b
+          → a ++ r ≡ b ++ s
           → (e ≡ f) × (r ≡ s)
       next n a b r s (inl x) (inl y) cut = here_unique (TooMany n) e f a b r s x.1 y.1 x.2 y.2 cut
       next n a b r s (inl x) (inr y) cut = absurd (omega (arith, x.0, y.0))

@@ -1,7 +1,6 @@
 // Made by tools/generate rust.
 #![cfg_attr(any(feature = "std", not(doctest)), doc = include_str!("../FORMATS.md"))]
 use crate::rattle::{std, *};
-pub mod frame;
 #[doc(hidden)]
 pub mod values;
 

@@ -4,10 +4,16 @@ use crate::rattle::{std, *};
 
 use crate::form::{Form, FormError};
 use crate::no_std_io::{Read, Write};
+use crate::varint;
 
-/// At most `MAX` bytes. The encoding is the frame of the crate `frame`: the varint of their number, and the bytes.
+// The most bytes that are read at once.
+const CHUNK: usize = 256;
+
+/// At most `MAX` bytes. The encoding is the varint of their number, and the bytes.
 ///
-/// `read` returns the errors of [`crate::form::frame::read`]: [`FormError::TooLong`] with the length if that is above `MAX`.
+/// `read` returns the errors of [`varint::read`], [`FormError::TooLong`] with the length if that is above `MAX`, an
+/// unexpected end within the block, and out of memory. Memory grows with the bytes that arrive: a length that is only
+/// claimed allocates 256 bytes at most.
 #[derive(Clone, Debug, PartialEq, Eq, PartialOrd, Ord, Hash)]
 pub struct Block<const MAX: usize> {
     /// The bytes.
@@ -31,12 +37,31 @@ impl<const MAX: usize> Block<MAX> {
 
 impl<const MAX: usize> Form for Block<MAX> {
     fn write<W: Write>(&self, w: &mut W) -> Result<(), FormError> {
-        crate::form::frame::write(&self.bytes, w)?;
+        varint::write(self.bytes.len() as u64, w)?;
+        w.write_all(&self.bytes)?;
         Ok(())
     }
 
     fn read<R: Read>(r: &mut R) -> Result<Self, FormError> {
-        let bytes = crate::form::frame::read(r, MAX)?;
+        let len = varint::read(r)?;
+        if len > MAX as u64 {
+            return Err(FormError::TooLong(len));
+        }
+        let bytes = read_bytes(r, len as usize)?;
         Ok(Block { bytes })
     }
+}
+
+// Reads that many bytes.
+fn read_bytes<R: Read>(r: &mut R, len: usize) -> Result<Vec<u8>, FormError> {
+    use crate::rattle::fallible::Vec;
+    let mut bytes = Vec::new();
+    let mut chunk = [0; CHUNK];
+    while bytes.len() < len {
+        let more = (len - bytes.len()).min(CHUNK);
+        bytes.reserve_or_fail(more)?;
+        r.read_exact(&mut chunk[..more])?;
+        bytes.write_all(&chunk[..more]).unwrap();
+    }
+    Ok(bytes)
 }

@@ -2,7 +2,6 @@
 // Made by tools/generate rust.
 use crate::rattle::{std, *};
 
-use crate::form::frame::FrameError;
 use crate::{Error, no_std_io};
 use std::alloc::{AllocError, AllocFailed};
 use std::fmt;
@@ -57,15 +56,6 @@ impl From<Error> for FormError {
 impl From<no_std_io::Error> for FormError {
     fn from(e: no_std_io::Error) -> Self {
         FormError::Failed(Error::from(e))
-    }
-}
-
-impl From<FrameError> for FormError {
-    fn from(e: FrameError) -> Self {
-        match e {
-            FrameError::Failed(e) => FormError::Failed(e),
-            FrameError::TooLong(n) => FormError::TooLong(n),
-        }
     }
 }
 

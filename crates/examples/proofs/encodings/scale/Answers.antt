@@ -11,7 +11,8 @@ returns-in_err-back c =
     let form = c.in_ok-scale_encode.ensures.ok in
     let input : c.as_slice.result.now ≡ form.0 = search rules in
     let found = c.in_err-back.ensures.verdict refl in
-    absurd (scale_taken 64 (pair_of m) _ form.0 [] found.0 _ (input ∙ sym (append-nil form.0)) form.1 (omega (arith, digest_fits m)) found.1 found.2)
+    absurd (scale_taken 64 (pair_of m) _ form.0 [] found.0 _ (input ∙ sym (append-nil form.0)) form.1
+    (omega (arith, digest_fits m)) found.1 found.2)
 
 pub returns : goal.returns
 returns c =

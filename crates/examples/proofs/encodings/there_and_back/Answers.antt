@@ -20,5 +20,6 @@ returns c =
     let m = c.in_ok-multihash.multihash in
     let own = c.in_ok-bytes.ensures.ok in
     let encodes = subst (IsEncoding (pair_of m)) (sym c.deref.ensures.value) own in
-    let same : pair_of c.in_ok-back.back ≡ pair_of m = from_bytes_of_encoding 64 (pair_of m) _ (Ok c.in_ok-back.back) v.0 v.1 v.2 encodes (digest_fits m) in
+    let same : pair_of c.in_ok-back.back ≡ pair_of m = from_bytes_of_encoding 64 (pair_of m) _ (Ok c.in_ok-back.back) v.0 v.1 v.2 encodes
+    (digest_fits m) in
     (subst (λ p. IsEncoding p c.in_ok-bytes.bytes.items) (sym same) own, same ∙ c.in_ok-multihash.ensures.ok)

@@ -19,7 +19,8 @@ next : (g : given.Over) (c : After-item-item g) (e others : List ℕ) → g.T.Fo
 next g c e others encodes h =
     let items = c.args.items.now in
     let i = c.loop-item.item-index in
-    let cut = drop_more items i c.item-item.result c.loop-item-test.true ∙ ap (λ (m : g.row.T.Denot). m ∷ drop (i + 1) items) (sym c.item-item.is) in
+    let cut = drop_more items i c.item-item.result c.loop-item-test.true ∙ ap (λ (m : g.row.T.Denot). m ∷ drop (i + 1) items)
+    (sym c.item-item.is) in
     c.loop-item.invariant.whole (e ++ others) (rw cut (e, others, encodes, h, refl))
 
 pub loop-item-preserved : goal.loop-item-preserved
@@ -29,7 +30,8 @@ loop-item-preserved g c =
     record {
       bytes = before.bytes ++ met.ok.0;
       whole = λ others h.
-          rw (append_assoc before.bytes met.ok.0 others) (next g (goal.at.loop-item-preserved g c).After-item-item met.ok.0 others met.ok.1 h);
+          rw (append_assoc before.bytes met.ok.0 others)
+          (next g (goal.at.loop-item-preserved g c).After-item-item met.ok.0 others met.ok.1 h);
       appends = g.met.W.Write.appends_concatenated _ _ _ before.bytes met.ok.0 before.appends met.ok.2;
       unfailed = met.faults ∙ before.unfailed;
     }

@@ -1,4 +1,5 @@
-use Rattle.std.proofs.Common.{◌≡◌, ◌<◌, ◌⊎◌, ◌++◌, ℕ, List, [], ◌∷◌, inl, inr, length, length-append, append_assoc, append-nil, refl, sym, ap, subst, ◌∙◌, arith, rules, Option, Some}
+use Rattle.std.proofs.Common.{◌≡◌, ◌<◌, ◌⊎◌, ◌++◌, ℕ, List, [], ◌∷◌, inl, inr, length, length-append, append_assoc}
+use Rattle.std.proofs.Common.{append-nil, refl, sym, ap, subst, ◌∙◌, arith, rules, Option, Some}
 use Rattle.multihash.proofs.OutcomeLemmas.{passed_on, if_given}
 use Rattle.std.specs.Io.KnownBytes.{IsAtEnd}
 use Rattle.multihash.specs.Reading.{Consumes}
@@ -64,7 +65,8 @@ loop-preserved g c =
     record {
       reads = record {
         values = before.reads.values ++ value ∷ [];
-        appended = items ∙ ap (λ l. l ++ value ∷ []) before.reads.appended ∙ append_assoc c.args.list.now.items before.reads.values (value ∷ []);
+        appended = items ∙ ap (λ l. l ++ value ∷ []) before.reads.appended ∙ append_assoc c.args.list.now.items before.reads.values
+        (value ∷ []);
         consumed = (
           before.reads.consumed.0 ++ one.0,
           parts_push g.T.Form.is_form before.reads.values value _ _ before.reads.consumed.1 one.1,
@@ -112,7 +114,10 @@ module _ {A : Type 0} (IsForm : A → List ℕ → Type 0) (Same : A → A → T
       let (left, is_left, cut) = Consumes-known (bytes ++ more) c mid (subst (λ (o : Option (List ℕ)). Consumes o c mid) at consumes) in
       elim (parts_compared IsForm Same unique some reads.values xs c left bytes more is_c are (sym cut)) [
         | inl (same, rest, _) ↦ ((reads.values, reads.appended, same), is_left ∙ ap Some rest)
-        | inr (inl (few, _)) ↦ elim number [ inl all ↦ absurd (omega (arith, few, all, many)) | inr (less, _) ↦ absurd (omega (arith, few, less, many)) ]
+        | inr (inl (few, _)) ↦ elim number [
+          | inl all ↦ absurd (omega (arith, few, all, many))
+          | inr (less, _) ↦ absurd (omega (arith, few, less, many))
+        ]
         | inr (inr (over, follows)) ↦ elim number [
           | inl all ↦ absurd (omega (arith, many, all, over))
           | inr (_, none) ↦ absurd (omega (arith, follows, ap length none))

@@ -23,5 +23,6 @@ returns-in_err-number-clause-err g c =
 
 pub returns-then-number-clause-err : goal.returns-then-number-clause-err
 returns-then-number-clause-err g c =
-    next_rejected IsVarint RejectsNumber (RejectsOtherTag g.row.N) Nothing (λ _. IsVarint g.row.N) (split g.row.N) c.in_ok-number.number _ _ _ _ _
+    next_rejected IsVarint RejectsNumber (RejectsOtherTag g.row.N) Nothing (λ _. IsVarint g.row.N) (split g.row.N)
+    c.in_ok-number.number _ _ _ _ _
     c.in_ok-number.ensures.ok (c.if-number.true, refl, refl)
