@@ -1,10 +1,12 @@
 //! Formats made of parts of the crate `form`. Nothing here has a proof by hand.
 ghost use Rattle.std.specs.Prelude.{◌≡◌, ◌≢◌, ◌<◌, ◌⊎◌, ℕ, List, [], ◌++◌, length, Some, OnOk, OnErr, IfOk, IfErr, MatchResult, IsErrAnd};
+ghost use Rattle.std.specs.Int.{bytes_high_first};
 ghost use Rattle.multihash.specs.Bytes.{IsStrictPrefix};
+ghost use Rattle.multihash.specs.Varint.{IsVarint};
 ghost use Rattle.multihash.specs.Streams.{AreParts};
 ghost use Rattle.multihash.specs.Writing.{CountsWriterFailures, IsWriterFaultOrFull};
 ghost use Rattle.multihash.specs.Refusal.{IsIo, IsOutOfMemory, IsReaderError};
-ghost use Rattle.form.specs.Form.{AppendsSome, AppendsPrefixOfSome};
+ghost use Rattle.form.specs.Form.{Then, AreSame, AppendsSome, AppendsPrefixOfSome};
 ghost use Rattle.form.specs.FormError.{IsFailed, IsTruncated};
 ghost use Rattle.form.specs.Rejecting.{ReadStops};
 ghost use Rattle.form.specs.Stream.{rest_from, AppendsUpTo, AppendsSame};
@@ -12,7 +14,8 @@ ghost use Rattle.form.specs.declared.error.FormError.TheVariants.{Trailing};
 ghost use Rattle.examples.specs.Node.{IsNode};
 
 use form::{
-    Block, Both, Bytes, Case, Choice, Counted, Form, FormError, NoCase, Number, Stream, Tag,
+    BigEndian, Block, Both, Bytes, Case, Choice, Counted, Form, FormError, LittleEndian, NoCase,
+    Number, Others, Stream, Tag, Tagged,
 };
 use multihash::Multihash;
 use multihash::no_std_io::{Read, Write};
@@ -32,6 +35,51 @@ pub type Node = Both<Number, Both<Counted<Multihash<64>, 1000>, Block<1_000_000>
 
 /// A record of a peer: its identifier, and a block or none.
 pub type PeerRecord = Both<Multihash<42>, Counted<Block<1000>, 1>>;
+
+/// A part of a multiaddr: an IP address of version 4, a port of TCP, a name, a port of UDP, or a peer identifier.
+pub type AddressPart = Choice<
+    Case<
+        Bytes<4>,
+        4,
+        Case<
+            BigEndian<2>,
+            6,
+            Case<Block<253>, 53, Case<BigEndian<2>, 273, Case<Block<42>, 421, NoCase>>>,
+        >,
+    >,
+>;
+
+/// The header of a CAR file of version 2, after its pragma: characteristics, where the data begins, its size, and where
+/// the index begins.
+pub type CarHeader = Both<Bytes<16>, Both<LittleEndian<8>, Both<LittleEndian<8>, LittleEndian<8>>>>;
+
+/// Returns the part of a multiaddr that is a port of TCP.
+pub fn tcp(port: u16) -> AddressPart
+    ensures { (bytes : List ℕ) → Then (IsVarint 6) (λ rest. rest ≡ bytes_high_first 2 port) bytes →
+        ⟦<AddressPart as Form>⟧.is_form result bytes }
+{
+    let value = BigEndian {
+        value: port as u64,
+    };
+    Choice {
+        case: Case::Other(Others {
+            case: Case::This(Tagged { value }),
+        }),
+    }
+}
+
+/// Reads the parts of the multiaddr that is the whole of `bytes`.
+///
+/// # Errors
+///
+/// Those of [`form::all_from_bytes`].
+pub fn read_address(alloc: Global, bytes: &[u8]) -> Result<Vec<AddressPart>, FormError>
+    ensures ok { IfOk result (λ list. AreParts ⟦<AddressPart as Form>⟧.is_form list.items bytes.now) }
+    ensures found { (xs : List _) → AreParts ⟦<AddressPart as Form>⟧.is_form xs bytes.now →
+        MatchResult result (λ list. AreSame ⟦<AddressPart as Form>⟧.same list.items xs) (IsFailed IsOutOfMemory) }
+{
+    form::all_from_bytes::<AddressPart>(alloc, bytes)
+}
 
 /// Reads the identifier that is the whole of `bytes`.
 ///

@@ -30,7 +30,7 @@ then_stops_first appended P Q u v (a, is_a, stopped) (b, is_b) =
 -- the first part was written, and the second was not
 pub then_stops_second : {W : Type 0} (appended : W → List ℕ → W → Type 0) (join : AppendsBoth appended)
     (P Q : List ℕ → Type 0) (u w v : W) → AppendsSome appended P u w → AppendsPrefixOfSome appended Q w v
-        → AppendsPrefixOfSome appended (Then P Q) u v
+    → AppendsPrefixOfSome appended (Then P Q) u v
 then_stops_second appended join P Q u w v (a, is_a, first) (b, is_b, stopped) =
     (a ++ b, make P Q a b is_a is_b, AppendsPrefix-concatenated appended join u w v a b first stopped)
 

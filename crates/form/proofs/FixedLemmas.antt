@@ -9,7 +9,7 @@ use Rattle.std.proofs.lemmas.List.{take_at, take_all, drop_at, drop-drop, length
 use Rattle.std.proofs.lemmas.Nat.{div_below}
 use Rattle.std.proofs.lemmas.Slice.{take-put_mid, take-put_mid_below, drop-put_mid}
 use borrow.Rule.Slice.PartMut.{put_mid, post_of}
-use Rattle.form.specs.FixedLaws.{low_length, high_length, low_at, no_byte}
+use Rattle.form.specs.Laws.Fixed.{low_length, high_length, low_at, no_byte}
 
 -- ---- where the bytes are
 

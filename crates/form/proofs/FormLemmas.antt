@@ -1,5 +1,6 @@
 -- What `err` and `faults` of `read` state, from the contracts of the library's calls: for `read` of each part.
-use Rattle.std.proofs.Common.{◌≡◌, ℕ, ◌<◌, ◌⊎◌, inl, inr, List, [], length, Option, Some, refl, sym, subst, ◌∙◌, append-nil, arith}
+use Rattle.std.proofs.Common.{◌≡◌, ℕ, ◌<◌, ◌⊎◌, ap, inl, inr, List, [], length, length-append, Option, Some, refl, sym}
+use Rattle.std.proofs.Common.{subst, ◌∙◌, append-nil, arith}
 use Rattle.std.specs.Prelude.{None}
 use Rattle.multihash.specs.Bytes.{IsPrefix}
 use Rattle.multihash.specs.Varint.{VarintError, insufficient, overflow, not_minimal, IsVarint, IsInsufficient}
@@ -7,19 +8,21 @@ use Rattle.multihash.specs.Encoding.{IsEncoding}
 use Rattle.multihash.specs.Verdict.{Verdict, accepted, HasVerdict, IsIncomplete}
 use Rattle.multihash.specs.Settling.{Settles, IsShortestSettling}
 use Rattle.multihash.specs.Outcome.{IsErrorOf}
-use Rattle.multihash.specs.Refusal.{Refusal, of_varint, IsReaderError, IsAnyVarintError, IsVarintError}
+use Rattle.multihash.specs.Refusal.{Refusal, of_varint, of_io, IsReaderError, IsAnyVarintError, IsVarintError}
 use Rattle.multihash.specs.Multihash.{Fields, pair_of}
 use Rattle.multihash.proofs.EncodingLemmas.{digest_fits}
 use Rattle.multihash.proofs.VerdictLemmas.{verdict_unique}
 use Rattle.multihash.proofs.VarintLemmas.{number_no_error}
 use Rattle.multihash.proofs.SettlingLemmas.{late_settles, none_settles, incomplete_not_settles, verdict_kept}
 use Rattle.multihash.proofs.ReadConsumingLemmas.{incomplete_error}
-use Rattle.multihash.proofs.CallingLemmas.{front_error_unique, incomplete_or_not}
+use Rattle.multihash.proofs.CallingLemmas.{front_error_unique, incomplete_or_not, exact_fails}
+use Rattle.multihash.specs.Fault.{Fault, IsOwnFault, IsUnexpectedEof}
+use Rattle.multihash.specs.Reading.{HasFewerThan, ConsumesFewerThan}
 use Rattle.multihash.specs.Consuming.{FailsBy, ExactFails, ReadFails, ConsumesAtVarintError, ConsumesShortestSettling}
 use Rattle.multihash.specs.Consuming.{ConsumesNothingSettling, EndsOrFails}
 use Rattle.multihash.proofs.ReadingLemmas.{all_read, Consumes-none}
 use Rattle.form.specs.FormError.{IsFailed, IsTruncated}
-use Rattle.form.specs.RejectLaws.{malformed_kept}
+use Rattle.form.specs.Laws.Rejected.{malformed_kept}
 use Rattle.form.specs.Rejecting.{ShowsMalformed, RejectsNumber, RejectsMultihash, IsUndecided, StopsAt, ReadStops}
 use Rattle.form.specs.declared.error.FormError.{FormError}
 use Rattle.form.specs.declared.error.FormError.TheVariants.{Failed}
@@ -65,7 +68,7 @@ varint_stops before after e (Some input) new cause c = inr (record {
     | inr (same, (insufficient, named)) ↦ inr (inr (
       (e, refl, inl named),
       insufficient_undecided input
-      (subst IsInsufficient (sym (all_read input c.consumed new c.consumes (c.all named))) (c.shows insufficient named)),
+          (subst IsInsufficient (sym (all_read input c.consumed new c.consumes (c.all named))) (c.shows insufficient named)),
     ))
     | inr (same, (overflow, named)) ↦ inl (rejects_malformed overflow e (Some input) new c named (λ is. cc))
     | inr (same, (not_minimal, named)) ↦ inl (rejects_malformed not_minimal e (Some input) new c named (λ is. cc))
@@ -115,7 +118,7 @@ module _ (S : ℕ) where
       cause = inr (inl (up, unsettled_undecided none.consumed none.unsettled));
     }
     | inr (same, _) ↦ by_verdict (r.verdict same).0 (r.verdict same).1 (r.verdict same).2 (incomplete_or_not (r.verdict same).0)
-    (r.settled same) r.unsettled
+        (r.settled same) r.unsettled
   ])
     where
       by_verdict : (v : Verdict) → HasVerdict S input v → IsErrorOf e v → IsIncomplete v ⊎ (¬ (IsIncomplete v))
@@ -152,10 +155,36 @@ exact_stops IsForm Rejects n before after e (Some input) new undecided f = inr (
 -- no input decides
 pub undecided_stops : {A : Type 0} (IsForm : A → List ℕ → Type 0) (Rejects : FormError → List ℕ → Type 0) (before : ℕ) (e : FormError)
     (old : Option (List ℕ)) → ((x : List ℕ) → IsUndecided IsForm Rejects x) → IsFailed IsTruncated e
-        → ReadStops IsForm Rejects before before e old old
+    → ReadStops IsForm Rejects before before e old old
 undecided_stops IsForm Rejects before e None undecided ends = inr tt
 undecided_stops IsForm Rejects before e (Some input) undecided ends =
     inr (record { consumed = []; consumes = Consumes-none (Some input); cause = inr (inr (ends, undecided input)) })
+
+module _ {A : Type 0} (IsForm : A → List ℕ → Type 0) where
+  -- `read_exact` of `n` bytes failed, of a form whose encodings have so many, and which rejects nothing
+  pub sized_stops : (n before after : ℕ) (error : Fault) (old new : Option (List ℕ))
+      → ((x : A) (bytes : List ℕ) → IsForm x bytes → length bytes ≡ n)
+      → ((before < after) × IsOwnFault error) ⊎ ((after ≡ before) × IsUnexpectedEof error)
+      → (IsUnexpectedEof error → HasFewerThan n old) → ConsumesFewerThan n old new
+      → ReadStops IsForm (λ _ _. ⊥) before after (Failed (of_io error)) old new
+  sized_stops n before after error old new long faults eof part =
+      exact_stops IsForm (λ _ _. ⊥) n before after (of_io error) old new
+      (λ x few. record {
+        no_form = λ y front rest cut is. omega (arith, few, long y front is, ap length cut, length-append front rest);
+        no_error = λ e front rest cut rejects. rejects;
+      })
+      (exact_fails n before before after old new error refl faults eof part)
+
+  -- the form has no value, and rejects nothing
+  pub no_value_stops : (before : ℕ) (e : FormError) (old : Option (List ℕ))
+      → ((x : A) (bytes : List ℕ) → IsForm x bytes → ⊥) → IsFailed IsTruncated e
+      → ReadStops IsForm (λ _ _. ⊥) before before e old old
+  no_value_stops before e old none =
+      undecided_stops IsForm (λ _ _. ⊥) before e old
+      (λ x. record {
+        no_form = λ y front rest cut is. none y front is;
+        no_error = λ f front rest cut rejects. rejects;
+      })
 
 -- ---- faults
 

@@ -3,7 +3,7 @@ pub mod BothLemmas
 pub mod CaseLemmas
 pub mod CountedLemmas
 pub mod FixedLemmas
+mod FormExamples
 pub mod FormLemmas
-mod FormVectors
 pub mod StopLemmas
 pub mod WholeLemmas

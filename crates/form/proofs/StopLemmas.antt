@@ -9,8 +9,8 @@ use Rattle.multihash.specs.Reading.{Consumes}
 use Rattle.multihash.specs.Consuming.{ConsumesSome}
 use Rattle.multihash.proofs.ReadingLemmas.{Consumes-known, Consumes-none, Consumes-concatenated, prepend_known-append}
 use Rattle.form.specs.Form.{Then}
-use Rattle.form.specs.PartLaws.{number_unique}
-use Rattle.form.specs.RejectLaws.{number_not_both}
+use Rattle.form.specs.Laws.Parts.{number_unique}
+use Rattle.form.specs.Laws.Rejected.{number_not_both}
 use Rattle.form.specs.Rejecting.{RejectsNumber, RejectsInTurn, RejectsNumberThen, AreItems, RejectsItem, IsUndecided, StopsAt, ReadStops}
 use Rattle.form.specs.declared.error.FormError.{FormError}
 
@@ -135,7 +135,7 @@ module _ {A B C : Type 0} (IsFirst : A → List ℕ → Type 0) (RejectsFirst : 
         (subst (λ (o : Option (List ℕ)). IfSome o (λ rest. StopsAt (IsNext x) (RejectsNext x) (middle < after) e rest new)) is_left s))
 
 -- a number was read, and what follows it was not
-pub from_stops : {B C : Type 0} (RejectsNext : ℕ → FormError → List ℕ → Type 0) (IsNext : ℕ → C → List ℕ → Type 0) 
+pub from_stops : {B C : Type 0} (RejectsNext : ℕ → FormError → List ℕ → Type 0) (IsNext : ℕ → C → List ℕ → Type 0)
     (IsForm : B → List ℕ → Type 0)
     → ((y : B) (bytes : List ℕ) → IsForm y bytes → (n : ℕ) × (z : C) × Then (IsVarint n) (IsNext n z) bytes)
     → (n before middle after : ℕ) (e : FormError) (old mid new : Option (List ℕ)) → middle ≡ before → ConsumesSome (IsVarint n) old mid

@@ -1,11 +1,7 @@
 pub mod ByteCount
 pub mod Case
-pub mod CaseLaws
-pub mod FixedLaws
 pub mod Form
 pub mod FormError
-pub mod FormLaws
-pub mod PartLaws
-pub mod RejectLaws
+pub mod Laws
 pub mod Rejecting
 pub mod Stream

@@ -49,8 +49,8 @@ impl<const MAX: usize> Form for Block<MAX> {
     ghost use Rattle.form.specs.Form.{IsBlock};
     ghost use Rattle.form.specs.declared.error.FormError.TheVariants.{TooLong};
     ghost use Rattle.form.specs.Rejecting.{RejectsNumberThen, RejectsTooLong};
-    ghost use Rattle.form.specs.PartLaws.{block_exists, block_unique, block_one, block_some};
-    ghost use Rattle.form.specs.RejectLaws.{block_not_both, block_rejects_unique, from_rejects_some};
+    ghost use Rattle.form.specs.Laws.Parts.{block_exists, block_unique, block_one, block_some};
+    ghost use Rattle.form.specs.Laws.Rejected.{block_not_both, block_rejects_unique, from_rejects_some};
 
     ghost is_form = { λ x. IsBlock x.bytes.items };
 

@@ -40,7 +40,7 @@ impl<A: Form, const M: u64, C: Cases> Cases for Case<A, M, C> {
     ghost use Rattle.std.specs.Prelude.{◌≡◌, ◌⊎◌};
     ghost use Rattle.form.specs.Rejecting.{RejectsCase};
     ghost use Rattle.form.specs.Case.{case_tag, IsCaseValue, AreSameCase};
-    ghost use Rattle.form.specs.CaseLaws.{case_in_range, case_same_tag, case_exists, case_unique, case_not_both, case_rejects_unique, case_one};
+    ghost use Rattle.form.specs.Laws.Cases.{case_in_range, case_same_tag, case_exists, case_unique, case_not_both, case_rejects_unique, case_one};
 
     ghost tag_of = { case_tag C.tag_of };
 
@@ -96,7 +96,7 @@ impl Cases for NoCase {
     ghost use Rattle.form.specs.declared.error.FormError.TheVariants.{OtherTag};
     ghost use Rattle.form.specs.Rejecting.{RejectsNoCase};
     ghost use Rattle.form.specs.Case.{no_case};
-    ghost use Rattle.form.specs.CaseLaws.{no_case_rejects_unique};
+    ghost use Rattle.form.specs.Laws.Cases.{no_case_rejects_unique};
 
     ghost tag_of = { no_case };
 

@@ -24,10 +24,10 @@ impl<C: Cases> Form for Choice<C> {
     ghost use Rattle.form.specs.Form.{Then};
     ghost use Rattle.form.specs.FormError.{IsFailed};
     ghost use Rattle.form.specs.Rejecting.{RejectsNumberThen};
-    ghost use Rattle.form.specs.FormLaws.{then_exists, then_some};
-    ghost use Rattle.form.specs.PartLaws.{number_exists};
-    ghost use Rattle.form.specs.RejectLaws.{from_not_both, from_unique, from_rejects_some};
-    ghost use Rattle.form.specs.CaseLaws.{choice_unique, choice_one};
+    ghost use Rattle.form.specs.Laws.Pairs.{then_exists, then_some};
+    ghost use Rattle.form.specs.Laws.Parts.{number_exists};
+    ghost use Rattle.form.specs.Laws.Rejected.{from_not_both, from_unique, from_rejects_some};
+    ghost use Rattle.form.specs.Laws.Cases.{choice_unique, choice_one};
 
     ghost is_form = { λ x. Then (IsVarint (C.tag_of x.case)) (C.is_value x.case) };
 

@@ -22,8 +22,8 @@ impl<const N: usize> Form for BigEndian<N> {
     ghost use Rattle.std.specs.Int.{bytes_high_first};
     ghost use Rattle.multihash.specs.Refusal.{IsEof};
     ghost use Rattle.form.specs.FormError.{IsFailed};
-    ghost use Rattle.form.specs.PartLaws.{array_exists};
-    ghost use Rattle.form.specs.FixedLaws.{high_unique, high_one, high_some};
+    ghost use Rattle.form.specs.Laws.Parts.{array_exists};
+    ghost use Rattle.form.specs.Laws.Fixed.{high_unique, high_one, high_some};
 
     ghost is_form = { λ x bytes. bytes ≡ bytes_high_first N x.value };
 
@@ -80,8 +80,8 @@ impl<const N: usize> Form for LittleEndian<N> {
     ghost use Rattle.std.specs.Int.{bytes_low_first};
     ghost use Rattle.multihash.specs.Refusal.{IsEof};
     ghost use Rattle.form.specs.FormError.{IsFailed};
-    ghost use Rattle.form.specs.PartLaws.{array_exists};
-    ghost use Rattle.form.specs.FixedLaws.{low_unique, low_one, low_some};
+    ghost use Rattle.form.specs.Laws.Parts.{array_exists};
+    ghost use Rattle.form.specs.Laws.Fixed.{low_unique, low_one, low_some};
 
     ghost is_form = { λ x bytes. bytes ≡ bytes_low_first 0 N x.value };
 

@@ -35,8 +35,8 @@ impl Form for Number {
     ghost use Rattle.multihash.specs.Refusal.{IsAnyVarintError};
     ghost use Rattle.form.specs.FormError.{IsFailed};
     ghost use Rattle.form.specs.Rejecting.{RejectsNumber};
-    ghost use Rattle.form.specs.PartLaws.{number_exists, number_unique, number_one, number_some};
-    ghost use Rattle.form.specs.RejectLaws.{number_not_both, number_rejects_unique, number_rejects_some};
+    ghost use Rattle.form.specs.Laws.Parts.{number_exists, number_unique, number_one, number_some};
+    ghost use Rattle.form.specs.Laws.Rejected.{number_not_both, number_rejects_unique, number_rejects_some};
 
     ghost is_form = { λ x. IsVarint x.value };
 

@@ -22,8 +22,8 @@ impl<const N: u64> Form for Tag<N> {
     ghost use Rattle.form.specs.FormError.{IsFailed};
     ghost use Rattle.form.specs.declared.error.FormError.TheVariants.{OtherTag};
     ghost use Rattle.form.specs.Rejecting.{RejectsNumberThen, RejectsOtherTag};
-    ghost use Rattle.form.specs.PartLaws.{number_exists, tag_unique, tag_one, number_some};
-    ghost use Rattle.form.specs.RejectLaws.{tag_not_both, tag_rejects_unique, from_rejects_some};
+    ghost use Rattle.form.specs.Laws.Parts.{number_exists, tag_unique, tag_one, number_some};
+    ghost use Rattle.form.specs.Laws.Rejected.{tag_not_both, tag_rejects_unique, from_rejects_some};
 
     ghost is_form = { λ _. IsVarint N };
 

@@ -6,7 +6,7 @@ use examples::content::{UnknownCode, hash_of, is_damaged, verify};
 use examples::std_reader::StdReader;
 use examples::{loops, parts};
 use fakes::{Cuts, FailAt};
-use form::{Case, FormError, Stream, all_from_bytes};
+use form::{Case, FormError, Stream, all_from_bytes, from_bytes, to_bytes, write_items};
 use multihash::Multihash;
 use multihash::no_std_io::Read;
 use std::alloc::Global;
@@ -143,4 +143,34 @@ fn numbers_of_entries_are_read(rt: HostRuntime) {
     let mut list = expect_ok!(&rt; all_from_bytes::<parts::LogEntry>(rt.alloc(), &log));
     let mut stream = Stream::new(log.as_slice());
     expect_ok!(&rt; parts::read_entries(rt.alloc(), &mut stream, usize::MAX, &mut list));
+}
+
+// /ip4/127.0.0.1/tcp/4001/dns4/a/udp/53/p2p/.. of an identity multihash.
+const ADDRESS: [u8; 20] = [
+    4, 127, 0, 0, 1, 6, 0x0f, 0xa1, 53, 1, 0x61, 0x91, 2, 0, 53, 0xa5, 3, 2, 0, 0,
+];
+
+#[test]
+fn a_known_multiaddr_is_read(rt: HostRuntime) {
+    let alloc = rt.alloc();
+    let parts = expect_ok!(&rt; parts::read_address(alloc, &ADDRESS));
+    check_eq!(&rt; parts.len(), 5);
+    let mut bytes = Vec::new(alloc);
+    expect_ok!(&rt; write_items(&parts, &mut bytes));
+    check_eq!(&rt; bytes.as_slice(), ADDRESS.as_slice());
+    check_eq!(&rt; expect_ok!(&rt; to_bytes(alloc, &parts::tcp(4001))).as_slice(), &ADDRESS[5..8]);
+    let outcome = parts::read_address(alloc, &[5, 0]);
+    check!(&rt; matches!(outcome, Err(FormError::OtherTag(5))));
+}
+
+// The data is at 0x33, and 0x0102 bytes; there is no index.
+#[test]
+fn a_known_car_header_is_read(rt: HostRuntime) {
+    let alloc = rt.alloc();
+    let mut bytes = [0u8; 40];
+    (bytes[16], bytes[24], bytes[25]) = (0x33, 2, 1);
+    let header = expect_ok!(&rt; from_bytes::<parts::CarHeader>(alloc, &bytes));
+    let (at, rest) = (header.second.first.value, &header.second.second);
+    check!(&rt; at == 0x33 && rest.first.value == 0x0102 && rest.second.value == 0);
+    check_eq!(&rt; expect_ok!(&rt; to_bytes(alloc, &header)).as_slice(), bytes.as_slice());
 }

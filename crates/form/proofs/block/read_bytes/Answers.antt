@@ -7,9 +7,20 @@ use Rattle.form.proofs.block.read_bytes.Goals as goal
 
 pub returns-in_err-read_exact-clause-err : goal.returns-in_err-read_exact-clause-err
 returns-in_err-read_exact-clause-err g c =
-    let before = c.loop-chunk.invariant in
+    let so_far = c.loop-chunk.invariant in
     let met = c.in_err-read_exact.ensures.laws in
-    let fails = exact_fails _ _ _ _ _ _ c.in_err-read_exact.field-0.0 before.unfailed met.faults met.eof met.err in
-    passed_on c.from_residual-in_err-read_exact.result (Failed (of_io c.in_err-read_exact.field-0.0)) _ _
-    c.from_residual-in_err-read_exact.ensures.1
-    (inr (_, refl, exact_after c.args.len _ _ _ _ _ _ _ _ before.consumes (search rules) fails))
+    let e = c.in_err-read_exact.field-0.0 in
+    let start = g.R.Read.failures c.args.r.now in
+    let middle = g.R.Read.failures c.loop-chunk.r in
+    let after = g.R.Read.failures c.read_exact.new.self in
+    let old = g.R.Read.rest c.args.r.now in
+    let mid = g.R.Read.rest c.loop-chunk.r in
+    let new = g.R.Read.rest c.read_exact.new.self in
+    let fails = exact_fails _ start middle after mid new e so_far.unfailed met.faults met.eof met.err in
+    passed_on c.from_residual-in_err-read_exact.result (Failed (of_io e)) _ _ c.from_residual-in_err-read_exact.ensures.1
+    (inr (
+      of_io e,
+      refl,
+      exact_after c.args.len _ start after c.loop-chunk.bytes.items old mid new (of_io e) so_far.consumes
+          (search rules) fails,
+    ))

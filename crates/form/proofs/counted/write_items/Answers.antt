@@ -4,7 +4,7 @@ use Rattle.multihash.specs.Streams.{AreParts}
 use Rattle.multihash.proofs.OutcomeLemmas.{OnErr-always}
 use Rattle.multihash.proofs.WritingLemmas.{AppendsPrefix-append, AppendsPrefix-concatenated}
 use Rattle.form.specs.Form.{AppendsPrefixOfSome}
-use Rattle.form.specs.PartLaws.{items_exist}
+use Rattle.form.specs.Laws.Parts.{items_exist}
 use Rattle.form.proofs.counted.write_items.Given as given
 use Rattle.form.proofs.counted.write_items.Goals as goal
 use Rattle.form.proofs.counted.write_items.Goals.{After-item-item}

@@ -14,12 +14,11 @@ use Rattle.form.proofs.counted.CountedForm.read.Goals as goal
 split : {A : Type 0} (IsPart : A → List ℕ → Type 0) {X : Type 0} (items : X → List A) (x : X) (bytes : List ℕ)
     → Then (IsVarint (length (items x))) (AreParts IsPart (items x)) bytes
     → (n : ℕ) × (xs : List A) × Then (IsVarint n) (AreItems IsPart n xs) bytes
-split IsPart items x bytes t =
-  (
-    length (items x),
-    items x,
-    record { first = t.first; second = t.second; is_first = t.is_first; is_second = (refl, t.is_second); parts = t.parts },
-  )
+split IsPart items x bytes t = (
+  length (items x),
+  items x,
+  record { first = t.first; second = t.second; is_first = t.is_first; is_second = (refl, t.is_second); parts = t.parts },
+)
 
 -- a count within the limit is not rejected
 only_item : {A : Type 0} (IsPart : A → List ℕ → Type 0) (Rejects : FormError → List ℕ → Type 0) (MAX n : ℕ) → n ≤ MAX

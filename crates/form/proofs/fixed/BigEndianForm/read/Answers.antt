@@ -1,43 +1,37 @@
-use Rattle.std.proofs.Common.{◌≡◌, ◌<◌, ◌≤◌, ◌-◌, ◌+◌, ◌^◌, length, inr, refl, ap, length-append, arith, rules}
+use Rattle.std.proofs.Common.{◌≡◌, ◌<◌, ◌≤◌, ◌-◌, ◌+◌, ◌^◌, length, inr, refl, sym, ap, ◌∙◌, arith, rules}
+use Rattle.std.specs.Prelude.{take, drop}
+use Rattle.std.specs.Int.{bytes_high_first}
+use Rattle.std.proofs.lemmas.List.{length-drop, length-take-le}
+use Rattle.multihash.specs.Refusal.{of_io}
 use Rattle.multihash.proofs.OutcomeLemmas.{passed_on}
-use Rattle.multihash.proofs.CallingLemmas.{exact_fails}
-use Rattle.form.proofs.FormLemmas.{exact_stops, undecided_stops}
-use Rattle.std.specs.Prelude.{drop}
-use Rattle.std.proofs.lemmas.List.{length-drop}
-use Rattle.form.specs.FixedLaws.{high_length}
+use Rattle.form.specs.declared.fixed.BigEndian.{BigEndian}
+use Rattle.form.specs.declared.error.FormError.TheVariants.{Failed}
+use Rattle.form.proofs.FormLemmas.{sized_stops, no_value_stops}
+use Rattle.form.specs.Laws.Fixed.{high_length}
 use Rattle.form.proofs.FixedLemmas.{high_read, zeros}
 use Rattle.form.proofs.fixed.BigEndianForm.read.Goals as goal
 
 pub returns-then-this-eq0-clause-err : goal.returns-then-this-eq0-clause-err
 returns-then-this-eq0-clause-err g c =
-    undecided_stops _ (λ _ _. ⊥) _ _ _ (λ x. record {
-      no_form = λ y front rest cut is. omega (arith, y.some, y.fits, c.then-this-eq0.either);
-      no_error = λ e front rest cut rejects. rejects;
-    })
+    let r = c.args.r.now in
+    no_value_stops (λ (x : BigEndian g.row.N) bytes. bytes ≡ bytes_high_first g.row.N x.value)
+    (g.R.Read.failures r) c.into.result (g.R.Read.rest r) (λ x bytes is. omega (arith, x.some, x.fits, c.then-this-eq0.either))
     (_, c.into.ensures, inr (c.unexpected_eof.result, refl, c.unexpected_eof.ensures))
 
 pub returns-in_err-read_exact-clause-err : goal.returns-in_err-read_exact-clause-err
 returns-in_err-read_exact-clause-err g c =
     let met = c.in_err-read_exact.ensures.laws in
     let e = c.in_err-read_exact.field-0.0 in
+    let r = c.args.r.now in
+    let left = c.read_exact.new.self in
     let at = 8 - g.row.N in
     let fits : g.row.N ≤ 8 = omega (arith, c.if-this-gt8.false) in
-    let long : length (drop at zeros) ≡ g.row.N = omega (arith, fits, length-drop at zeros) in
-    passed_on c.from_residual.result _ _ _ c.from_residual.ensures.1
-    (exact_stops _ (λ _ _. ⊥) _ _ _ _ _ _
-    (λ x few. record {
-      no_form = λ y front rest cut is. omega (
-        arith,
-        few,
-        long,
-        high_length g.row.N y.value,
-        ap length is,
-        ap length cut,
-        length-append front rest,
-      );
-      no_error = λ f front rest cut rejects. rejects;
-    })
-    (exact_fails _ _ _ _ _ _ e refl met.faults met.eof met.err))
+    let part : 8 - at ≤ length (drop at zeros) = omega (arith, length-drop at zeros) in
+    let long : length (take (8 - at) (drop at zeros)) ≡ g.row.N = omega (arith, fits, length-take-le (8 - at) (drop at zeros) part) in
+    passed_on c.from_residual.result (Failed (of_io e)) _ _ c.from_residual.ensures.1
+    (sized_stops (λ (x : BigEndian g.row.N) bytes. bytes ≡ bytes_high_first g.row.N x.value) (length (take (8 - at) (drop at zeros)))
+    (g.R.Read.failures r) (g.R.Read.failures left) e (g.R.Read.rest r) (g.R.Read.rest left)
+    (λ x bytes is. ap length is ∙ high_length g.row.N x.value ∙ sym long) met.faults met.eof met.err)
 
 pub invariant_of-result : goal.invariant_of-result
 invariant_of-result g c =

@@ -66,7 +66,7 @@ loop-preserved g c =
       reads = record {
         values = before.reads.values ++ value ∷ [];
         appended = items ∙ ap (λ l. l ++ value ∷ []) before.reads.appended ∙ append_assoc c.args.list.now.items before.reads.values
-        (value ∷ []);
+            (value ∷ []);
         consumed = (
           before.reads.consumed.0 ++ one.0,
           parts_push g.T.Form.is_form before.reads.values value _ _ before.reads.consumed.1 one.1,

@@ -4,7 +4,7 @@ use Rattle.std.proofs.Math.Nat.{pow-le-pow_right, one-le-pow}
 use Rattle.std.proofs.lemmas.Bool.{cases_lt}
 use Rattle.std.proofs.lemmas.Nat.{div_below, from_le_bytes-to_le_bytes_8}
 use Rattle.std.specs.Int.{byte_at, bytes_low_first, bytes_high_first, to_le_bytes, from_le_bytes, w64}
-use Rattle.form.specs.PartLaws.{array_unique}
+use Rattle.form.specs.Laws.Parts.{array_unique}
 
 -- ---- bytes of a number
 
@@ -51,8 +51,16 @@ no_byte N n (suc i) below from =
 same_number : (x y : ℕ) → x < 2 ^ 64 → y < 2 ^ 64 → ((i : ℕ) → i < 8 → byte_at i x ≡ byte_at i y) → x ≡ y
 same_number x y x_fits y_fits at =
     let bytes : to_le_bytes w64 x ≡ to_le_bytes w64 y =
-    cc (at 0 (omega arith), at 1 (omega arith), at 2 (omega arith), at 3 (omega arith), at 4 (omega arith), at 5 (omega arith),
-    at 6 (omega arith), at 7 (omega arith)) in
+    cc (
+      at 0 (omega arith),
+      at 1 (omega arith),
+      at 2 (omega arith),
+      at 3 (omega arith),
+      at 4 (omega arith),
+      at 5 (omega arith),
+      at 6 (omega arith),
+      at 7 (omega arith),
+    ) in
     sym (from_le_bytes-to_le_bytes_8 x x_fits) ∙ ap (from_le_bytes w64) bytes ∙ from_le_bytes-to_le_bytes_8 y y_fits
 
 word : (N n : ℕ) → N ≤ 8 → n < 256 ^ N → n < 2 ^ 64

@@ -2,7 +2,7 @@
 use Rattle.std.proofs.Common.{◌≡◌, ℕ, ◌<◌, List, [], ◌∷◌, ◌++◌, length, refl, sym, ap, ◌∙◌, append_assoc, subst, arith}
 use Rattle.multihash.specs.Streams.{AreParts}
 use Rattle.form.specs.Form.{Then, IsBlock, AreSame}
-use Rattle.form.specs.FormLaws.{then_exists, then_unique, then_one, then_some}
+use Rattle.form.specs.Laws.Pairs.{then_exists, then_unique, then_one, then_some}
 use Rattle.multihash.specs.Varint.{IsVarint, varint_limit}
 use Rattle.multihash.proofs.VarintLemmas.{varint_unique, varint_same, varint_some}
 use Rattle.multihash.proofs.VarintWriteLemmas.{varint_exists}

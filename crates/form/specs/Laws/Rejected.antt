@@ -15,8 +15,8 @@ use Rattle.multihash.proofs.VerdictLemmas.{verdict_unique}
 use Rattle.multihash.proofs.SettlingLemmas.{compare_prefixes, error_kept, error_of_part, verdict_kept}
 use Rattle.multihash.proofs.CallingLemmas.{front_error_unique, encoding_no_error, error_of_unique}
 use Rattle.form.specs.Form.{Then, IsBlock}
-use Rattle.form.specs.FormLaws.{then_unique, then_some}
-use Rattle.form.specs.PartLaws.{number_unique, number_some}
+use Rattle.form.specs.Laws.Pairs.{then_unique, then_some}
+use Rattle.form.specs.Laws.Parts.{number_unique, number_some}
 use Rattle.form.specs.Rejecting.{IsShortest, ShowsMalformed, ShowsError, RejectsNumber, RejectsMultihash, RejectsInTurn}
 use Rattle.form.specs.Rejecting.{RejectsNumberThen, RejectsItem, RejectsOtherTag, RejectsTooLong, RejectsCounted}
 use Rattle.form.specs.declared.error.FormError.{FormError}

@@ -2,9 +2,9 @@
 use Rattle.std.proofs.Common.{◌≡◌, ◌<◌, inl, inr, ℕ, List, ◌++◌, refl, sym}
 use Rattle.multihash.specs.Varint.{IsVarint, varint_limit}
 use Rattle.form.specs.Form.{Then}
-use Rattle.form.specs.FormLaws.{then_unique, then_one}
-use Rattle.form.specs.PartLaws.{number_unique, number_one}
-use Rattle.form.specs.RejectLaws.{here_unique}
+use Rattle.form.specs.Laws.Pairs.{then_unique, then_one}
+use Rattle.form.specs.Laws.Parts.{number_unique, number_one}
+use Rattle.form.specs.Laws.Rejected.{here_unique}
 use Rattle.form.specs.Rejecting.{RejectsCase, RejectsNoCase}
 use Rattle.form.specs.Case.{case_tag, IsCaseValue, AreSameCase}
 use Rattle.form.specs.declared.error.FormError.{FormError}
