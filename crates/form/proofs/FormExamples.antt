@@ -7,9 +7,11 @@ use Rattle.multihash.specs.Varint.{insufficient, overflow, not_minimal}
 use Rattle.multihash.specs.Verdict.{accepted, invalid_size, invalid_code, malformed, unexpected_eof}
 use Rattle.multihash.proofs.ReadingLemmas.{all_read, Consumes-known}
 use Rattle.form.specs.ByteCount.{HasCounted}
-use Rattle.form.specs.Form.{Then, AreSame}
+use Rattle.form.specs.Form.{Then, IsBlock, AreSame}
+use Rattle.form.specs.Laws.Parts.{block_unique}
 use Rattle.form.specs.FormError.{IsFailed, IsTruncated, form_error_text}
 use Rattle.form.specs.Case.{AreSameCase}
+use Rattle.form.specs.Rejecting.{RejectsCase, RejectsNoCase}
 use Rattle.form.specs.Rejecting.{IsShortest, ShowsMalformed, ShowsError, IsUndecided, StopsAt, ReadStops, IsReadError, IsWholeError}
 use Rattle.form.specs.Stream.{rest_from, AppendsValues, AppendsUpTo, AppendsThenStops}
 use Rattle.multihash.specs.Streams.{AreParts}
@@ -39,6 +41,24 @@ other_item same = omega (arith, same.1.0)
 other_case : (M : ℕ) {b : _} (x : Tagged ℕ M) (y : Others ℕ M b)
     → ¬ (AreSameCase (λ (m n : ℕ). ⊤) (λ (m n : ℕ). ⊤) (This x) (Other y))
 other_case M x y same = same
+
+-- a block has the length that stands before it, and is one block
+other_block : (bytes : List ℕ) → IsBlock (7 ∷ []) bytes → ¬ (IsBlock (8 ∷ []) bytes)
+other_block bytes x y =
+    let same = (block_unique (7 ∷ []) (8 ∷ []) bytes bytes [] [] x y refl).0 in
+    let heads : ◌≡◌ {A = ℕ} 7 8 = cc in
+    omega (arith, heads)
+
+-- the tag of a case is not rejected, and what rejects another is that tag, with nothing after it
+own_tag : (e : FormError) (rest : List ℕ) → ¬ (RejectsCase (λ f b. ⊥) RejectsNoCase 4 4 e rest)
+own_tag e rest (inl (_, none)) = none
+own_tag e rest (inr (not, _)) = not refl
+
+other_tag : ¬ (RejectsNoCase 5 (OtherTag 6) [])
+other_tag (is, _) = cc
+
+later_byte : ¬ (RejectsNoCase 5 (OtherTag 5) (1 ∷ []))
+later_byte (_, none) = cc
 
 -- ---- errors
 
