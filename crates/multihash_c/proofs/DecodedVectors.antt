@@ -1,13 +1,15 @@
 -- What decoding known inputs returns to a C caller, also by their first bytes, and what no decoding returns. Two
 -- results of one input agree: with a weaker part of a definition they may differ.
-use Rattle.std.proofs.Common.{◌≡◌, ℕ, List, [], ◌∷◌, length, get_or, refl, sym, ap, ◌∙◌, arith, ◌++◌, length-append, drop, replicate, subst, inl, inr, length-drop, ◌≤◌}
+use Rattle.std.proofs.Common.{◌≡◌, ℕ, List, [], ◌∷◌, length, get_or, refl, sym, ap, ◌∙◌, arith, ◌++◌, length-append, drop, replicate, subst, inl, inr, length-drop, ◌≤◌, take, take-append-drop}
 use Rattle.multihash.specs.Varint.{VarintError, insufficient, overflow, not_minimal}
 use Rattle.multihash.specs.Verdict.{Verdict, accepted, invalid_size, invalid_code, malformed, unexpected_eof, HasHead, HasVerdict, HasWholeVerdict, IsIncomplete}
 use Rattle.multihash.proofs.KnownExamples.{pair, code_named, code_alone}
 use Rattle.multihash.proofs.VarintWriteLemmas.{one_byte}
 use Rattle.multihash_c.specs.declared.decode.Decoded.{Decoded}
+use Rattle.multihash_c.specs.declared.decode.Varint.{Varint}
+use Rattle.multihash.proofs.VarintLemmas.{HasFront, number, number_unique, number_no_error}
 use Rattle.multihash_c.specs.Status.{status_of_error}
-use Rattle.multihash_c.specs.Decoded.{ReportsPair, ReportsError, Reports, ConsumesForm, ReportsPrefix, Determines, ReadsWithin, ReportsHead, ReportsHeadError}
+use Rattle.multihash_c.specs.Decoded.{ReportsPair, ReportsError, Reports, ConsumesForm, ReportsPrefix, Determines, ReadsWithin, ReportsHead, ReportsHeadError, ReportsVarint, ReadsVarint}
 use Rattle.multihash_c.proofs.DecodedLemmas.{reported_length}
 use Rattle.multihash.proofs.ScaleLemmas.{scale_verdict_unique}
 use Rattle.multihash.proofs.CodecExamples.{zeros, all_255, scale_code_above}
@@ -223,3 +225,25 @@ head_errors_same : (input : List ℕ) (f g : Front) → ReportsHeadError input f
 head_errors_same input f g h k =
     let same = reads_same 0 input _ _ (h.reads 0) (k.reads 0) in
     (same.0.0, h.no_code ∙ sym k.no_code, h.no_length ∙ sym k.no_length, same.1)
+
+-- the varint that was read is at the front
+at_front : (input : List ℕ) (v : Varint) → ReportsVarint input v → HasFront input (number v.value (drop v.length input))
+at_front input v h = (take v.length input, h.is_varint, sym (take-append-drop v.length input))
+
+-- reading one varint has one result
+varints_same : (input : List ℕ) (v w : Varint) → ReadsVarint input v → ReadsVarint input w
+    → (v.status ≡ w.status) × (v.value ≡ w.value) × (v.length ≡ w.length)
+varints_same input v w (inl h) (inl k) =
+    let same = number_unique input v.value w.value (drop v.length input) (drop w.length input) (at_front input v h) (at_front input w k) in
+    let rest : length (drop v.length input) ≡ length (drop w.length input) = ap (λ (z : List ℕ). length z) same.1 in
+    let long : v.length ≡ w.length =
+    omega (arith, rest, h.inside, k.inside, length-drop v.length input, length-drop w.length input) in
+    (h.is_ok ∙ sym k.is_ok, same.0, long)
+varints_same input v w (inl h) (inr k) =
+    absurd (number_no_error input v.value (drop v.length input) k.error (at_front input v h) k.begins)
+varints_same input v w (inr h) (inl k) =
+    absurd (number_no_error input w.value (drop w.length input) h.error (at_front input w k) h.begins)
+varints_same input v w (inr h) (inr k) =
+    let both = verdict_unique 0 input (malformed h.error) (malformed k.error) (inl h.begins) (inl k.begins) in
+    let same : h.error ≡ k.error = cc in
+    (h.is_status ∙ ap status_of_error same ∙ sym k.is_status, h.no_value ∙ sym k.no_value, h.no_length ∙ sym k.no_length)

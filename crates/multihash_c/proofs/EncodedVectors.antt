@@ -4,9 +4,10 @@ use Rattle.std.proofs.Common.{◌≡◌, ◌-◌, ℕ, List, [], ◌∷◌, leng
 use Rattle.std.proofs.lemmas.Bool.{cases_lt}
 use Rattle.multihash.specs.Varint.{varint_limit}
 use Rattle.multihash.specs.Pair.{Pair}
+use Rattle.multihash.proofs.VarintLemmas.{varint_same}
 use Rattle.multihash.specs.Encoding.{IsEncoding}
 use Rattle.multihash_c.specs.declared.encode.Encoded.{Encoded}
-use Rattle.multihash_c.specs.Encoded.{IsTooLong, IsLargeCode, IsPut, ReportsLength, Puts, WritesForm}
+use Rattle.multihash_c.specs.Encoded.{IsTooLong, IsLargeCode, IsPut, ReportsLength, Puts, WritesForm, WritesVarint}
 use Rattle.multihash.proofs.EncodingLemmas.{encoding_same}
 use Rattle.std.specs.Prelude.{ℤ, codes}
 use Rattle.std.specs.declared.cmp.Ordering.{Ordering}
@@ -97,3 +98,19 @@ one_text status a b h k = elim (cases_lt status_no_room status) [
 -- the text of an invalid size is true of a decoding and of an encoding
 size_text : (text : List ℕ) → IsStatusText status_invalid_size text → text ≡ codes "the digest or the input is too long"
 size_text text h = h.known (omega arith)
+
+-- ---- one varint
+
+-- a call has one outcome
+varint_once : (n : ℕ) (old new other : List ℕ) (d e : Encoded) → WritesVarint n d old new → WritesVarint n e old other
+    → (d.length ≡ e.length) × (d.size ≡ e.size) × (d.status ≡ e.status) × (new ≡ other)
+varint_once n old new other d e h k = elim (cases_lt n varint_limit) [
+  | inl small ↦
+      let (bytes, is, put) = h.puts small in
+      let (others, also, given) = k.puts small in
+      put_once bytes old new other d e put (rw (varint_same n bytes others is also) given)
+  | inr large ↦
+      let (status, size, len, same) = h.too_large large in
+      let (status2, size2, len2, same2) = k.too_large large in
+      (len ∙ sym len2, size ∙ sym size2, status ∙ sym status2, same ∙ sym same2)
+]
