@@ -58,9 +58,7 @@ pub fn tcp(port: u16) -> AddressPart
     ensures { (bytes : List ℕ) → Then (IsVarint 6) (λ rest. rest ≡ bytes_high_first 2 port) bytes →
         ⟦<AddressPart as Form>⟧.is_form result bytes }
 {
-    let value = BigEndian {
-        value: port as u64,
-    };
+    let value = BigEndian { value: port as u64 };
     Choice {
         case: Case::Other(Others {
             case: Case::This(Tagged { value }),

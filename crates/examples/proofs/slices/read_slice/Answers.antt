@@ -30,5 +30,5 @@ pub returns-clause-long : goal.returns-clause-long
 returns-clause-long g c size rest h over = (
   rejected_size g.row.S size _ rest c.read-outcome.result h over (c.read-outcome.ensures.verdict refl),
   left_after g.row.S size _ rest _ h over
-  (c.read-outcome.ensures.settled refl (invalid_size size) (rest, h, over) (λ incomplete. incomplete)),
+      (c.read-outcome.ensures.settled refl (invalid_size size) (rest, h, over) (λ incomplete. incomplete)),
 )
