@@ -23,7 +23,7 @@ ROW = re.compile(r"^\| \[(\w+)[^\]]*\]\(([^)]*)\) \| `([^`]+)` \|", re.M)
 HEAD = re.compile(r"(?://|#) (\S+): (.*)\n")
 SHOWN = re.findall(r"`(code \d+, digest \w+)`", read(README))[0] + "\n"
 OLDEST = re.findall(r'rust-version = "(.*)"', read(f"{RUST}/verified-multihash/Cargo.toml"))[0]
-REGISTRY = "/usr/share/cargo/registry"  # of Debian, for crates that the program of Rust's page needs
+REGISTRY = "/usr/share/cargo/registry"  # of Debian, for crates that the package for Rust and its page's programs need
 ALL = "ALL" in os.environ
 SOURCE = f'[source.crates-io]\\nreplace-with = "here"\\n[source.here]\\ndirectory = "{REGISTRY}"\\n'
 
