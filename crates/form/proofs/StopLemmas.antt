@@ -110,7 +110,7 @@ module _ {A B C : Type 0} (IsFirst : A → List ℕ → Type 0) (RejectsFirst : 
         → StopsAt IsForm (RejectsInTurn IsFirst RejectsFirst RejectsNext) (before < after) e input new
     after_first x before middle after e input c left new same is_c consumes cut s = record {
       consumed = c ++ s.consumed;
-      consumes = Consumes-concatenated (Some input) (Some left) new c s.consumed _ refl consumes s.consumes;
+      consumes = Consumes-concatenated new c s.consumed refl consumes s.consumes;
       cause = elim s.cause [
         | inl rejects ↦ inl (inr (x, record { first = c; second = s.consumed; is_first = is_c; is_second = rejects; parts = refl }))
         | inr (inl (failed, u)) ↦ inr (inl (omega (arith, failed, same), next_undecided x c s.consumed is_c u))

@@ -47,20 +47,22 @@ never_stops S count e n new pairs bytes more concatenated fit many stop =
     subst (IsErrorOf e) (verdict_unique S left found.0 (accepted p) found.1 next) found.2
 
 -- reading that many pairs of a stream returns them and leaves what follows, or it is out of memory
-pub read_list_of_encodings : (S count before after : ℕ) (old new : Option (List ℕ)) (pairs : List Pair) (bytes more : List ℕ)
-    (r : Result (Vec (Fields S) Global) Refusal) → AreConcatenated pairs bytes → All (FitsBuffer S) pairs → length pairs ≡ count
+pub read_list_of_encodings : (S : ℕ) {count before after : ℕ} {old : Option (List ℕ)} (new : Option (List ℕ)) (pairs : List Pair)
+    (bytes more : List ℕ) (r : Result (Vec (Fields S) Global) Refusal) → AreConcatenated pairs bytes → All (FitsBuffer S) pairs
+    → length pairs ≡ count
     → old ≡ Some (bytes ++ more) → after ≡ before
     → IfOk r (λ list. (length list.items ≡ count) × ConsumesPairs S (map pair_of list.items) old new)
     → IfErr r (λ e. (IsOutOfMemory e × (after ≡ before) × (new ≡ old)) ⊎ StopsAfterPairs S count e before after old new)
     → MatchResult r (λ list. (map pair_of list.items ≡ pairs) × (new ≡ Some more)) IsOutOfMemory
-read_list_of_encodings S count before after old new pairs bytes more (Ok list) concatenated fit many rest same ok err =
+read_list_of_encodings S new pairs bytes more (Ok list) concatenated fit many rest same ok err =
     let (left, is, cut) = Consumes-known (bytes ++ more) ok.1.bytes new (sym rest ∙ ok.1.consumes) in
     let long : length (map pair_of list.items) ≡ length pairs = omega (arith, length-map list.items pair_of, ok.0) in
     let told = parts_unique IsEncoding encoding_unique (map pair_of list.items) pairs ok.1.bytes bytes left more long ok.1.concatenated
     concatenated (sym cut) in
     (told.0, is ∙ ap Some told.2)
-read_list_of_encodings S count before after old new pairs bytes more (Err e) concatenated fit many rest same ok (inl memory) = memory.0
-read_list_of_encodings S count before after old new pairs bytes more (Err e) concatenated fit many rest same ok (inr stop) =
+read_list_of_encodings S new pairs bytes more (Err e) concatenated fit many rest same ok (inl memory) = memory.0
+read_list_of_encodings S {count = count} {before = before} {old = old} new pairs bytes more (Err e) concatenated fit many rest same ok
+    (inr stop) =
     absurd (never_stops S count e before new pairs bytes more concatenated fit many
     (subst (λ o. StopsAfterPairs S count e before before o new) rest (subst (λ n. StopsAfterPairs S count e before n old new) same stop)))
 
@@ -88,14 +90,14 @@ scale_taken S p input bytes more v e whole form fits found rejected =
     subst (IsErrorOf e) (scale_verdict_unique S input v (accepted p) found (bytes, more, form, omega arith, whole)) rejected
 
 -- if a pair's encoding comes next, reading returns the pair and leaves what follows
-pub read_of_encoding : (S before after : ℕ) (old new : Option (List ℕ)) (p : Pair) (bytes more : List ℕ) (r : Result (Fields S) Refusal)
-    → IsEncoding p bytes → FitsBuffer S p → old ≡ Some (bytes ++ more) → after ≡ before
+pub read_of_encoding : (S : ℕ) {before after : ℕ} {old : Option (List ℕ)} (new : Option (List ℕ)) (p : Pair) (bytes more : List ℕ)
+    (r : Result (Fields S) Refusal) → IsEncoding p bytes → FitsBuffer S p → old ≡ Some (bytes ++ more) → after ≡ before
     → IfSome old (λ rest. after ≡ before → (v : Verdict) × HasVerdict S rest v × IsResultOf r v)
     → IfOk r (λ m. (consumed : List ℕ) × IsEncoding (pair_of m) consumed × Consumes old consumed new)
     → MatchResult r (λ m. (pair_of m ≡ p) × (new ≡ Some more)) (λ _. ⊥)
-read_of_encoding S before after old new p bytes more (Ok m) encodes fits rest same verdict ok =
+read_of_encoding S {old = old} new p bytes more (Ok m) encodes fits rest same verdict ok =
     part_read IsEncoding encoding_unique (pair_of m) p bytes more old new ok encodes rest
-read_of_encoding S before after old new p bytes more (Err e) encodes fits rest same verdict ok =
+read_of_encoding S new p bytes more (Err e) encodes fits rest same verdict ok =
     let found = (rw rest at verdict) same in
     let own : HasVerdict S (bytes ++ more) (accepted p) = (more, record { encoding = bytes; encodes = encodes; cut = refl }, fits) in
     subst (IsErrorOf e) (verdict_unique S (bytes ++ more) found.0 (accepted p) found.1 own) found.2
@@ -195,7 +197,7 @@ exact_after n m before after read old mid new e consumes long fails = record {
   consumed = record {
     consumed = read ++ fails.consumed.consumed;
     fewer = omega (arith, fails.consumed.fewer, length-append read fails.consumed.consumed, long);
-    consumes = Consumes-concatenated old mid new read fails.consumed.consumed _ refl consumes fails.consumed.consumes;
+    consumes = Consumes-concatenated new read fails.consumed.consumed refl consumes fails.consumed.consumes;
   };
   short = λ same. IfSome-consumed old mid read (λ bytes. length bytes < n) consumes
       (λ left is. omega (arith, (rw is at (fails.short same)), length-append read left, long));

@@ -16,9 +16,10 @@ use Rattle.multihash.specs.Streams.{AreConcatenated}
 use Rattle.multihash.specs.Multihash.{Fields, pair_of}
 
 -- an encoding, made of the varints of the code and of the digest's length, and the digest
-pub encoding_of_parts : (p : Pair) (code size : ℕ) (digest a b : List ℕ) → code ≡ p.code → size ≡ length p.digest → digest ≡ p.digest
+pub encoding_of_parts : (p : Pair) {code size : ℕ} {digest : List ℕ} (a b : List ℕ) → code ≡ p.code → size ≡ length p.digest
+    → digest ≡ p.digest
     → IsVarint code a → IsVarint size b → IsEncoding p (a ++ (b ++ digest))
-encoding_of_parts p code size digest a b same_code same_size same_digest is_code is_size = record {
+encoding_of_parts p a b same_code same_size same_digest is_code is_size = record {
   code = a;
   size = b;
   is_code = subst (λ n. IsVarint n a) same_code is_code;

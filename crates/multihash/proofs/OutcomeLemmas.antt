@@ -1,6 +1,11 @@
 -- What holds of the result if a `?` passes an error on.
-use Rattle.std.proofs.Common.{◌≡◌, Result, Ok, Err, MatchResult, IfErr, OnErr, sym, subst}
+use Rattle.std.proofs.Common.{◌≡◌, Result, Ok, Err, MatchResult, IfErr, OnErr, ap, sym, subst}
 use Rattle.std.specs.Result.{IsErrAnd}
+
+-- the result of a `?` that passes an error on is that error: `rw (passed_error r _ given) h` takes what holds of it
+pub passed_error : {T E : Type 0} (r : Result T E) (e : E) → IsErrAnd r (λ x. x ≡ e) → r ≡ Err e
+passed_error (Ok t) e given = absurd given
+passed_error (Err x) e given = ap Err given
 
 -- what holds of an error holds of the error that a `?` returns, which equals that one
 pub passed_on : {T E : Type 0} (r : Result T E) (e : E) (Q : T → Type 0) (P : E → Type 0) → IsErrAnd r (λ x. x ≡ e) → P e

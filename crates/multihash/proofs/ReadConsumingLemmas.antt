@@ -73,8 +73,8 @@ listed S e consumed unexpected_eof given has = inr (inr given)
 
 -- ---- for each verdict
 
-module _ (S : ℕ) (consumed : List ℕ) (old new : Option (List ℕ)) (before after : ℕ) (consumes : Consumes old consumed new) (v : Verdict)
-    (has : HasVerdict S consumed v) where
+module _ (S : ℕ) (consumed : List ℕ) {old : Option (List ℕ)} (new : Option (List ℕ)) (before after : ℕ)
+    (consumes : Consumes old consumed new) (v : Verdict) (has : HasVerdict S consumed v) where
   -- a verdict that is not incomplete, while every strict prefix is incomplete
   module _ (unrisen : after ≡ before) (late : ¬ (IsIncomplete v)) (no_sooner : (p : List ℕ) → IsStrictPrefix p consumed
       → IsIncompleteInput S p) where
@@ -172,11 +172,11 @@ module _ (S : ℕ) (consumed : List ℕ) (old new : Option (List ℕ)) (before a
       unsettled = none;
     }
 
-pub read_returned : (S : ℕ) (consumed : List ℕ) (old new : Option (List ℕ)) (before after : ℕ) (m : Fields S) → after ≡ before
-    → IsEncoding (pair_of m) consumed → Consumes old consumed new → ReadMeets S old new before after (Ok m)
-read_returned S consumed old new before after m unrisen encodes consumes =
+pub read_returned : (S : ℕ) {consumed : List ℕ} {old : Option (List ℕ)} (new : Option (List ℕ)) {before after : ℕ} (m : Fields S)
+    → after ≡ before → IsEncoding (pair_of m) consumed → Consumes old consumed new → ReadMeets S old new before after (Ok m)
+read_returned S {consumed = consumed} new {before = before} {after = after} m unrisen encodes consumes =
     let fits = digest_fits m in
-    at_pair S consumed old new before after consumes (accepted (pair_of m))
+    at_pair S consumed new before after consumes (accepted (pair_of m))
     ([], record { encoding = consumed; encodes = encodes; cut = sym (append-nil consumed) }, fits) unrisen (λ e. e)
     (λ p before. before_digest S (pair_of m) consumed p encodes fits before) m refl encodes
 
@@ -188,7 +188,7 @@ whole_at_end P consumed new ends p left is =
 
 -- ---- in the code or the size
 
-module _ (S : ℕ) (e : Refusal) (old mid new : Option (List ℕ)) (before after : ℕ) (t : ConsumesAtVarintError e mid new)
+module _ (S : ℕ) {e : Refusal} (old : Option (List ℕ)) {mid new : Option (List ℕ)} {before after : ℕ} (t : ConsumesAtVarintError e mid new)
     (how : ((before < after) × IsReaderError e) ⊎ ((after ≡ before) × IsAnyVarintError e)) where
   module _ (a : List ℕ) (consumes : Consumes old (a ++ t.consumed) new)
       (shows : (f : VarintError) → BeginsMalformed f t.consumed → HasVerdict S (a ++ t.consumed) (malformed f))
@@ -196,55 +196,59 @@ module _ (S : ℕ) (e : Refusal) (old mid new : Option (List ℕ)) (before after
     rejected : (f : VarintError) → after ≡ before → IsVarintError f e → HasVerdict S (a ++ t.consumed) (malformed f)
         → ReadMeets S old new before after (Err e)
     rejected insufficient same given has =
-        at_incomplete S _ _ _ _ _ consumes (malformed insufficient) has tt e same given (λ _. t.all given)
+        at_incomplete S (a ++ t.consumed) new before after consumes (malformed insufficient) has tt e same given (λ _. t.all given)
         (whole_at_end (λ x. HasVerdict S x (malformed insufficient)) (a ++ t.consumed) new (t.all given) has)
-    rejected overflow same given has = at_settled S _ _ _ _ _ consumes (malformed overflow) has same (λ h. h) no_sooner e given
-    rejected not_minimal same given has = at_settled S _ _ _ _ _ consumes (malformed not_minimal) has same (λ h. h) no_sooner e given
+    rejected overflow same given has = at_settled S (a ++ t.consumed) new before after consumes (malformed overflow) has same
+        (λ h. h) no_sooner e given
+    rejected not_minimal same given has = at_settled S (a ++ t.consumed) new before after consumes (malformed not_minimal) has same
+        (λ h. h) no_sooner e given
 
     stops_in_varint : ReadMeets S old new before after (Err e)
     stops_in_varint =
         elim how [
-          | inl (rose, own) ↦ at_failure S _ _ _ _ _ consumes (malformed insufficient) (shows insufficient (t.failed own)) tt e rose own
+          | inl (rose, own) ↦ at_failure S (a ++ t.consumed) new before after consumes (malformed insufficient)
+              (shows insufficient (t.failed own)) tt e rose own
           | inr (same, (f, given)) ↦ rejected f same given (shows f (t.shows f given))
         ]
 
   pub stops_in_code : Consumes old t.consumed new → ReadMeets S old new before after (Err e)
   stops_in_code consumes = stops_in_varint [] consumes (λ f h. inl h) (λ p b. (malformed insufficient, inl (t.no_sooner p b), tt))
 
-  pub stops_in_size : (code : ℕ) (a : List ℕ) → IsVarint code a → Consumes old a mid → ReadMeets S old new before after (Err e)
-  stops_in_size code a is_code first =
-      stops_in_varint a (Consumes-concatenated old mid new a t.consumed _ refl first t.consumes)
+  pub stops_in_size : {code : ℕ} (a : List ℕ) → IsVarint code a → Consumes old a mid → ReadMeets S old new before after (Err e)
+  stops_in_size {code = code} a is_code first =
+      stops_in_varint a (Consumes-concatenated new a t.consumed refl first t.consumes)
       (λ f h. inr (t.consumed, coded code a _ t.consumed is_code refl, h))
       (λ p b. before_second S code a t.consumed p is_code t.no_sooner b)
 
 -- ---- after both varints
 
-module _ (S code size : ℕ) (a b : List ℕ) (is_code : IsVarint code a) (is_size : IsVarint size b) (old new : Option (List ℕ))
-    (before after : ℕ) where
+module _ (S : ℕ) {code size : ℕ} {a b : List ℕ} (is_code : IsVarint code a) (is_size : IsVarint size b) where
   has_size : (rest : List ℕ) → BeginsWithSize size (a ++ (b ++ rest)) rest
   has_size rest = sized code size a b _ rest is_code is_size refl
 
-  pub stops_at_size : (e : Refusal) → after ≡ before → digest_limit S < size → IsInvalidSize size e → Consumes old (a ++ b) new
+  pub stops_at_size : {old : Option (List ℕ)} (new : Option (List ℕ)) {before after : ℕ} (e : Refusal) → after ≡ before
+      → digest_limit S < size → IsInvalidSize size e → Consumes old (a ++ b) new
       → ReadMeets S old new before after (Err e)
-  stops_at_size e same over given consumes =
-      at_settled S (a ++ b) old new before after consumes (invalid_size size)
+  stops_at_size new {before = before} {after = after} e same over given consumes =
+      at_settled S (a ++ b) new before after consumes (invalid_size size)
       ([], subst (λ z. BeginsWithSize size (a ++ z) []) (append-nil b) (has_size []), over) same (λ h. h)
       (λ p begins. before_both S code size a b p is_code is_size begins) e given
 
-  module _ (within : size ≤ digest_limit S) where
+  module _ (new : Option (List ℕ)) (within : size ≤ digest_limit S) where
     cut_digest : (rest : List ℕ) → length rest < size → HasVerdict S (a ++ (b ++ rest)) unexpected_eof
     cut_digest rest short = (size, rest, has_size rest, within, short)
 
-    pub stops_in_digest : (error : Fault) (front : List ℕ) (mid : Option (List ℕ)) → length front < size → Consumes mid front new
+    pub stops_in_digest : {old mid : Option (List ℕ)} {before after : ℕ} (error : Fault) (front : List ℕ) → length front < size
+        → Consumes mid front new
         → (IsUnexpectedEof error → HasFewerThan size mid)
         → ((before < after) × IsOwnFault error) ⊎ ((after ≡ before) × IsUnexpectedEof error) → Consumes old (a ++ (b ++ front)) new
         → ReadMeets S old new before after (Err (of_io error))
-    stops_in_digest error front mid short last few how consumes =
+    stops_in_digest {before = before} {after = after} error front short last few how consumes =
         elim how [
           | inl (rose, own) ↦
-              at_failure S _ old new before after consumes unexpected_eof (cut_digest front short) tt (of_io error) rose (error, refl, own)
+              at_failure S _ new before after consumes unexpected_eof (cut_digest front short) tt (of_io error) rose (error, refl, own)
           | inr (same, ended) ↦
-              at_incomplete S _ old new before after consumes unexpected_eof (cut_digest front short) tt (of_io error) same
+              at_incomplete S _ new before after consumes unexpected_eof (cut_digest front short) tt (of_io error) same
               (error, refl, ended)
               (λ no. cc) (λ left is. rw (append_assoc a (b ++ front) left, append_assoc b front left)
               (cut_digest (front ++ left) (subst (HasFewerThan size) (last ∙ ap (prepend_known front) is) (few ended))))
@@ -252,7 +256,7 @@ module _ (S code size : ℕ) (a b : List ℕ) (is_code : IsVarint code a) (is_si
 
 -- ---- the error of a head
 
-module _ (e : Refusal) (input : List ℕ) where
+module _ {e : Refusal} (input : List ℕ) where
   head_error : (f : VarintError) (taken : ℕ) → IsVarintError f e → taken ≤ length input → ((S : ℕ) → HasVerdict S input (malformed f))
       → ((S : ℕ) → ReadMeets S (Some input) (Some (drop taken input)) 0 0 (Err e)) → IsHeadError input e taken
   head_error f taken named within has meets = record {
@@ -266,15 +270,15 @@ module _ (e : Refusal) (input : List ℕ) where
         omega (arith, within, ap length ends, length-drop taken input);
   }
 
-  pub code_error : (taken : ℕ) → IsFrontErrorAt input e taken → IsHeadError input e taken
-  code_error taken ((f, named, shows), within, t) =
+  pub code_error : {taken : ℕ} → IsFrontErrorAt input e taken → IsHeadError input e taken
+  code_error {taken = taken} ((f, named, shows), within, t) =
       head_error f taken named within (λ S. inl shows)
-      (λ S. stops_in_code S e (Some input) (Some input) _ 0 0 t (inr (refl, (f, named))) t.consumes)
+      (λ S. stops_in_code S (Some input) t (inr (refl, (f, named))) t.consumes)
 
-  pub size_error : (code k taken : ℕ) → k ≤ length input → ConsumesVarint code (Some input) (Some (drop k input))
+  pub size_error : {code : ℕ} (k taken : ℕ) → k ≤ length input → ConsumesVarint code (Some input) (Some (drop k input))
       → IsFrontErrorAt (drop k input) e taken → IsHeadError input e (k + taken)
-  size_error code k taken inside (a, is_code, first) ((f, named, shows), within, t) =
+  size_error {code = code} k taken inside (a, is_code, first) ((f, named, shows), within, t) =
       let begins = coded code a input (drop k input) is_code (Consumes-cut input a (drop k input) first) in
       head_error f (k + taken) named (omega (arith, inside, within, length-drop k input)) (λ S. inr (drop k input, begins, shows))
       (λ S. subst (λ left. ReadMeets S (Some input) (Some left) 0 0 (Err e)) (drop-drop taken k input)
-      (stops_in_size S e (Some input) (Some (drop k input)) _ 0 0 t (inr (refl, (f, named))) code a is_code first))
+      (stops_in_size S (Some input) t (inr (refl, (f, named))) a is_code first))

@@ -8,18 +8,21 @@ use Rattle.std.specs.Io.KnownBytes.{prepend_known, IsAtEnd}
 use Rattle.multihash.specs.Reading.{Consumes}
 
 -- two lists before a rest, prepended one after the other
-pub prepend_known-append : (xs ys : List ℕ) (rest : Option (List ℕ)) → prepend_known xs (prepend_known ys rest) ≡ prepend_known (xs ++ ys) rest
+pub prepend_known-append : (xs ys : List ℕ) (rest : Option (List ℕ))
+    → prepend_known xs (prepend_known ys rest) ≡ prepend_known (xs ++ ys) rest
 prepend_known-append xs ys None = refl
 prepend_known-append xs ys (Some rest) = ap Some (sym (append_assoc xs ys rest))
 
 -- two calls, one after the other, consumed both lists
-pub Consumes-concatenated : (a b c : Option (List ℕ)) (xs ys whole : List ℕ) → whole ≡ xs ++ ys → Consumes a xs b → Consumes b ys c → Consumes a whole c
-Consumes-concatenated a b c xs ys whole concatenated first second =
+pub Consumes-concatenated : {a b : Option (List ℕ)} (c : Option (List ℕ)) (xs ys : List ℕ) {whole : List ℕ} → whole ≡ xs ++ ys
+    → Consumes a xs b → Consumes b ys c → Consumes a whole c
+Consumes-concatenated c xs ys concatenated first second =
     first ∙ ap (prepend_known xs) second ∙ prepend_known-append xs ys c ∙ ap (λ l. prepend_known l c) (sym concatenated)
 
 -- If a call changed the bytes of a buffer from `at` on:
 -- the buffer starts with its old bytes before `at` and the first new ones
-pub take-put_mid_more : (at k n : ℕ) (xs ys : List ℕ) → at ≤ length xs → n ≤ length ys → take (at + n) (put_mid at k xs ys) ≡ take at xs ++ take n ys
+pub take-put_mid_more : (at k n : ℕ) (xs ys : List ℕ) → at ≤ length xs → n ≤ length ys
+    → take (at + n) (put_mid at k xs ys) ≡ take at xs ++ take n ys
 take-put_mid_more at k n xs ys within fits =
     let after = post_of at k xs in
     ap (λ m. take (m + n) (take at xs ++ (ys ++ after))) (sym (length-take-le at xs within))
@@ -50,9 +53,11 @@ cut_at input front left cut =
     (rw (long, cut) (take-append_seam front left), rw (long, cut) (drop-append_seam front left))
 
 -- what holds of the consumed bytes with any rest holds of the rest at entry, if the input is known
-pub IfSome-consumed : (old new : Option (List ℕ)) (consumed : List ℕ) (P : List ℕ → Type 0) → Consumes old consumed new → ((left : List ℕ) → new ≡ Some left → P (consumed ++ left)) → IfSome old P
+pub IfSome-consumed : (old new : Option (List ℕ)) (consumed : List ℕ) (P : List ℕ → Type 0) → Consumes old consumed new
+    → ((left : List ℕ) → new ≡ Some left → P (consumed ++ left)) → IfSome old P
 IfSome-consumed None new consumed P consumes h = tt
-IfSome-consumed (Some xs) new consumed P consumes h = let (left, is, cut) = Consumes-known xs consumed new consumes in subst P (sym cut) (h left is)
+IfSome-consumed (Some xs) new consumed P consumes h = let (left, is, cut) = Consumes-known xs consumed new consumes in
+    subst P (sym cut) (h left is)
 
 -- a call that consumed nothing
 pub Consumes-none : (a : Option (List ℕ)) → Consumes a [] a

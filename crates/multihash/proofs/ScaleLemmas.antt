@@ -217,13 +217,14 @@ ScaleMeets S old new before after r = record {
   err : IfErr r (λ e. ConsumesAtScaleError S e old new);
 }
 
-module _ (S : ℕ) (old new : Option (List ℕ)) (before after : ℕ) where
+module _ (S : ℕ) (new : Option (List ℕ)) where
   -- the consumed bytes determine that the code or the size is rejected
-  scale_rejected : (e : Refusal) (consumed : List ℕ) (v : Verdict) → Consumes old consumed new → after ≡ before
-      → ((left : List ℕ) → HasScaleVerdict S (consumed ++ left) v) → ¬ (IsIncomplete v) → IsErrorOf e v → ScaleMayFailWith S e
+  scale_rejected : {old : Option (List ℕ)} {before after : ℕ} (e : Refusal) (consumed : List ℕ) (v : Verdict)
+      → Consumes old consumed new → after ≡ before → ((left : List ℕ) → HasScaleVerdict S (consumed ++ left) v) → ¬ (IsIncomplete v)
+      → IsErrorOf e v → ScaleMayFailWith S e
       → ((code : ℕ) → v ≡ invalid_code code → length consumed ≡ 8)
       → ((size : ℕ) → v ≡ invalid_size size → length consumed ≡ 9) → ScaleMeets S old new before after (Err e)
-  scale_rejected e consumed v consumes same has late given listed eight nine =
+  scale_rejected {old = old} e consumed v consumes same has late given listed eight nine =
       let own = subst (λ x. HasScaleVerdict S x v) (append-nil consumed) (has []) in record {
         faults = inr (same, listed);
         verdict = IfSome-consumed old new consumed _ consumes (λ left _ _. (v, has left, given));
@@ -242,8 +243,9 @@ module _ (S : ℕ) (old new : Option (List ℕ)) (before after : ℕ) where
         };
       }
 
-  module _ (code : ℕ) (a : List ℕ) (is : IsScaleCode code a) where
-    pub code_rejected : (e : Refusal) → varint_limit ≤ code → after ≡ before → IsInvalidCode code e → Consumes old a new
+  module _ {code : ℕ} {a : List ℕ} (is : IsScaleCode code a) where
+    pub code_rejected : {old : Option (List ℕ)} {before after : ℕ} (e : Refusal) → varint_limit ≤ code → after ≡ before
+        → IsInvalidCode code e → Consumes old a new
         → ScaleMeets S old new before after (Err e)
     code_rejected e above same given consumes =
         scale_rejected e a (invalid_code code) consumes same (λ left. (a, left, is, above, refl)) (λ h. h) given (inl (code, given, above))
@@ -253,17 +255,19 @@ module _ (S : ℕ) (old new : Option (List ℕ)) (before after : ℕ) where
       has_scale_size : (rest : List ℕ) → HasScaleSize size ((a ++ size ∷ []) ++ rest) rest
       has_scale_size rest = record { code = code; code_bytes = a; is_code = is; in_range = below; cut = append_assoc a (size ∷ []) rest }
 
-      pub size_rejected : (e : Refusal) → S < size → after ≡ before → IsInvalidSize size e → Consumes old (a ++ size ∷ []) new
+      pub size_rejected : {old : Option (List ℕ)} {before after : ℕ} (e : Refusal) → S < size → after ≡ before
+          → IsInvalidSize size e → Consumes old (a ++ size ∷ []) new
           → ScaleMeets S old new before after (Err e)
       size_rejected e over same given consumes =
           scale_rejected e (a ++ size ∷ []) (invalid_size size) consumes same (λ left. (left, has_scale_size left, over)) (λ h. h) given
           (inr (inl (size, given, over))) (λ k named. cc) (λ k named. omega (arith, is.eight, length-append a (size ∷ [])))
 
       -- the whole form
-      pub scale_returned : (digest : List ℕ) (m : Fields S) → size ≤ S → size < 256 → length digest ≡ size → after ≡ before
-          → pair_of m ≡ record { code = code; digest = digest } → Consumes old (a ++ size ∷ digest) new
+      pub scale_returned : {old : Option (List ℕ)} {before after : ℕ} (digest : List ℕ) (m : Fields S) → size ≤ S → size < 256
+          → length digest ≡ size → after ≡ before → pair_of m ≡ record { code = code; digest = digest }
+          → Consumes old (a ++ size ∷ digest) new
           → ScaleMeets S old new before after (Ok m)
-      scale_returned digest m fits byte long same made consumes =
+      scale_returned {old = old} digest m fits byte long same made consumes =
           let p : Pair = record { code = code; digest = digest } in
           let form : IsScale p (a ++ size ∷ digest) = scale_of p size a digest is below (sym long) byte refl in record {
             faults = same;
@@ -274,12 +278,13 @@ module _ (S : ℕ) (old new : Option (List ℕ)) (before after : ℕ) where
           }
 
   -- the input ended or the reader failed within n bytes that follow others
-  pub inside_rejected : (a : List ℕ) (n : ℕ) → ((t : List ℕ) → length t < n → HasScaleVerdict S (a ++ t) unexpected_eof)
-      → (error : Fault) (front : List ℕ) (mid : Option (List ℕ)) → length front < n → Consumes old a mid → Consumes mid front new
+  pub inside_rejected : {old mid : Option (List ℕ)} {before after : ℕ} (a : List ℕ) (n : ℕ)
+      → ((t : List ℕ) → length t < n → HasScaleVerdict S (a ++ t) unexpected_eof)
+      → (error : Fault) (front : List ℕ) → length front < n → Consumes old a mid → Consumes mid front new
       → (IsUnexpectedEof error → HasFewerThan n mid) → ((before < after) × IsOwnFault error) ⊎ ((after ≡ before) × IsUnexpectedEof error)
       → ScaleMeets S old new before after (Err (of_io error))
-  inside_rejected a n inside error front mid short first took few how =
-      let consumes = Consumes-concatenated old mid new a front _ refl first took in record {
+  inside_rejected {old = old} a n inside error front short first took few how =
+      let consumes = Consumes-concatenated new a front refl first took in record {
         faults = elim how [ inl (rose, own) ↦ inl (rose, (error, refl, own)) | inr (same, eof) ↦ inr (same, inr (inr (error, refl, eof))) ];
         verdict = IfSome-consumed old new (a ++ front) _ consumes (λ left told same.
             elim how [
@@ -299,15 +304,14 @@ module _ (S : ℕ) (old new : Option (List ℕ)) (before after : ℕ) where
       }
 
 -- a code with no size after it, and a truncated digest
-pub no_size : (S code : ℕ) (a : List ℕ) → IsScaleCode code a → code < varint_limit → (t : List ℕ) → length t < 1
+pub no_size : (S : ℕ) {code : ℕ} {a : List ℕ} → IsScaleCode code a → code < varint_limit → (t : List ℕ) → length t < 1
     → HasScaleVerdict S (a ++ t) unexpected_eof
-no_size S code a is below [] none = inr (inl (code, subst (IsScaleCode code) (sym (append-nil a)) is, below))
-no_size S code a is below (b ∷ t) none = absurd (omega arith)
+no_size S {code = code} {a = a} is below [] none = inr (inl (code, subst (IsScaleCode code) (sym (append-nil a)) is, below))
+no_size S is below (b ∷ t) none = absurd (omega arith)
 
-pub cut_scale_digest : (S code : ℕ) (a : List ℕ) → IsScaleCode code a → (size : ℕ) → code < varint_limit → size ≤ S → (t : List ℕ)
-    → length t < size
-    → HasScaleVerdict S ((a ++ size ∷ []) ++ t) unexpected_eof
-cut_scale_digest S code a is size below fits t short =
+pub cut_scale_digest : (S : ℕ) {code : ℕ} {a : List ℕ} → IsScaleCode code a → (size : ℕ) → code < varint_limit → size ≤ S
+    → (t : List ℕ) → length t < size → HasScaleVerdict S ((a ++ size ∷ []) ++ t) unexpected_eof
+cut_scale_digest S {code = code} {a = a} is size below fits t short =
     inr (inr (
       size,
       t,

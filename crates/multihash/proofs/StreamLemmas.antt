@@ -138,14 +138,14 @@ pub concatenated_whole : (ps qs : List Pair) (bytes : List ℕ) → AreConcatena
 concatenated_whole = parts_whole IsEncoding encoding_unique encoding_some
 
 -- one more pair was read after others
-pub ConsumesPairs-more : (S : ℕ) (items : List (Fields S)) (m : Fields S) (encoding : List ℕ) (a b c : Option (List ℕ))
+pub ConsumesPairs-more : (S : ℕ) (items : List (Fields S)) (m : Fields S) {encoding : List ℕ} {a b : Option (List ℕ)} (c : Option (List ℕ))
     → ConsumesPairs S (map pair_of items) a b
     → IsEncoding (pair_of m) encoding → FitsBuffer S (pair_of m) → Consumes b encoding c
     → ConsumesPairs S (map pair_of (items ++ m ∷ [])) a c
-ConsumesPairs-more S items m encoding a b c before encodes fits consumes =
+ConsumesPairs-more S items m {encoding = encoding} c before encodes fits consumes =
     rw (map_push pair_of items m) (record {
       bytes = before.bytes ++ encoding;
       concatenated = parts_push IsEncoding (map pair_of items) (pair_of m) before.bytes encoding before.concatenated encodes;
       fit = All-push (FitsBuffer S) (map pair_of items) (pair_of m) before.fit fits;
-      consumes = Consumes-concatenated a b c before.bytes encoding _ refl before.consumes consumes;
+      consumes = Consumes-concatenated c before.bytes encoding refl before.consumes consumes;
     })

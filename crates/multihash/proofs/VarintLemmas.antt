@@ -163,10 +163,12 @@ front_is x (number n rest) (bytes, v, cut) =
     let front = All-append_left IsDigit v.front (v.last ∷ []) v.digits in
     let value : place_value 128 (low_digits (ms ++ v.last ∷ [])) ≡ n =
     rw (map_push (λ b. b % 128) ms v.last, low_digits-continuation_bytes v.front front, mod-eq_of_lt last) v.value in
-    sym (front_ends ms v.last rest x (All-continuation_bytes v.front) (omega (arith, few.0, long)) last (λ most. few.1 (sym long ∙ most)) whole
+    sym (front_ends ms v.last rest x (All-continuation_bytes v.front) (omega (arith, few.0, long)) last
+    (λ most. few.1 (sym long ∙ most)) whole
     ∙ ends_number ms v.last rest (λ z. ap continuation_bytes (v.minimal z)) ∙ ap (λ m. number m rest) value)
 front_is x (error insufficient) h =
-    sym (ap front_of (sym (append-nil x)) ∙ front_run x max_continuation (max_continuation - length x) [] [] h.all_continuation (omega (arith, h.few)))
+    sym (ap front_of (sym (append-nil x)) ∙ front_run x max_continuation (max_continuation - length x) [] [] h.all_continuation
+    (omega (arith, h.few)))
 front_is x (error overflow) h =
     sym (ap front_of h.cut ∙ front_run h.front max_continuation 0 [] (h.byte ∷ h.rest) h.all_continuation (omega (arith, h.most))
     ∙ rw (le-ltb h.byte last_byte_limit h.too_large) refl)
@@ -204,7 +206,8 @@ front_has zero ms (b ∷ rest) all room bytes =
     ]
 front_has (suc left) ms (b ∷ rest) all room bytes =
     elim (cases_lt b 128) [
-      | inl small ↦ rw (lt-ltb b 128 small) (ends_has ms b rest all small (omega (arith, room)) (λ most. absurd (omega (arith, room, most))) bytes)
+      | inl small ↦ rw (lt-ltb b 128 small)
+          (ends_has ms b rest all small (omega (arith, room)) (λ most. absurd (omega (arith, room, most))) bytes)
       | inr large ↦ rw (le-ltb b 128 large, ← append_assoc ms (b ∷ []) rest)
           (front_has left (ms ++ b ∷ []) rest (All-push IsContinuation ms b all large) (omega (arith, room, length_push ms b))
           (rw (append_assoc ms (b ∷ []) rest) bytes))

@@ -45,7 +45,8 @@ none_read old = record {
 digit_of : (byte : ℕ) → bit_and byte 127 ≡ place_value 128 (low_digits (byte ∷ []))
 digit_of byte = and_mask byte 7 ∙ omega (arith, place_value-cons 128 (byte % 128) [], place_value-nil 128)
 
-pub one_read : (now : Option (List ℕ)) (byte : ℕ) → byte < 256 → 128 ≤ byte → ReadsContinuation (prepend_known (byte ∷ []) now) now (bit_and byte 127) 1
+pub one_read : (now : Option (List ℕ)) (byte : ℕ) → byte < 256 → 128 ≤ byte
+    → ReadsContinuation (prepend_known (byte ∷ []) now) now (bit_and byte 127) 1
 one_read now byte small large = record {
   front = byte ∷ [];
   consumes = refl;
@@ -60,26 +61,36 @@ one_read now byte small large = record {
 abbrev pub with_byte : ℕ → ℕ → ℕ → ℕ
 with_byte sum byte i = bit_or sum (bit_and byte 127 * 2 ^ (7 * i) % 2 ^ 64)
 
-module _ (old now : Option (List ℕ)) (sum i : ℕ) (h : ReadsContinuation old now sum i) where
+module _ {old now : Option (List ℕ)} {sum i : ℕ} (h : ReadsContinuation old now sum i) where
   -- a strict prefix of continuation bytes and one more byte is insufficient
   before_last : (byte : ℕ) (shorter : List ℕ) → IsStrictPrefix shorter (h.front ++ byte ∷ []) → IsInsufficient shorter
   before_last byte shorter begins =
       before_step (h.front ++ byte ∷ []) shorter
-      (record { front = h.front; last = byte; all_continuation = h.continuation_bytes; few = omega (arith, h.few, h.long); cut = refl }) begins
+      (record {
+        front = h.front;
+        last = byte;
+        all_continuation = h.continuation_bytes;
+        few = omega (arith, h.few, h.long);
+        cut = refl;
+      }) begins
 
   before_end : (shorter : List ℕ) → IsStrictPrefix shorter h.front → IsInsufficient shorter
   before_end shorter (rest, some, cut) =
-      before_last 0 shorter
-      (rest ++ 0 ∷ [], (λ none. omega (arith, ap length none, length_push rest 0)), ap (λ z. z ++ 0 ∷ []) cut ∙ append_assoc shorter rest (0 ∷ []))
+      before_last 0 shorter (
+        rest ++ 0 ∷ [],
+        (λ none. omega (arith, ap length none, length_push rest 0)),
+        ap (λ z. z ++ 0 ∷ []) cut ∙ append_assoc shorter rest (0 ∷ []),
+      )
 
   whole : IsInsufficient h.front
   whole = record { few = omega (arith, h.few, h.long); all_continuation = h.continuation_bytes }
 
   -- the consumed bytes show that the varint is malformed
-  varint_rejected : (new : Option (List ℕ)) (error : VarintError) (consumed : List ℕ) (e : Refusal) → e ≡ of_varint error → BeginsMalformed error consumed
-      → ((shorter : List ℕ) → IsStrictPrefix shorter consumed → IsInsufficient shorter) → (error ≡ insufficient → IsAtEnd new)
+  varint_rejected : (new : Option (List ℕ)) (error : VarintError) (consumed : List ℕ) {e : Refusal} → e ≡ of_varint error
+      → BeginsMalformed error consumed → ((shorter : List ℕ) → IsStrictPrefix shorter consumed → IsInsufficient shorter)
+      → (error ≡ insufficient → IsAtEnd new)
       → Consumes old consumed new → ConsumesAtVarintError e old new
-  varint_rejected new error consumed e given has no_sooner all consumes = record {
+  varint_rejected new error consumed given has no_sooner all consumes = record {
     consumed = consumed;
     consumes = consumes;
     shows = λ f malformed. let same : error ≡ f = cc (given, malformed) in subst (λ k. BeginsMalformed k consumed) same has;
@@ -88,8 +99,8 @@ module _ (old now : Option (List ℕ)) (sum i : ℕ) (h : ReadsContinuation old 
     failed = λ own. absurd (cc (given, own.1));
   }
 
-  pub reader_failed : (error : Fault) (e : Refusal) → e ≡ of_io error → ConsumesAtVarintError e old now
-  reader_failed error e given = record {
+  pub reader_failed : (error : Fault) {e : Refusal} → e ≡ of_io error → ConsumesAtVarintError e old now
+  reader_failed error given = record {
     consumed = h.front;
     consumes = h.consumes;
     shows = λ f malformed. absurd (cc (given, malformed));
@@ -98,22 +109,23 @@ module _ (old now : Option (List ℕ)) (sum i : ℕ) (h : ReadsContinuation old 
     failed = λ _. whole;
   }
 
-  pub input_ended : IsAtEnd now → (e : Refusal) → e ≡ of_varint insufficient → ConsumesAtVarintError e old now
-  input_ended end e given = varint_rejected now insufficient h.front e given whole before_end (λ _. end) h.consumes
+  pub input_ended : IsAtEnd now → {e : Refusal} → e ≡ of_varint insufficient → ConsumesAtVarintError e old now
+  input_ended end given = varint_rejected now insufficient h.front given whole before_end (λ _. end) h.consumes
 
   module _ (new : Option (List ℕ)) (byte : ℕ) (next : Consumes now (byte ∷ []) new) where
     consumes : Consumes old (h.front ++ byte ∷ []) new
-    consumes = Consumes-concatenated old now new h.front (byte ∷ []) (h.front ++ byte ∷ []) refl h.consumes next
+    consumes = Consumes-concatenated new h.front (byte ∷ []) refl h.consumes next
 
-    pub read_overflow : i ≡ max_continuation → last_byte_limit ≤ byte → (e : Refusal) → e ≡ of_varint overflow → ConsumesAtVarintError e old new
-    read_overflow most large e given =
-        varint_rejected new overflow (h.front ++ byte ∷ []) e given
+    pub read_overflow : i ≡ max_continuation → last_byte_limit ≤ byte → {e : Refusal} → e ≡ of_varint overflow
+        → ConsumesAtVarintError e old new
+    read_overflow most large given =
+        varint_rejected new overflow (h.front ++ byte ∷ []) given
         (overflow_after h.front byte [] h.continuation_bytes (h.long ∙ most) large)
         (before_last byte) (λ same. cc) consumes
 
-    pub ends_in_zero : byte ≡ 0 → 0 < i → (e : Refusal) → e ≡ of_varint not_minimal → ConsumesAtVarintError e old new
-    ends_in_zero null some e given =
-        varint_rejected new not_minimal (h.front ++ byte ∷ []) e given
+    pub ends_in_zero : byte ≡ 0 → 0 < i → {e : Refusal} → e ≡ of_varint not_minimal → ConsumesAtVarintError e old new
+    ends_in_zero null some given =
+        varint_rejected new not_minimal (h.front ++ byte ∷ []) given
         (rw null (zero_after h.front [] h.continuation_bytes (omega (arith, h.long)) (omega (arith, h.long, h.few))))
         (before_last byte) (λ same. cc) consumes
 
@@ -145,6 +157,6 @@ module _ (old now : Option (List ℕ)) (sum i : ℕ) (h : ReadsContinuation old 
       }
 
 -- what is known after `a && b`
-pub first_of_two : (A B : Type 0) → (A × B) ⊎ (A → ⊥) → A → B
-first_of_two A B (inl both) a = both.1
-first_of_two A B (inr none) a = absurd (none a)
+pub first_of_two : {A B : Type 0} → (A × B) ⊎ (A → ⊥) → A → B
+first_of_two (inl both) a = both.1
+first_of_two (inr none) a = absurd (none a)

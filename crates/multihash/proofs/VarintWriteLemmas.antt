@@ -35,9 +35,9 @@ continuation_byte : (rest : ℕ) → bit_or (bit_and rest 127) 128 ≡ rest % 12
 continuation_byte rest =
     rw (and_mask rest 7) (or_comm (rest % 128) 128 ∙ or_shifted 1 7 (rest % 128) (mod_below rest 128 (omega arith)) ∙ omega arith)
 
-module _ (now : List ℕ) (len n rest : ℕ) (h : Wrote now len n rest) where
-  pub wrote_more : (next : List ℕ) → 128 ≤ rest → next ≡ now ++ bit_or (bit_and rest 127) 128 ∷ [] → Wrote next (len + 1) n (rest / 128)
-  wrote_more next large e = record {
+module _ {now : List ℕ} {len n rest : ℕ} (h : Wrote now len n rest) where
+  pub wrote_more : {next : List ℕ} → 128 ≤ rest → next ≡ now ++ bit_or (bit_and rest 127) 128 ∷ [] → Wrote next (len + 1) n (rest / 128)
+  wrote_more large e = record {
     front = h.front ++ rest % 128 ∷ [];
     long = length_push h.front (rest % 128) ∙ omega (arith, h.long);
     digits = All-push IsDigit h.front (rest % 128) h.digits (mod_below rest 128 (omega arith));
@@ -71,45 +71,45 @@ module _ (now : List ℕ) (len n rest : ℕ) (h : Wrote now len n rest) where
         omega arith
 
 -- after eight digits of a number in range one is left
-pub last_digit : (now : List ℕ) (n rest : ℕ) → Wrote now 8 n rest → n < varint_limit → rest < 128
-last_digit now n rest h range = omega (arith, h.value, range)
+pub last_digit : {now : List ℕ} {n rest : ℕ} → Wrote now 8 n rest → n < varint_limit → rest < 128
+last_digit h range = omega (arith, h.value, range)
 
 -- a small number is its own varint
 pub one_byte : (n : ℕ) → n < 128 → IsVarint n (n ∷ [])
-one_byte n small = wrote_last [] 0 n n (none_wrote n) (omega (arith, small)) small
+one_byte n small = wrote_last (none_wrote n) (omega (arith, small)) small
 
 -- the varint of a number that has two bytes
 pub two_byte : (n : ℕ) → 128 ≤ n → n < 2 ^ 14 → IsVarint n (bit_or (bit_and n 127) 128 ∷ n / 128 ∷ [])
 two_byte n least most =
-    wrote_last _ 1 n (n / 128) (wrote_more [] 0 n n (none_wrote n) _ least refl) (omega (arith, most)) (omega (arith, most))
+    wrote_last (wrote_more (none_wrote n) least refl) (omega (arith, most)) (omega (arith, most))
 
 -- the varint of a number that has three bytes
 pub three_byte : (n : ℕ) → 2 ^ 14 ≤ n → n < 2 ^ 21
     → IsVarint n (bit_or (bit_and n 127) 128 ∷ bit_or (bit_and (n / 128) 127) 128 ∷ n / 128 / 128 ∷ [])
 three_byte n least most =
-    let first = wrote_more [] 0 n n (none_wrote n) (bit_or (bit_and n 127) 128 ∷ []) (omega (arith, least)) refl in
-    wrote_last _ 2 n (n / 128 / 128) (wrote_more _ 1 n (n / 128) first _ (omega (arith, least)) refl)
+    let first = wrote_more (none_wrote n) (omega (arith, least)) refl in
+    wrote_last (wrote_more first (omega (arith, least)) refl)
     (omega (arith, most)) (omega (arith, most))
 
 -- the bytes written and those of `varint_within` are the varint
-written_within : (most : ℕ) (now : List ℕ) (len n rest : ℕ) → Wrote now len n rest → n < varint_limit → rest < 128 ^ suc most
+written_within : (most : ℕ) {now : List ℕ} {len n rest : ℕ} → Wrote now len n rest → n < varint_limit → rest < 128 ^ suc most
     → IsVarint n (now ++ varint_within most rest)
-written_within zero now len n rest h range below = wrote_last now len n rest h range (omega (arith, below, pow-suc 128 0, pow-zero 128))
-written_within (suc most) now len n rest h range below =
+written_within zero h range below = wrote_last h range (omega (arith, below, pow-suc 128 0, pow-zero 128))
+written_within (suc most) {now = now} {rest = rest} h range below =
     elim (cases_lt rest 128) [
-      | inl small ↦ rw (lt-ltb rest 128 small) (wrote_last now len n rest h range small)
+      | inl small ↦ rw (lt-ltb rest 128 small) (wrote_last h range small)
       | inr large ↦
           let next = now ++ (rest % 128 + 128) ∷ [] in
-          let more = wrote_more now len n rest h next large (rw (continuation_byte rest) refl) in
+          let more = wrote_more h {next = next} large (rw (continuation_byte rest) refl) in
           rw (le-ltb rest 128 large, ← append_assoc now ((rest % 128 + 128) ∷ []) (varint_within most (rest / 128)))
-          (written_within most next (len + 1) n (rest / 128) more range
+          (written_within most more range
           (div_below rest 128 (128 ^ suc most) (omega arith) (omega (arith, below, pow-suc 128 (suc most)))))
     ]
 
 -- each number in range has its varint
 pub is_varint_of : (n : ℕ) → n < varint_limit → IsVarint n (varint_of n)
 unfolding varint_of
-is_varint_of n below = written_within max_continuation [] 0 n n (none_wrote n) below (omega (arith, below))
+is_varint_of n below = written_within max_continuation (none_wrote n) below (omega (arith, below))
 
 pub varint_exists : (n : ℕ) → n < varint_limit → (bytes : List ℕ) × IsVarint n bytes
 varint_exists n below = (varint_of n, is_varint_of n below)

@@ -194,7 +194,7 @@ whole_rejected S x e unexpected_eof has given = (unexpected_eof, has, given)
 
 -- ---- the verdict on the whole, by the two varints and what follows them
 
-module _ (code size len : ℕ) (input : List ℕ) (h : HasHead code size len input) (S : ℕ) where
+module _ {code size len : ℕ} {input : List ℕ} (h : HasHead code size len input) (S : ℕ) where
   pub whole_over : digest_limit S < size → HasWholeVerdict S input (invalid_size size)
   whole_over over = inl (drop len input, h.varints, over)
 
@@ -206,8 +206,8 @@ module _ (code size len : ℕ) (input : List ℕ) (h : HasHead code size len inp
     whole_short short = (size, rest, after, within, short)
 
     -- bytes trail the digest
-    pub whole_trailing : (n : ℕ) → size < length rest → n ≡ length rest - size → HasWholeVerdict S input (invalid_size n)
-    whole_trailing n more count =
+    pub whole_trailing : {n : ℕ} → size < length rest → n ≡ length rest - size → HasWholeVerdict S input (invalid_size n)
+    whole_trailing more count =
         let long : length (take size rest) ≡ size = length-take-le size rest (omega arith) in
         let begins = pair_begins size input rest after (take size rest) (drop size rest) long (sym (take-append-drop size rest)) in
         inr (_, drop size rest, begins, omega arith, omega (arith, length-drop size rest, count), omega arith)
@@ -222,10 +222,10 @@ module _ (code size len : ℕ) (input : List ℕ) (h : HasHead code size len inp
         (whole_pair p input begins, omega arith)
 
 -- the two varints are a head
-pub head_of : (code size k m : ℕ) (input left : List ℕ) → left ≡ drop k input → k ≤ length input → m ≤ length left
+pub head_of : {code size : ℕ} (k m : ℕ) (input : List ℕ) {left : List ℕ} → left ≡ drop k input → k ≤ length input → m ≤ length left
     → ConsumesVarint code (Some input) (Some (drop k input)) → ConsumesVarint size (Some left) (Some (drop m left))
     → HasHead code size (k + m) input
-head_of code size k m input left is within more a b =
+head_of {code = code} {size = size} k m input {left = left} is within more a b =
     let second = sym is ∙ Consumes-cut left _ (drop m left) b.2 ∙ ap (λ z. b.0 ++ z) (ap (drop m) is ∙ drop-drop m k input) in
     let cut = Consumes-cut input _ (drop k input) a.2 ∙ ap (λ z. a.0 ++ z) second in
     let inside : k + m ≤ length input = omega (arith, ap length is, length-drop k input, within, more) in

@@ -27,7 +27,12 @@ sum_of_bytes : (bs : List ℕ) (n : ℕ) → n < length bs → sum_through (λ i
 sum_of_bytes bs zero within = rw (take-suc bs 0 0 within, place_value-cons 256 (get_or bs 0 0) [], place_value-nil 256) (omega arith)
 sum_of_bytes bs (suc n) within =
     let long : length (take (suc n) bs) ≡ suc n = length-take-le (suc n) bs (omega arith) in
-    rw (sum_of_bytes bs n (omega arith), take-suc bs (suc n) 0 within, place_value_last 256 (get_or bs (suc n) 0) (take (suc n) bs), long) refl
+    rw (
+      sum_of_bytes bs n (omega arith),
+      take-suc bs (suc n) 0 within,
+      place_value_last 256 (get_or bs (suc n) 0) (take (suc n) bs),
+      long,
+    ) refl
 
 pub le_word : (bs : List ℕ) → length bs ≡ 16 → from_le_bytes w128 bs ≡ place_value 256 bs
 le_word bs long = sum_of_bytes bs 15 (omega arith) ∙ ap (place_value 256) (take_all 16 bs (omega arith))
@@ -92,7 +97,8 @@ overflow_at xs bytes begins large e named =
     (length-take-le max_continuation xs begins.enough) large) in (
       (overflow, named, shows),
       omega (arith, below),
-      read_overflow _ _ _ _ (front_read xs max_continuation bytes begins (omega arith)) _ _ (ap Some (drop_more xs max_continuation 0 below)) refl large e named,
+      read_overflow (front_read xs max_continuation bytes begins (omega arith)) _ _ (ap Some (drop_more xs max_continuation 0 below)) refl
+          large named,
     )
 
 -- that many continuation bytes are at the front of the input, and the last byte, or zero at the end of the
@@ -105,7 +111,7 @@ pub record EndsAt (xs : List ℕ) (k last : ℕ) : Type 0 where
   pub below_128 : last < 128
   pub small : k ≡ max_continuation → last < last_byte_limit
 
-module _ (xs : List ℕ) (word present k last : ℕ) (f : IsFrontWord xs word present) (end : EndsAt xs k last) where
+module _ {xs : List ℕ} {word present k last : ℕ} (f : IsFrontWord xs word present) (end : EndsAt xs k last) where
   read_there : ReadsContinuation (Some xs) (Some (drop k xs)) (place_value 128 (low_digits (take k xs))) k
   read_there = front_read xs k end.bytes end.begins end.few
 
@@ -116,7 +122,7 @@ module _ (xs : List ℕ) (word present k last : ℕ) (f : IsFrontWord xs word pr
       let none : drop k xs ≡ [] = nil_from_length (drop k xs) (omega (arith, length-drop k xs, f.present_is, past, end.few)) in
       let shows : IsInsufficient xs =
       record { few = omega (arith, f.present_is, end.few); all_continuation = rw all at end.begins.all_continuation } in
-      ((insufficient, named, shows), omega (arith, whole, end.begins.enough), rw whole (input_ended _ _ _ _ read_there none e named))
+      ((insufficient, named, shows), omega (arith, whole, end.begins.enough), rw whole (input_ended read_there none named))
 
   module _ (within : k < present) where
     below : k < length xs
@@ -132,18 +138,19 @@ module _ (xs : List ℕ) (word present k last : ℕ) (f : IsFrontWord xs word pr
         (zero_after (take k xs) (drop (k + 1) xs) end.begins.all_continuation (omega (arith, long)) (omega (arith, long, end.few))) in (
           (not_minimal, named, shows),
           omega (arith, below),
-          ends_in_zero _ _ _ _ read_there _ _ (ap Some (drop_more xs k 0 below)) (sym end.last_is ∙ null) some e named,
+          ends_in_zero read_there _ _ (ap Some (drop_more xs k 0 below)) (sym end.last_is ∙ null) some named,
         )
 
     pub stops_at_number : (last ≡ 0 → k ≡ 0) → IsVarint (place_value 128 (low_digits (take (k + 1) xs))) (take (k + 1) xs)
     stops_at_number minimal =
         rw (take_more xs k 0 below, ← end.last_is)
-        (varint_from_bytes (take k xs) last (All-take (λ b. b < 256) k xs end.bytes) end.begins.all_continuation end.below_128 (omega (arith, long, end.few))
+        (varint_from_bytes (take k xs) last (All-take (λ b. b < 256) k xs end.bytes) end.begins.all_continuation end.below_128
+        (omega (arith, long, end.few))
         (λ e. end.small (sym long ∙ e)) (λ z. nil_from_length (take k xs) (long ∙ minimal z)))
 
 -- ---- what a word shows of the bytes whose first it holds
 
-module _ (xs : List ℕ) (word present : ℕ) (bytes : IsBytes xs) (f : IsFrontWord xs word present) where
+module _ {xs : List ℕ} {word present : ℕ} (bytes : IsBytes xs) (f : IsFrontWord xs word present) where
   first_bytes : (n : ℕ) → IsBytes (take n xs)
   first_bytes n = All-take (λ b. b < 256) n xs bytes
 
@@ -193,7 +200,7 @@ module _ (xs : List ℕ) (word present : ℕ) (bytes : IsBytes xs) (f : IsFrontW
       low_stop.varint ∙ ap (λ (m : ℕ). m % 2 ^ (8 * j)) low_is ∙ low_bytes (take 8 xs) j (first_bytes 8)
       ∙ ap (place_value 256) (take-take j 8 xs few) in
       rw (ap (digits_low 8) kept ∙ digits_low_of 8 (take j xs) (first_bytes j) (omega (arith, few, length-take j xs)))
-      (stops_at_number xs word present (stop_at lower) _ f (low_end some) within minimal)
+      (stops_at_number f (low_end some) within minimal)
 
   -- the byte after the low half, which holds as many bytes as a varint may have continuation bytes
   module _ (begins : BeginsWithContinuation max_continuation xs) where
@@ -210,16 +217,29 @@ module _ (xs : List ℕ) (word present : ℕ) (bytes : IsBytes xs) (f : IsFrontW
 
     module _ (small : ninth < last_byte_limit) where
       pub high_end : EndsAt xs max_continuation ninth
-      high_end = record { bytes = bytes; begins = begins; few = omega arith; last_is = ninth_is; below_128 = omega (arith, small); small = λ _. small }
+      high_end = record {
+        bytes = bytes;
+        begins = begins;
+        few = omega arith;
+        last_is = ninth_is;
+        below_128 = omega (arith, small);
+        small = λ _. small;
+      }
 
       pub high_number : max_continuation < present → ¬ (ninth ≡ 0)
           → IsVarint (bit_or (digits_low 8 lower) (ninth * 2 ^ 56 % 2 ^ 64)) (take (max_continuation + 1) xs)
       high_number within some =
-          let number = stops_at_number xs word present max_continuation ninth f high_end within (λ z. absurd (some z)) in
+          let number = stops_at_number f high_end within (λ z. absurd (some z)) in
           let front = take 8 xs in
           let cut : take 9 xs ≡ front ++ ninth ∷ [] =
           take_more xs 8 0 (omega (arith, within, f.present_is)) ∙ ap (λ (b : ℕ). front ++ b ∷ []) (sym ninth_is) in
           let low : digits_low 8 lower ≡ place_value 128 (low_digits front) =
           ap (digits_low 8) low_is ∙ digits_low_of 8 front (first_bytes 8) (omega (arith, length-take 8 xs)) in
-          let high : ninth ≡ place_value 128 (low_digits (ninth ∷ [])) = omega (arith, small, place_value-cons 128 (ninth % 128) [], place_value-nil 128) in
-          rw (low, high, or_digits front (ninth ∷ []) 8 (length-take-le 8 xs begins.enough) (omega (arith, rw cut at number.in_range)), ← cut) number
+          let high : ninth ≡ place_value 128 (low_digits (ninth ∷ [])) =
+          omega (arith, small, place_value-cons 128 (ninth % 128) [], place_value-nil 128) in
+          rw (
+            low,
+            high,
+            or_digits front (ninth ∷ []) 8 (length-take-le 8 xs begins.enough) (omega (arith, rw cut at number.in_range)),
+            ← cut,
+          ) number

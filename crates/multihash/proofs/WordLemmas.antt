@@ -86,9 +86,9 @@ twos_of half fits =
     rw (low, high) (omega arith)
 
 -- those of each four, from a number for each two
-fours_of : (a b c d twos : ℕ) → a < 2 ^ 14 → b < 2 ^ 14 → c < 2 ^ 14 → d < 2 ^ 14 → twos ≡ a + 2 ^ 16 * b + 2 ^ 32 * c + 2 ^ 48 * d
+fours_of : {a b c d : ℕ} (twos : ℕ) → a < 2 ^ 14 → b < 2 ^ 14 → c < 2 ^ 14 → d < 2 ^ 14 → twos ≡ a + 2 ^ 16 * b + 2 ^ 32 * c + 2 ^ 48 * d
     → bit_and twos 70364449226751 + bit_and (twos / 2 ^ 16) 70364449226751 * 2 ^ 14 % 2 ^ 64 ≡ a + 2 ^ 14 * b + 2 ^ 32 * (c + 2 ^ 14 * d)
-fours_of a b c d twos p q r s is =
+fours_of twos p q r s is =
     rw (and_parts 32 14 2 twos (omega arith), and_parts 32 14 2 (twos / 2 ^ 16) (omega arith)) (omega arith)
 
 -- those of all eight, as the code joins them
@@ -98,7 +98,7 @@ pub digits_joined : (half : ℕ) → half < 2 ^ 64
     → bit_and fours 4294967295 + fours / 2 ^ 32 * 2 ^ 28 % 2 ^ 64 ≡ digits_low 8 half
 unfolding digits_low
 digits_joined half fits twos two fours four =
-    let parts = fours_of _ _ _ _ twos (omega arith) (omega arith) (omega arith) (omega arith) (two ∙ twos_of half fits) in
+    let parts = fours_of twos (omega arith) (omega arith) (omega arith) (omega arith) (two ∙ twos_of half fits) in
     rw (and_mask fours 32) (omega (arith, four ∙ parts))
 
 -- the lowest digit first

@@ -1,7 +1,6 @@
 -- What has been appended after several writes; a writer to a slice fails only if its capacity is too small.
 use Rattle.std.proofs.Common.{◌≡◌, ◌≢◌, ◌<◌, [], ◌∷◌, refl, ℕ, ◌-◌, List, ◌++◌, length, take, drop, Result, OnErr, sym, ap, ◌∙◌, arith}
-use Rattle.std.proofs.Common.{append_assoc, take-append-drop, length-append, length-drop, ◌≤◌, false, inl, inr, Ok, Err, IsOk, ◌+◌, subst}
-use Rattle.std.proofs.Common.{Bool}
+use Rattle.std.proofs.Common.{append_assoc, take-append-drop, length-append, length-drop, ◌≤◌, false, inl, inr, Ok, Err, IsOk, ◌+◌}
 use Rattle.std.proofs.lemmas.List.{take_rest, length-take-le, drop-drop}
 use Rattle.std.proofs.Math.Seq.{drop-append_seam, take-append_seam}
 use Rattle.multihash.specs.Bytes.{IsStrictPrefix}
@@ -19,14 +18,15 @@ length_of_not_nil [] some = absurd (some refl)
 length_of_not_nil (x ∷ xs) some = omega arith
 
 -- the first n of the remaining bytes follow those done so far
-pub concatenated-take-drop : (whole done left : List ℕ) (n : ℕ) → whole ≡ done ++ left → whole ≡ (done ++ take n left) ++ drop n left
-concatenated-take-drop whole done left n e =
+pub concatenated-take-drop : {whole : List ℕ} (done left : List ℕ) (n : ℕ) → whole ≡ done ++ left
+    → whole ≡ (done ++ take n left) ++ drop n left
+concatenated-take-drop done left n e =
     e ∙ ap (λ l. done ++ l) (sym (take-append-drop n left)) ∙ sym (append_assoc done (take n left) (drop n left))
 
 -- the first n of the remaining bytes follow those done so far, the others are `left[n..]`
-pub concatenated-take-range : (whole done left : List ℕ) (n : ℕ) → whole ≡ done ++ left
+pub concatenated-take-range : {whole : List ℕ} (done left : List ℕ) (n : ℕ) → whole ≡ done ++ left
     → whole ≡ (done ++ take n left) ++ take (length left - n) (drop n left)
-concatenated-take-range whole done left n e = concatenated-take-drop whole done left n e
+concatenated-take-range done left n e = concatenated-take-drop done left n e
     ∙ ap (λ l. (done ++ take n left) ++ l) (sym (take_rest left n))
 
 -- a strict prefix of the first of two lists is a prefix of both
@@ -43,27 +43,18 @@ IsStrictPrefix-prepend x y z h = (h.0, h.1, ap (λ l. z ++ l) h.2 ∙ sym (appen
 
 module _ {W : Type 0} (appended : W → List ℕ → W → Type 0) where
   -- what has been appended is a strict prefix, since some bytes remain
-  pub AppendsPrefix-take : (a b : W) (whole done left : List ℕ) (n : ℕ) → whole ≡ done ++ left → n < length left
+  pub AppendsPrefix-take : {a b : W} {whole : List ℕ} (done left : List ℕ) (n : ℕ) → whole ≡ done ++ left → n < length left
       → appended a (done ++ take n left) b
       → AppendsPrefix appended a whole b
-  AppendsPrefix-take a b whole done left n e less appends = record {
+  AppendsPrefix-take done left n e less appends = record {
     part = done ++ take n left;
-    strict = (drop n left, (λ none. omega (arith, ap length none, length-drop n left)), concatenated-take-drop whole done left n e);
+    strict = (drop n left, (λ none. omega (arith, ap length none, length-drop n left)), concatenated-take-drop done left n e);
     appends = appends;
   }
 
   -- a strict prefix of the first of two lists has been appended, so a strict prefix of both
-  pub AppendsPrefix-append : (a b : W) (x y : List ℕ) → AppendsPrefix appended a x b → AppendsPrefix appended a (x ++ y) b
-  AppendsPrefix-append a b x y h = record { part = h.part; strict = IsStrictPrefix-append _ _ y h.strict; appends = h.appends }
-
-  -- the first of two lists has been appended, and a strict prefix of the second: one of both
-  pub AppendsPrefix-concatenated : ((a b c : W) (x y : List ℕ) → appended a x b → appended b y c → appended a (x ++ y) c)
-      → (a b c : W) (x y : List ℕ) → appended a x b → AppendsPrefix appended b y c → AppendsPrefix appended a (x ++ y) c
-  AppendsPrefix-concatenated join a b c x y first h = record {
-    part = x ++ h.part;
-    strict = IsStrictPrefix-prepend _ _ x h.strict;
-    appends = join a b c x h.part first h.appends;
-  }
+  pub AppendsPrefix-append : {a b : W} {x : List ℕ} (y : List ℕ) → AppendsPrefix appended a x b → AppendsPrefix appended a (x ++ y) b
+  AppendsPrefix-append {x = x} y h = record { part = h.part; strict = IsStrictPrefix-append h.part x y h.strict; appends = h.appends }
 
 -- what two calls append is both lists: the law `appends_concatenated` of each writer
 abbrev pub AppendsBoth : {W : Type 0} → (W → List ℕ → W → Type 0) → Type 0
@@ -72,46 +63,51 @@ AppendsBoth {W = W} appended =
 
 -- `rt lemma` finds no lemma in a module whose first line goes on in another one, so these are nested
 module _ {W : Type 0} (appended : W → List ℕ → W → Type 0) (join : AppendsBoth appended) where
+  -- two lists have been appended, one after the other
+  pub appends_both : {a b c : W} {x y : List ℕ} → appended a x b → appended b y c → appended a (x ++ y) c
+  appends_both {a = a} {b = b} {c = c} {x = x} {y = y} first second = join a b c x y first second
+
+  -- the first of two lists has been appended, and a strict prefix of the second: one of both
+  pub AppendsPrefix-concatenated : {a b c : W} {x y : List ℕ} → appended a x b → AppendsPrefix appended b y c
+      → AppendsPrefix appended a (x ++ y) c
+  AppendsPrefix-concatenated {a = a} {b = b} {c = c} {x = x} {y = y} first h = record {
+    part = x ++ h.part;
+    strict = IsStrictPrefix-prepend h.part y x h.strict;
+    appends = join a b c x h.part first h.appends;
+  }
+
   -- a form of two parts, each written by itself
   module _ (IsForm : List ℕ → Type 0) (a b : List ℕ) (form : IsForm (a ++ b)) where
     -- of two parts, writing the first failed: a strict prefix of both has been appended
-    pub stops_in_front : {T E : Type 0} (r : Result T E) (u v : W) → AppendsPrefix appended u a v
+    pub stops_in_front : {T E : Type 0} (r : Result T E) {u v : W} → AppendsPrefix appended u a v
         → OnErr r ((bytes : List ℕ) × IsForm bytes × AppendsPrefix appended u bytes v)
-    stops_in_front r u v part = OnErr-always r (a ++ b, form, AppendsPrefix-append appended u v a b part)
+    stops_in_front r part = OnErr-always r (a ++ b, form, AppendsPrefix-append appended b part)
 
     -- of two parts, writing the second failed: a strict prefix of both has been appended
-    pub stops_in_back : {T E : Type 0} (r : Result T E) (u w v : W) → appended u a w
+    pub stops_in_back : {T E : Type 0} (r : Result T E) {u w v : W} → appended u a w
         → AppendsPrefix appended w b v
         → OnErr r ((bytes : List ℕ) × IsForm bytes × AppendsPrefix appended u bytes v)
-    stops_in_back r u w v first part =
-        OnErr-always r (a ++ b, form, AppendsPrefix-concatenated appended join u w v a b first part)
+    stops_in_back r first part = OnErr-always r (a ++ b, form, AppendsPrefix-concatenated first part)
 
   -- a form of three parts
   module _ (IsForm : List ℕ → Type 0) (a b d : List ℕ) (form : IsForm (a ++ (b ++ d))) where
     -- of three parts, writing the first failed: a strict prefix of all has been appended
-    pub stops_in_first : {T E : Type 0} (r : Result T E) (u v : W) → AppendsPrefix appended u a v
+    pub stops_in_first : {T E : Type 0} (r : Result T E) {u v : W} → AppendsPrefix appended u a v
         → OnErr r ((bytes : List ℕ) × IsForm bytes × AppendsPrefix appended u bytes v)
     stops_in_first = stops_in_front IsForm a (b ++ d) form
 
     -- of three parts, writing the second failed: a strict prefix of all has been appended
-    pub stops_in_second : {T E : Type 0} (r : Result T E) (u w v : W) → appended u a w
+    pub stops_in_second : {T E : Type 0} (r : Result T E) {u w v : W} → appended u a w
         → AppendsPrefix appended w b v
         → OnErr r ((bytes : List ℕ) × IsForm bytes × AppendsPrefix appended u bytes v)
-    stops_in_second r u w v first part =
-        stops_in_back IsForm a (b ++ d) form r u w v first (AppendsPrefix-append appended w v b d part)
+    stops_in_second r first part = stops_in_back IsForm a (b ++ d) form r first (AppendsPrefix-append appended d part)
 
     -- of three parts, writing the third failed: a strict prefix of all has been appended
-    pub stops_in_third : {T E : Type 0} (r : Result T E) (u w x v : W) → appended u a w → appended w b x
+    pub stops_in_third : {T E : Type 0} (r : Result T E) {u w x v : W} → appended u a w → appended w b x
         → AppendsPrefix appended x d v
         → OnErr r ((bytes : List ℕ) × IsForm bytes × AppendsPrefix appended u bytes v)
-    stops_in_third r u w x v first second part =
-        stops_in_back IsForm a (b ++ d) form r u w v first
-        (AppendsPrefix-concatenated appended join w x v b d second part)
-
--- how a call failed counts from before an earlier one that counted none
-pub fault_from : (allocates : Bool) (before middle after : ℕ) (is_full : Type 0) (e : Fault) → middle ≡ before
-    → IsWriterFaultOrFull allocates middle after is_full e → IsWriterFaultOrFull allocates before after is_full e
-fault_from allocates before middle after is_full e same = subst (λ n. IsWriterFaultOrFull allocates n after is_full e) same
+    stops_in_third r first second part =
+        stops_in_back IsForm a (b ++ d) form r first (AppendsPrefix-concatenated second part)
 
 -- a writer that doesn't allocate and counted no failure returned an error because it was full
 pub full_of_errors : (n : ℕ) (is_full : Type 0) (e : Fault) → IsWriterFaultOrFull false n n is_full e → is_full
@@ -119,9 +115,9 @@ full_of_errors n is_full e (inl error) = elim error.cause [ inl rose ↦ absurd 
 full_of_errors n is_full e (inr full) = full.2
 
 -- a slice with the bytes after its first `n` has been filled with them
-pub fills_slice : (old bytes new : List ℕ) (n m : ℕ) → n + length bytes ≤ length old → m ≡ n + length bytes
+pub fills_slice : {old bytes new : List ℕ} {n m : ℕ} → n + length bytes ≤ length old → m ≡ n + length bytes
     → new ≡ take n old ++ (bytes ++ drop (n + length bytes) old) → FillsSlice old n bytes new m
-fills_slice old bytes new n m room count puts =
+fills_slice {old = old} {bytes = bytes} {new = new} {n = n} {m = m} room count puts =
     let front : List ℕ = take n old ++ bytes in
     let rest : List ℕ = drop (n + length bytes) old in
     let parts : new ≡ front ++ rest = puts ∙ sym (append_assoc (take n old) bytes rest) in
@@ -136,8 +132,8 @@ fills_slice old bytes new n m room count puts =
     }
 
 -- filling keeps the length of the slice
-pub filled_length : (old bytes new : List ℕ) (n m : ℕ) → FillsSlice old n bytes new m → length new ≡ length old
-filled_length old bytes new n m h =
+pub filled_length : {old bytes new : List ℕ} {n m : ℕ} → FillsSlice old n bytes new m → length new ≡ length old
+filled_length {old = old} {bytes = bytes} {new = new} {n = n} {m = m} h =
     omega (
       arith,
       ap length (take-append-drop m new),
@@ -159,7 +155,7 @@ fewer_left old new bytes h full =
       arith,
       full,
       h.appends.fills.count,
-      filled_length old.buffer.now h.part new.buffer.now old.filled new.filled h.appends.fills,
+      filled_length h.appends.fills,
       ap length h.strict.2,
       length-append h.part h.strict.0,
       length_of_not_nil h.strict.0 h.strict.1,

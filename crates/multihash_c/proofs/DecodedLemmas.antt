@@ -1,5 +1,6 @@
 -- For `multihash_scale_decode`: where the digest is in the input, what was consumed, and what an error reports.
-use Rattle.std.proofs.Common.{◌≡◌, ℕ, ◌+◌, ◌<◌, ◌≤◌, ◌^◌, List, [], ◌∷◌, ◌++◌, length, get_or, take, drop, ap, sym, ◌∙◌, subst, arith, refl, inl, inr, append_assoc, append-nil, take-append-drop, length-drop}
+use Rattle.std.proofs.Common.{◌≡◌, ℕ, ◌+◌, ◌<◌, ◌≤◌, ◌^◌, List, [], ◌∷◌, ◌++◌, length, get_or, take, drop, ap, sym, ◌∙◌, subst, arith}
+use Rattle.std.proofs.Common.{refl, inl, inr, append_assoc, append-nil, take-append-drop, length-drop}
 use Rattle.std.specs.Int.{from_le_bytes, w64}
 use Rattle.std.proofs.lemmas.List.{length-take-le, take_all, get_or-drop, drop_more, drop-drop}
 use Rattle.std.proofs.Math.Seq.{take-append_seam}
@@ -35,8 +36,9 @@ reported_length input d p h =
     )
 
 -- the first eight bytes of the input, read as a code, and what follows
-module _ (input front rest : List ℕ) (code : ℕ) (parts : (front ≡ take 8 input) × (rest ≡ drop 8 input) × (length rest + 8 ≡ length input))
-    (each : (i : ℕ) → get_or input i 0 < 256) (range : code < 2 ^ 64) (read : code ≡ from_le_bytes w64 front) where
+module _ (input : List ℕ) {front rest : List ℕ} {code : ℕ}
+    (parts : (front ≡ take 8 input) × (rest ≡ drop 8 input) × (length rest + 8 ≡ length input)) (each : (i : ℕ) → get_or input i 0 < 256)
+    (range : code < 2 ^ 64) (read : code ≡ from_le_bytes w64 front) where
   eight : length front ≡ 8
   eight = ap length parts.0 ∙ length-take-le 8 input (omega (arith, parts.2))
 
@@ -46,18 +48,21 @@ module _ (input front rest : List ℕ) (code : ℕ) (parts : (front ≡ take 8 i
   cut : input ≡ front ++ rest
   cut = rw (parts.0, parts.1) (sym (take-append-drop 8 input))
 
-  pub code_taken : (taken : ℕ) → varint_limit ≤ code → taken ≡ 8
+  pub code_taken : {taken : ℕ} → varint_limit ≤ code → taken ≡ 8
       → HasScaleVerdict 255 input (invalid_code code) × ConsumesForm (invalid_code code) input taken
-  code_taken taken above all = (
+  code_taken {taken = taken} above all = (
     (front, rest, is_code, above, cut),
-    subst (λ (z : List ℕ). HasScaleVerdict 255 z (invalid_code code) × (length z ≡ 8)) (sym (taken_front input front rest taken cut (all ∙ sym eight)))
+    subst (λ (z : List ℕ). HasScaleVerdict 255 z (invalid_code code) × (length z ≡ 8))
+        (sym (taken_front input front rest taken cut (all ∙ sym eight)))
         ((front, [], is_code, above, sym (append-nil front)), eight),
   )
 
   module _ (below : code < varint_limit) where
     pub size_missing : length rest ≡ 0 → HasScaleVerdict 255 input unexpected_eof
     size_missing none =
-        let same : front ≡ input = parts.0 ∙ take_all 8 input (omega (arith, parts.2, none)) in inr (inl (code, subst (IsScaleCode code) same is_code, below))
+        let same : front ≡ input =
+        parts.0 ∙ take_all 8 input (omega (arith, parts.2, none)) in
+        inr (inl (code, subst (IsScaleCode code) same is_code, below))
 
     module _ (size : ℕ) (more : 0 < length rest) (is_size : size ≡ get_or rest 0 0) where
       byte : size < 256
@@ -77,7 +82,8 @@ module _ (input front rest : List ℕ) (code : ℕ) (parts : (front ≡ take 8 i
 
       -- the whole form
       pub form_taken : (offset n taken : ℕ) → n ≡ size → taken ≡ 9 + size → offset + n ≡ taken → taken ≤ length input
-          → (p : Pair) × (p.code ≡ code) × HasScaleVerdict 255 input (accepted p) × (p.digest ≡ take n (drop offset input)) × IsScale p (take taken input)
+          → (p : Pair) × (p.code ≡ code) × HasScaleVerdict 255 input (accepted p) × (p.digest ≡ take n (drop offset input))
+          × IsScale p (take taken input)
       form_taken offset n taken exact all ends within =
           let digest = take size (drop 1 rest) in
           let following = drop size (drop 1 rest) in
@@ -86,7 +92,8 @@ module _ (input front rest : List ℕ) (code : ℕ) (parts : (front ≡ take 8 i
           let there : length digest ≡ size = length-take-le size (drop 1 rest) (omega (arith, length-drop 1 rest, parts.2, all, within)) in
           let form : IsScale p bytes = scale_of p size front digest is_code below (sym there) byte refl in
           let whole : input ≡ bytes ++ following =
-          has_size.cut ∙ (ap (λ (z : List ℕ). front ++ size ∷ z) (sym (take-append-drop size (drop 1 rest))) ∙ sym (append_assoc front (size ∷ digest) following)) in
+          has_size.cut ∙ (ap (λ (z : List ℕ). front ++ size ∷ z) (sym (take-append-drop size (drop 1 rest)))
+          ∙ sym (append_assoc front (size ∷ digest) following)) in
           let start : offset ≡ 9 = omega (arith, exact, all, ends) in
           let count : taken ≡ length bytes = omega (arith, all, there, scale_length p bytes form) in (
             p,

@@ -1,5 +1,6 @@
 -- For the functions of `encode.rt`: what they return and write, whether the bytes fit or not.
-use Rattle.std.proofs.Common.{◌≡◌, ℕ, ◌<◌, ◌≤◌, List, [], ◌∷◌, ◌++◌, length, map, drop, arith, ◌+◌, ◌^◌, ◌⊎◌, take, ap, sym, refl, ◌∙◌, inl, inr, append_assoc, add-one}
+use Rattle.std.proofs.Common.{◌≡◌, ℕ, ◌<◌, ◌≤◌, List, [], ◌∷◌, ◌++◌, length, map, drop, arith, ◌+◌, ◌^◌, ◌⊎◌, take, ap, sym, refl, ◌∙◌}
+use Rattle.std.proofs.Common.{inl, inr, append_assoc, add-one}
 use Rattle.std.proofs.Math.ListN.{set}
 use Rattle.std.proofs.Math.Nat.{lt_of_not-le, pow-le-pow_right, mul-le-mul_right}
 use Rattle.std.proofs.lemmas.Grind.{common_steps}
@@ -55,10 +56,15 @@ writes_form IsForm p old new n e short small counted kept told (bytes, is_form, 
 -- ---- varints and a digest, one after the other
 
 -- a varint is longer than the bytes written before its last one
-pub more_follows : (now bytes : List ℕ) (len n rest : ℕ) → Wrote now len n rest → IsVarint n bytes → len < length bytes
-more_follows now bytes len n rest h v =
+pub more_follows : {now bytes : List ℕ} {len n rest : ℕ} → Wrote now len n rest → IsVarint n bytes → len < length bytes
+more_follows {now = now} {bytes = bytes} {len = len} {n = n} {rest = rest} h v =
     let long : length bytes ≡ length (v.front ++ v.last ∷ []) =
-    ap length v.spelled ∙ omega (arith, length_push (map (λ d. d + 128) v.front) v.last, length_push v.front v.last, length-map v.front (λ d. d + 128)) in
+    ap length v.spelled ∙ omega (
+      arith,
+      length_push (map (λ d. d + 128) v.front) v.last,
+      length_push v.front v.last,
+      length-map v.front (λ d. d + 128),
+    ) in
     lt_of_not-le (λ few.
     let base : 0 < 128 = omega arith in
     let some : 0 < len = omega (arith, few, long, length_push v.front v.last) in
@@ -75,12 +81,16 @@ pub put_after : (xs ys : List ℕ) (i x : ℕ) → i < length xs → drop i xs �
     → (i + 1 ≡ length (take i xs ++ x ∷ [])) × (set xs i x ≡ (take i xs ++ x ∷ []) ++ drop (length (take i xs ++ x ∷ [])) ys)
 put_after xs ys i x inside same =
     let long : i + 1 ≡ length (take i xs ++ x ∷ []) = omega (arith, length_push (take i xs) x, length-take-le i xs (omega arith)) in
-    let split : set xs i x ≡ take i xs ++ (x ∷ drop (i + 1) xs) = rw (add-one i) (set_split xs i x inside) in
-    (long, rw (← long) (split ∙ (ap (λ (z : List ℕ). take i xs ++ (x ∷ z)) (drop_next xs ys i same) ∙ sym (append_assoc (take i xs) (x ∷ []) (drop (i + 1) ys)))))
+    let split : set xs i x ≡ take i xs ++ (x ∷ drop (i + 1) xs) = rw (add-one i) (set_split xs i x inside) in (
+      long,
+      rw (← long) (split
+          ∙ (ap (λ (z : List ℕ). take i xs ++ (x ∷ z)) (drop_next xs ys i same)
+          ∙ sym (append_assoc (take i xs) (x ∷ []) (drop (i + 1) ys)))),
+    )
 
 -- an encoding is as long as its parts, whichever varints they are
 pub parts_long : (p : Pair) (bytes a b : List ℕ) → IsEncoding p bytes → IsVarint p.code a → IsVarint (length p.digest) b
     → length bytes ≡ length a + length b + length p.digest
 parts_long p bytes a b e is_code is_size =
-    ap length (encoding_same p bytes (a ++ (b ++ p.digest)) e (encoding_of_parts p p.code (length p.digest) p.digest a b refl refl refl is_code is_size))
+    ap length (encoding_same p bytes (a ++ (b ++ p.digest)) e (encoding_of_parts p a b refl refl refl is_code is_size))
     ∙ sym (length-parts a b p.digest)

@@ -1,12 +1,14 @@
 -- For the functions of `decode.rt` over the binary encoding: what they return if two varints are at the front of the
 -- input, and if a varint is malformed; what the first bytes of an input determine.
-use Rattle.std.proofs.Common.{◌≡◌, ◌<◌, ◌≤◌, ◌+◌, ◌*◌, ◌-◌, ◌⊎◌, ℕ, zero, suc, List, [], ◌++◌, Some, length, take, drop, refl, sym, ap, ◌∙◌, subst, inl, inr, arith, append_assoc, append-nil, take-append-drop, length-append, length-drop}
+use Rattle.std.proofs.Common.{◌≡◌, ◌<◌, ◌≤◌, ◌+◌, ◌*◌, ◌-◌, ◌⊎◌, ℕ, zero, suc, List, [], ◌++◌, Some, length, take, drop, refl, sym, ap}
+use Rattle.std.proofs.Common.{◌∙◌, subst, inl, inr, arith, append_assoc, append-nil, take-append-drop, length-append, length-drop}
 use Rattle.std.proofs.lemmas.Bool.{cases_lt}
 use Rattle.std.proofs.lemmas.List.{drop-drop, length-take-le, take_all, drop-append-le, nil_from_length}
 use Rattle.multihash.specs.Bytes.{IsPrefix}
 use Rattle.multihash.specs.Pair.{Pair, digest_limit}
 use Rattle.multihash.specs.Varint.{VarintError, insufficient, overflow, not_minimal, max_continuation}
-use Rattle.multihash.specs.Verdict.{Verdict, accepted, invalid_size, malformed, unexpected_eof, BeginsWith, HasVerdict, HasWholeVerdict, IsIncomplete, HasHead}
+use Rattle.multihash.specs.Verdict.{Verdict, accepted, invalid_size, malformed, unexpected_eof, BeginsWith, HasVerdict, HasWholeVerdict}
+use Rattle.multihash.specs.Verdict.{IsIncomplete, HasHead}
 use Rattle.multihash.specs.Refusal.{Refusal}
 use Rattle.multihash.specs.Consuming.{IsHeadError}
 use Rattle.multihash.specs.Settling.{IsShortestSettling}
@@ -21,9 +23,10 @@ use Rattle.multihash_c.specs.Decoded.{Reports, ReportsError, Determines, ReadsWi
 other_kind : (S : ℕ) (x : List ℕ) (v w : Verdict) → HasVerdict S x v → HasVerdict S x w → IsIncomplete w → ¬ (IsIncomplete v) → ⊥
 other_kind S x v w has also incomplete late = late (subst IsIncomplete (verdict_unique S x w v also has) incomplete)
 
-module _ (limit code size len : ℕ) (input : List ℕ) (h : HasHead code size len input) (d : Decoded) where
+module _ (limit : ℕ) {code size len : ℕ} {input : List ℕ} (h : HasHead code size len input) (d : Decoded) where
   -- a verdict that is not incomplete, after its shortest prefix
-  complete_read : (v : Verdict) (front : List ℕ) → HasVerdict limit input v → ¬ (IsIncomplete v) → Reports input d v → d.taken ≤ length input
+  complete_read : (v : Verdict) (front : List ℕ) → HasVerdict limit input v → ¬ (IsIncomplete v) → Reports input d v
+      → d.taken ≤ length input
       → IsShortestSettling limit input front → input ≡ front ++ drop d.taken input → ReadsWithin limit input d
   complete_read v front has late reports inside shortest cut = record {
     verdict = (v, has, reports);
@@ -36,12 +39,14 @@ module _ (limit code size len : ℕ) (input : List ℕ) (h : HasHead code size l
   -- a size that is too large
   pub size_read : digest_limit limit < size → d.taken ≡ len → Reports input d (invalid_size size) → ReadsWithin limit input d
   size_read over at reports =
-      complete_read (invalid_size size) (h.varints.code_bytes ++ h.varints.size_bytes) (drop len input, h.varints, over) (λ incomplete. incomplete) reports
+      complete_read (invalid_size size) (h.varints.code_bytes ++ h.varints.size_bytes) (drop len input, h.varints, over)
+      (λ incomplete. incomplete) reports
       (omega (arith, h.within, at)) (shortest_size limit size input (drop len input) h.varints over)
       (rw at (h.varints.cut ∙ sym (append_assoc h.varints.code_bytes h.varints.size_bytes (drop len input))))
 
   -- a truncated digest
-  pub end_read : size ≤ digest_limit limit → length input - len < size → d.taken ≡ len → Reports input d unexpected_eof → ReadsWithin limit input d
+  pub end_read : size ≤ digest_limit limit → length input - len < size → d.taken ≡ len → Reports input d unexpected_eof
+      → ReadsWithin limit input d
   end_read within short at reports =
       let has : HasVerdict limit input unexpected_eof =
       (size, drop len input, h.varints, within, omega (arith, short, length-drop len input)) in
@@ -65,12 +70,13 @@ module _ (limit code size len : ℕ) (input : List ℕ) (h : HasHead code size l
       pair_begins size input (drop len input) h.varints p.digest rest long (sym (take-append-drop size (drop len input))) in
       let left : rest ≡ drop d.taken input = drop-drop size len input ∙ ap (λ n. drop n input) (sym at) in
       let fits : length p.digest ≤ digest_limit limit = omega (arith, long, within) in
-      complete_read (accepted p) begins.encoding (rest, begins, fits) (λ incomplete. incomplete) (reports p h.is_code refl) (omega (arith, there, at))
+      complete_read (accepted p) begins.encoding (rest, begins, fits) (λ incomplete. incomplete) (reports p h.is_code refl)
+      (omega (arith, there, at))
       (shortest_pair limit p input rest begins fits) (begins.cut ∙ ap (λ (z : List ℕ). begins.encoding ++ z) left)
 
 -- ---- a varint is malformed
 
-module _ (input : List ℕ) (e : Refusal) (taken : ℕ) (h : IsHeadError input e taken) (limit : ℕ) where
+module _ {input : List ℕ} {e : Refusal} {taken : ℕ} (h : IsHeadError input e taken) (limit : ℕ) where
   pub error_read : (d : Decoded) → d.taken ≡ taken → ReportsError d (status_of_error h.error) 0 0 → ReadsWithin limit input d
   error_read d at reports = record {
     verdict = (malformed h.error, h.verdict limit, reports);
@@ -78,15 +84,17 @@ module _ (input : List ℕ) (e : Refusal) (taken : ℕ) (h : IsHeadError input e
     settled = λ v also late.
         rw at (h.settled limit (λ incomplete. other_kind limit input v (malformed h.error) also (h.verdict limit) incomplete late));
     insufficient = λ also.
-        let same = verdict_unique limit input (malformed h.error) (malformed insufficient) (h.verdict limit) also in at ∙ h.insufficient (cc);
+        let same = verdict_unique limit input (malformed h.error) (malformed insufficient) (h.verdict limit) also in
+        at ∙ h.insufficient (cc);
     cut = λ also. absurd (cc (verdict_unique limit input (malformed h.error) unexpected_eof (h.verdict limit) also));
   }
 
 -- ---- the whole input, by its first bytes
 
 -- the two varints stay at the front if more bytes follow
-pub head_kept : (code size len : ℕ) (front input : List ℕ) → IsPrefix front input → HasHead code size len front → HasHead code size len input
-head_kept code size len front input (more, cut) h =
+pub head_kept : {code size len : ℕ} {front : List ℕ} (input : List ℕ) → IsPrefix front input → HasHead code size len front
+    → HasHead code size len input
+head_kept {size = size} {len = len} {front = front} input (more, cut) h =
     let v = h.varints in
     let after : drop len front ++ more ≡ drop len input = sym (ap (drop len) cut ∙ drop-append-le len front more h.within) in
     let whole : input ≡ v.code_bytes ++ (v.size_bytes ++ drop len input) =
@@ -131,9 +139,9 @@ determines_cut prefix front len is enough =
     ]
 
 -- two varints are not malformed
-pub head_no_error : (code size len : ℕ) (x : List ℕ) (f : VarintError) → HasHead code size len x → HasVerdict 255 x (malformed f) → ⊥
-head_no_error code zero len x f h has =
+pub head_no_error : {code size len : ℕ} {x : List ℕ} (f : VarintError) → HasHead code size len x → HasVerdict 255 x (malformed f) → ⊥
+head_no_error {size = zero} {len = len} {x = x} f h has =
     let begins = pair_begins 0 x (drop len x) h.varints [] (drop len x) refl refl in
     let same = verdict_unique 255 x (accepted _) (malformed f) (drop len x, begins, omega arith) has in cc
-head_no_error code (suc n) len x f h has =
+head_no_error {size = suc n} {len = len} {x = x} f h has =
     let same = verdict_unique 0 x (invalid_size (suc n)) (malformed f) (drop len x, h.varints, omega arith) has in cc

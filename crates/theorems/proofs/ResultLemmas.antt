@@ -32,10 +32,10 @@ own_error e (error, is, inl (text, other)) = inr (text, is ∙ ap of_io other)
 own_error e (error, is, inr memory) = inl (is ∙ ap of_io memory)
 
 -- an error of writing
-pub write_error : (allocates : Bool) (before after : ℕ) (is_full : Type 0) (e : Refusal)
+pub write_error : (allocates : Bool) (before after : ℕ) (is_full : Type 0) {e : Refusal}
     → IsIo (IsWriterFaultOrFull allocates before after is_full) e → IsWriterError allocates before after is_full e
-write_error allocates before after is_full e (error, is, inr (zero, same, full)) = inr (inl (same, full, is ∙ ap of_io zero))
-write_error allocates before after is_full e (error, is, inl fault) = caused fault.cause where
+write_error allocates before after is_full (error, is, inr (zero, same, full)) = inr (inl (same, full, is ∙ ap of_io zero))
+write_error allocates before after is_full {e = e} (error, is, inl fault) = caused fault.cause where
   caused : (before < after) ⊎ (IsTrue allocates × IsOutOfMemoryFault error × (after ≡ before))
       → IsWriterError allocates before after is_full e
   caused (inl rose) = inl (rose, own_error e (error, is, fault.kind))

@@ -1,22 +1,25 @@
+-- What was written is a concatenation of encodings, and reading a concatenation of encodings returns their pairs, unless an
+-- allocation or the reader itself fails (`unless_failed`).
 use Rattle.std.proofs.Common.{map, inl, inr, ◌≡◌, ◌⊎◌, ◌<◌, ℕ, Result, Ok, Err, MatchResult, IsErrAnd, sym, subst}
 use Rattle.std.proofs.lemmas.List.{length-map}
 use Rattle.multihash.specs.Multihash.{pair_of}
 use Rattle.multihash.specs.Fault.{OutOfMemory}
+use Rattle.multihash.specs.Consuming.{ReadMayFailWith}
 use Rattle.multihash.specs.Reading.{CountsReaderFailures}
 use Rattle.multihash.specs.Refusal.{Refusal, of_io, IsOutOfMemory, IsReaderError}
 use Rattle.multihash.proofs.CallingLemmas.{read_list_of_encodings}
-use Rattle.multihash.proofs.OutcomeLemmas.{passed_on}
+use Rattle.multihash.proofs.OutcomeLemmas.{passed_error}
 use Rattle.theorems.specs.Results.{IsOwnError}
 use Rattle.theorems.proofs.ResultLemmas.{memory_error, own_error, write_error}
 use Rattle.theorems.proofs.list_through.Goals as goal
 
 -- what holds if the reader does not fail holds, or memory ran out, or the reader failed
-unless_failed : {A : Type 0} (P : A → Type 0) (Writer IsListed : Refusal → Type 0) (before after : ℕ) (r : Result A Refusal)
+unless_failed : {A : Type 0} (P : A → Type 0) (Writer IsListed : Refusal → Type 0) {before after : ℕ} (r : Result A Refusal)
     → CountsReaderFailures IsReaderError IsListed before after r → (after ≡ before → MatchResult r P IsOutOfMemory)
     → MatchResult r P (λ e. (e ≡ of_io OutOfMemory) ⊎ Writer e ⊎ ((before < after) × IsOwnError e))
-unless_failed P Writer IsListed before after (Ok x) same met = met same
-unless_failed P Writer IsListed before after (Err e) (inl own) met = inr (inr (own.0, own_error e own.1))
-unless_failed P Writer IsListed before after (Err e) (inr (same, listed)) met = inl (memory_error e (met same))
+unless_failed P Writer IsListed (Ok x) same met = met same
+unless_failed P Writer IsListed (Err e) (inl own) met = inr (inr (own.0, own_error e own.1))
+unless_failed P Writer IsListed (Err e) (inr (same, listed)) met = inl (memory_error e (met same))
 
 -- what holds of the writer's error holds of the result
 error_passed : {A : Type 0} (r : Result A Refusal) (e : Refusal) (P : Refusal → Type 0) → IsErrAnd r (λ x. x ≡ e) → P e → IsErrAnd r P
@@ -26,20 +29,22 @@ error_passed (Err x) e P given holds = subst P (sym given) holds
 pub returns-in_err-write_list-clause-written : goal.returns-in_err-write_list-clause-written
 returns-in_err-write_list-clause-written g c =
     let wrote = c.in_err-write_list.ensures in
-    let part = wrote.err.2 in (
+    let part = wrote.err.2 in
+    let error = write_error g.W.Write.allocates (g.W.Write.failures c.args.w.now) _ _ wrote.faults in (
       wrote.err.0,
       wrote.err.1,
-      inr (error_passed c.from_residual.result _ _ c.from_residual.ensures.1 (write_error _ _ _ _ _ wrote.faults), (part.part, part.strict, part.appends)),
+      inr (error_passed c.from_residual.result _ _ c.from_residual.ensures.1 error, (part.part, part.strict, part.appends)),
     )
 
 pub returns-in_err-write_list-clause-back : goal.returns-in_err-write_list-clause-back
 returns-in_err-write_list-clause-back g c more pipe fit =
-    passed_on c.from_residual.result _ _ _ c.from_residual.ensures.1 (inr (inl (write_error _ _ _ _ _ c.in_err-write_list.ensures.faults)))
+    let error = write_error g.W.Write.allocates (g.W.Write.failures c.args.w.now) _ _ c.in_err-write_list.ensures.faults in
+    rw (passed_error c.from_residual.result _ c.from_residual.ensures.1) (inr (inl error))
 
 pub returns-clause-back : goal.returns-clause-back
 returns-clause-back g c more pipe fit =
     let wrote = c.in_ok-write_list.ensures in
     let items = c.args.items.now in
-    unless_failed _ _ _ _ _ c.read_list.result c.read_list.ensures.faults (λ unfailed.
-    read_list_of_encodings g.row.T _ _ _ _ _ (map pair_of items) wrote.ok.0 more c.read_list.result wrote.ok.1 fit (length-map items pair_of)
+    unless_failed _ _ (λ e. ReadMayFailWith g.row.T e ⊎ IsOutOfMemory e) c.read_list.result c.read_list.ensures.faults (λ unfailed.
+    read_list_of_encodings g.row.T _ (map pair_of items) wrote.ok.0 more c.read_list.result wrote.ok.1 fit (length-map items pair_of)
     (pipe wrote.ok.0 wrote.ok.1) unfailed c.read_list.ensures.ok c.read_list.ensures.err)

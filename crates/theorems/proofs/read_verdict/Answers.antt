@@ -1,4 +1,7 @@
-use Rattle.std.proofs.Common.{◌≡◌, ◌≢◌, ◌↔◌, ◌⊎◌, ◌<◌, ◌++◌, ℕ, List, Option, Some, None, Result, Ok, Err, IfSome, IsErrAnd, IsOkAnd, inl, inr, sym, ◌∙◌, subst}
+-- `read` decides at the first byte that can: each clause is one of its contract with what is proved of all inputs, that
+-- they have one verdict and at most one shortest prefix that settles it (`one_verdict`, `settles`).
+use Rattle.std.proofs.Common.{◌≡◌, ◌≢◌, ◌↔◌, ◌⊎◌, ◌<◌, ◌++◌, ℕ, List, Option, Some, None, Result, Ok, Err, IfSome, IsErrAnd, IsOkAnd}
+use Rattle.std.proofs.Common.{inl, inr, sym, ◌∙◌, subst}
 use Rattle.std.proofs.lemmas.Option.{IfSome_then}
 use Rattle.multihash.specs.Bytes.{ExactlyOne, IsPrefix}
 use Rattle.multihash.specs.Varint.{insufficient}
@@ -76,7 +79,8 @@ none_settles S before after old new unsettled = IfSome_then old unsettled
 
 -- no prefix of a truncated input settles
 truncated_unsettled : (S : ℕ) (old : Option (List ℕ))
-    → ((S : ℕ) (input : List ℕ) (v : Verdict) → HasVerdict S input v → IsIncomplete v → (front : List ℕ) → IsPrefix front input → ¬ (Settles S front))
+    → ((S : ℕ) (input : List ℕ) (v : Verdict) → HasVerdict S input v → IsIncomplete v
+    → (front : List ℕ) → IsPrefix front input → ¬ (Settles S front))
     → IfSome old (λ rest. HasVerdict S rest (malformed insufficient) ⊎ HasVerdict S rest unexpected_eof →
     (front : List ℕ) → IsPrefix front rest → ¬ (Settles S front))
 truncated_unsettled S None none = tt
@@ -99,15 +103,22 @@ returns_pair S input (Err e) v has is_result only p = (
 pair_returned : (S before after : ℕ) (old : Option (List ℕ)) (r : Result (Fields S) Refusal)
     → ((S : ℕ) (input : List ℕ) (v w : Verdict) → HasVerdict S input v → HasVerdict S input w → v ≡ w)
     → IfSome old (λ rest. after ≡ before → (v : Verdict) × HasVerdict S rest v × IsResultOf r v)
-    → IfSome old (λ rest. after ≡ before → (p : Pair) → ((left : List ℕ) × BeginsWith p rest left × FitsBuffer S p) ↔ IsOkAnd r (λ m. pair_of m ≡ p))
+    → IfSome old (λ rest. after ≡ before → (p : Pair)
+    → ((left : List ℕ) × BeginsWith p rest left × FitsBuffer S p) ↔ IsOkAnd r (λ m. pair_of m ≡ p))
 pair_returned S before after old r unique verdict = IfSome_then old verdict
     (λ rest found same p. let v = found same in returns_pair S rest r v.0 v.1 v.2 (λ w has. unique S rest w v.0 has v.1) p)
 
 pub returns : goal.returns
-returns g c = let read = c.read.ensures in record {
-  one = one_returned g.row.S _ _ _ c.read.result c.one_verdict.ensures.read_unique read.faults read.verdict;
-  canonical = pair_returned g.row.S _ _ _ c.read.result c.one_verdict.ensures.read_unique read.verdict;
-  settled = one_taken g.row.S _ _ _ _ c.settles.ensures.one_shortest read.settled;
-  unsettled = none_settles g.row.S _ _ _ _ read.unsettled;
-  truncated = truncated_unsettled g.row.S _ c.settles.ensures.none;
-}
+returns g c =
+    let S = g.row.S in
+    let read = c.read.ensures in
+    let before = g.R.Read.failures c.args.r.now in
+    let after = g.R.Read.failures c.read.new.r in
+    let old = g.R.Read.rest c.args.r.now in
+    let new = g.R.Read.rest c.read.new.r in record {
+      one = one_returned S before after old c.read.result c.one_verdict.ensures.read_unique read.faults read.verdict;
+      canonical = pair_returned S before after old c.read.result c.one_verdict.ensures.read_unique read.verdict;
+      settled = one_taken S before after old new c.settles.ensures.one_shortest read.settled;
+      unsettled = none_settles S before after old new read.unsettled;
+      truncated = truncated_unsettled S old c.settles.ensures.none;
+    }

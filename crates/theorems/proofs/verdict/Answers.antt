@@ -24,7 +24,8 @@ returns_pair S bytes (Err e) v has is_result only p = (
 pub returns : goal.returns
 returns g c =
     let v = c.from_bytes.ensures in
-    let only : (w : Verdict) → HasWholeVerdict g.row.S c.args.bytes.now w → w ≡ v.0 = λ w has. c.one_verdict.ensures.whole_unique g.row.S c.args.bytes.now w v.0 has v.1 in record {
+    let only : (w : Verdict) → HasWholeVerdict g.row.S c.args.bytes.now w → w ≡ v.0 =
+    λ w has. c.one_verdict.ensures.whole_unique g.row.S c.args.bytes.now w v.0 has v.1 in record {
       one = (record { value = v.0; holds = v.1; only = only }, verdict_stated c.from_bytes.result v.0 v.2);
       canonical = returns_pair g.row.S c.args.bytes.now c.from_bytes.result v.0 v.1 v.2 only;
     }

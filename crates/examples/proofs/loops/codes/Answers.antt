@@ -1,3 +1,5 @@
+-- The loop keeps that the bytes consumed so far are the encodings of the pairs whose codes it has; an encoding is not empty, so
+-- as many turns as there are bytes are enough.
 use Rattle.std.proofs.Common.{◌≡◌, [], ◌∷◌, ◌++◌, length, refl, sym, ap, ◌∙◌, subst, arith, rules, append-nil, append_assoc, length-append}
 use Rattle.std.proofs.lemmas.List.{map_push, nil_from_length}
 use Rattle.multihash.specs.Pair.{Pair}

@@ -2,7 +2,7 @@ use Rattle.std.proofs.Common.{◌+◌, ℕ, List, [], ◌∷◌, ◌++◌, drop,
 use Rattle.std.proofs.lemmas.List.{drop_more, drop_all}
 use Rattle.multihash.specs.Streams.{AreParts}
 use Rattle.multihash.proofs.OutcomeLemmas.{OnErr-always}
-use Rattle.multihash.proofs.WritingLemmas.{AppendsPrefix-append, AppendsPrefix-concatenated}
+use Rattle.multihash.proofs.WritingLemmas.{appends_both, AppendsPrefix-append, AppendsPrefix-concatenated}
 use Rattle.form.specs.Form.{AppendsPrefixOfSome}
 use Rattle.form.specs.Laws.Parts.{items_exist}
 use Rattle.form.proofs.counted.write_items.Given as given
@@ -32,7 +32,7 @@ loop-item-preserved g c =
       whole = λ others h.
           rw (append_assoc before.bytes met.ok.0 others)
           (next g (goal.at.loop-item-preserved g c).After-item-item met.ok.0 others met.ok.1 h);
-      appends = g.met.W.Write.appends_concatenated _ _ _ before.bytes met.ok.0 before.appends met.ok.2;
+      appends = appends_both g.W.Write.appended g.met.W.Write.appends_concatenated before.appends met.ok.2;
       unfailed = met.faults ∙ before.unfailed;
     }
 
@@ -44,8 +44,8 @@ returns-in_err-write-clause-err g c =
     let stopped : AppendsPrefixOfSome g.W.Write.appended (AreParts g.T.Form.is_form c.args.items.now) c.args.w.now c.write.new.w = (
       _,
       next g (goal.at.returns-in_err-write-clause-err g c).After-item-item met.0 others.0 met.1 others.1,
-      AppendsPrefix-concatenated g.W.Write.appended g.met.W.Write.appends_concatenated _ _ _ before.bytes _ before.appends
-          (AppendsPrefix-append g.W.Write.appended _ _ met.0 others.0 met.2),
+      AppendsPrefix-concatenated g.W.Write.appended g.met.W.Write.appends_concatenated before.appends
+          (AppendsPrefix-append g.W.Write.appended others.0 met.2),
     ) in
     OnErr-always _ stopped
 

@@ -25,12 +25,14 @@ pub loop-length-preserved : goal.loop-length-preserved
 loop-length-preserved g c =
     let from = c.loop-length.length in
     let room = length c.loop-length.room - from in
+    let old = g.I.Read.remaining c.args.input.now in
+    let now = g.I.Read.remaining c.loop-length.input in
     let within = c.loop-length.invariant.1 in
     let part = slice_range-put_mid from room c.in-Ok.count c.loop-length.room c.read.new.buf within c.in-Ok.ensures.bound.0 in
     let concatenated = take_split from (from + c.in-Ok.count) c.loop-length.room (put_mid from room c.loop-length.room c.read.new.buf)
-    (omega arith) (take-put_mid_below _ _ _ _ _ (le_refl _) within) in (
+    (omega arith) (take-put_mid_below from room c.loop-length.room c.read.new.buf from (le_refl _) within) in (
       search rules,
       search rules,
       subst (ReadsKnown _ _) (ap (λ l. take from c.loop-length.room ++ l) (sym part) ∙ concatenated)
-          (Consumes-trans _ _ _ _ _ c.loop-length.invariant.2 c.in-Ok.ensures.bytes.0),
+          (Consumes-trans old now _ (take from c.loop-length.room) _ c.loop-length.invariant.2 c.in-Ok.ensures.bytes.0),
     )

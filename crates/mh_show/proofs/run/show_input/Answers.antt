@@ -1,6 +1,8 @@
+-- A run ends with the error of reading, of `show` or of writing: the first two are those of the call, and at the third a
+-- prefix of the lines that `show` returned has been appended.
 use Rattle.std.proofs.Common.{◌≡◌, ℕ, List, Option, Result, Ok, Err, IfErr, OnErr, refl, sym, ap, subst}
 use Rattle.multihash.specs.Refusal.{Refusal}
-use Rattle.multihash.proofs.OutcomeLemmas.{passed_on}
+use Rattle.multihash.proofs.OutcomeLemmas.{passed_error}
 use Rattle.mh_show.specs.declared.run.RunError.{RunError}
 use Rattle.mh_show.specs.declared.run.RunError.TheVariants.{NotShown, Output}
 use Rattle.mh_show.specs.declared.show.ShowError.{ShowError}
@@ -32,8 +34,7 @@ returns-in_err-lines-clause-err g c =
     let old = g.I.Read.remaining c.args.input.now in
     let new = g.I.Read.remaining c.read_input.new.input in
     let out = g.O.Write.contents c.args.out.now in
-    let ends : RunError → Type 0 = EndsRun (c.args.out.now ≡ c.args.out.now) old new out out in
-    passed_on c.from_residual-in_err-lines.result _ _ ends c.from_residual-in_err-lines.ensures.1
+    rw (passed_error c.from_residual-in_err-lines.result _ c.from_residual-in_err-lines.ensures.1)
     (show_ends (c.args.out.now ≡ c.args.out.now) old new out out c.as_slice.result.now c.in_err-lines.field-0.0 refl
     (rw c.as_slice.ensures.value c.in_ok-text.ensures.ok)
     (λ line bytes same. met.not_hex line bytes (ap Err same))
@@ -41,6 +42,10 @@ returns-in_err-lines-clause-err g c =
 
 pub returns-clause-err : goal.returns-clause-err
 returns-clause-err g c =
-    output_ends c.write_whole.result _ _ _ _ _ c.as_slice.result.now _ c.write_whole.ensures.err
+    let old = g.I.Read.remaining c.args.input.now in
+    let new = g.I.Read.remaining c.read_input.new.input in
+    let out = g.O.Write.contents c.args.out.now in
+    let after = g.O.Write.contents c.write_whole.new.out in
+    output_ends c.write_whole.result _ old new out after c.as_slice.result.now _ c.write_whole.ensures.err
     (rw c.as_slice.ensures.value c.in_ok-text.ensures.ok)
     (rw (c.as_bytes.ensures.value, c.as_str.ensures.value) c.in_ok-lines.ensures.ok) c.write_whole.ensures.part

@@ -12,4 +12,4 @@ tried (Err e) old new bytes whole part = inr part
 pub returns-in-Err : goal.returns-in-Err
 returns-in-Err g c =
     let wrote = c.write_whole-in-Err.ensures in
-    inr (tried c.write_whole-in-Err.result _ _ _ wrote.ok wrote.part)
+    inr (tried c.write_whole-in-Err.result (g.E.Write.contents c.args.err.now) _ _ wrote.ok wrote.part)

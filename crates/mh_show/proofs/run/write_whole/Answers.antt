@@ -13,5 +13,10 @@ pub loop-rest-preserved : goal.loop-rest-preserved
 loop-rest-preserved g c =
     let (done, split, appended) = c.loop-rest.invariant in
     let rest = c.loop-rest.rest.now in
-    let n = c.in-Ok.count in
-    (done ++ take n rest, moves_front _ done rest n split, Appends-trans _ _ _ _ _ appended c.in-Ok.ensures.bytes)
+    let old = g.W.Write.contents c.args.out.now in
+    let now = g.W.Write.contents c.loop-rest.out in
+    let n = c.in-Ok.count in (
+      done ++ take n rest,
+      moves_front _ done rest n split,
+      Appends-trans old now _ done _ appended c.in-Ok.ensures.bytes,
+    )

@@ -22,9 +22,9 @@ digest_text [] digits text same none some = none (ap length same)
 digest_text (b ∷ digest) digits text same none some = some (omega (arith, ap length same)) ∙ same
 
 -- what the format writes
-three_lines : (p : Pair) (code size : ℕ) (digest : List ℕ) → code ≡ p.code → size ≡ length p.digest → digest ≡ shown_digest p.digest
+three_lines : (p : Pair) {code size : ℕ} {digest : List ℕ} → code ≡ p.code → size ≡ length p.digest → digest ≡ shown_digest p.digest
     → codes "code " ++ (decimal code ++ (codes "\nsize " ++ (decimal size ++ (codes "\ndigest " ++ (digest ++ newline))))) ≡ shown p
-three_lines p code size digest c s d = rw (c, s, d) (simp append_assoc)
+three_lines p c s d = rw (c, s, d) (simp append_assoc)
 
 pub returns : goal.returns
 returns c =
@@ -36,4 +36,4 @@ returns c =
     let some : 0 < length digits → c.if-is_empty.digest.now ≡ digits =
     λ long. elim c.if-is_empty.branch [ then-is_empty w ↦ search rules | else-is_empty w ↦ search rules ] in
     same_text c.format.result _ _ c.format.ensures.ok
-    (three_lines _ _ _ _ c.code-code.ensures.code c.size-size.ensures.size (digest_text p.digest digits _ same none some))
+    (three_lines p c.code-code.ensures.code c.size-size.ensures.size (digest_text p.digest digits _ same none some))

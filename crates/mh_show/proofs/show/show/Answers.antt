@@ -1,3 +1,4 @@
+-- A text has one line (`line_unique`), so what the calls say of the line that was found holds of each line of the text.
 use Rattle.std.proofs.Common.{◌≡◌, ℕ, ◌%◌, ◌⊎◌, List, length, Result, Ok, Err, sym, ap, ◌∙◌, subst, inl, inr}
 use Rattle.std.specs.Result.{IsErrAnd}
 use Rattle.hex.specs.declared.error.FromHexError.{FromHexError}

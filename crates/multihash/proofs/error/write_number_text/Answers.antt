@@ -7,5 +7,6 @@ returns-clause-styled g c flush ok =
     let took = g.W.Write.write_str_gives in
     let first = c.in_ok-write_str.ensures.styled flush (refl {a = true}) in
     let second = rw c.format.ensures.text at (c.in_ok-write_str-2.ensures.styled first.flush (refl {a = true})) in
-    let both = has_written_styled_append took _ _ _ _ _ first second in
-    has_written_styled_append took _ _ _ _ _ both (c.write_str-3.ensures.styled second.flush ok)
+    let both = has_written_styled_append took c.args.f.now _ c.write_str.new.self _ c.write_str-2.new.self first second in
+    has_written_styled_append took c.args.f.now _ c.write_str-2.new.self _ c.write_str-3.new.self both
+    (c.write_str-3.ensures.styled second.flush ok)

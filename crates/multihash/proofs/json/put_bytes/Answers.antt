@@ -19,7 +19,8 @@ loop-at-preserved c =
           let next : member_bytes (drop at members) ≡ byte ∷ left =
           ap member_bytes (drop_more members at member c.loop-at-test.true) ∙ first_byte _ _ byte held in
           ap (λ l. take (at + 1) l ++ left) w.buffer-is
-          ∙ ap (λ l. l ++ left) (take_more_set c.loop-at.buffer at byte (omega (arith, c.loop-at-test.true, c.loop-at.auto.buffer, c.requires.count)))
+          ∙ ap (λ l. l ++ left)
+          (take_more_set c.loop-at.buffer at byte (omega (arith, c.loop-at-test.true, c.loop-at.auto.buffer, c.requires.count)))
           ∙ append_assoc (take at c.loop-at.buffer) (byte ∷ []) left
           ∙ ap (λ l. take at c.loop-at.buffer ++ l) (sym next)
           ∙ c.loop-at.invariant

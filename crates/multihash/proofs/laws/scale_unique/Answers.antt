@@ -10,7 +10,11 @@ returns c = record {
       record { value = e.0; holds = e.1; only = λ other h. scale_same p other e.0 h e.1 };
   same = scale_same;
   unique = scale_split;
-  one_verdict = λ S input bytes. record { value = scale_found S input; holds = has_scale_found S input bytes; only = scale_verdict_is S input };
+  one_verdict = λ S input bytes. record {
+    value = scale_found S input;
+    holds = has_scale_found S input bytes;
+    only = scale_verdict_is S input;
+  };
   verdict_unique = scale_verdict_unique;
   begins_no_other = λ p q a b h k begins. (scale_split p q a b begins.0 [] h k (sym begins.1 ∙ sym (append-nil b))).0;
   own_verdict = λ S p bytes rest h fits. (bytes, rest, h, omega arith, refl);

@@ -1,3 +1,5 @@
+-- The loop keeps that the bytes appended so far and the encodings of the items that are left are those of all items, so a
+-- failure at any item has appended a strict prefix of them.
 use Rattle.std.proofs.Common.{◌+◌, ℕ, List, [], ◌∷◌, ◌++◌, map, drop, refl, sym, ap, ◌∙◌, append_assoc, append-nil}
 use Rattle.std.proofs.lemmas.List.{drop_more, drop_all}
 use Rattle.multihash.specs.Multihash.{Fields, pair_of}
@@ -7,7 +9,7 @@ use Rattle.multihash.specs.Writing.{AppendsPrefix}
 use Rattle.multihash.proofs.OutcomeLemmas.{OnErr-always}
 use Rattle.multihash.proofs.EncodingLemmas.{encoding_same, all_fit, have_stream}
 use Rattle.multihash.proofs.StreamLemmas.{parts_same}
-use Rattle.multihash.proofs.WritingLemmas.{AppendsPrefix-append, AppendsPrefix-concatenated}
+use Rattle.multihash.proofs.WritingLemmas.{appends_both, AppendsPrefix-append, AppendsPrefix-concatenated}
 use Rattle.multihash.proofs.list.write_list.Given as given
 use Rattle.multihash.proofs.list.write_list.Goals as goal
 use Rattle.multihash.proofs.list.write_list.Goals.{After-item-item}
@@ -22,7 +24,8 @@ next : (g : given.Over) (c : After-item-item g) (e others : List ℕ) → IsEnco
 next g c e others encodes h =
     let items = c.args.items.now in
     let i = c.loop-item.item-index in
-    let cut = drop_more items i c.item-item.result c.loop-item-test.true ∙ ap (λ (m : Fields g.row.S). m ∷ drop (i + 1) items) (sym c.item-item.is) in
+    let cut = drop_more items i c.item-item.result c.loop-item-test.true ∙ ap (λ (m : Fields g.row.S). m ∷ drop (i + 1) items)
+    (sym c.item-item.is) in
     c.loop-item.invariant.whole (e ++ others) (rw cut (e, others, encodes, h, refl))
 
 pub loop-item-preserved : goal.loop-item-preserved
@@ -32,8 +35,9 @@ loop-item-preserved g c =
     record {
       bytes = before.bytes ++ met.ok.0;
       whole = λ others h.
-          rw (append_assoc before.bytes met.ok.0 others) (next g (goal.at.loop-item-preserved g c).After-item-item met.ok.0 others met.ok.1 h);
-      appends = g.met.W.Write.appends_concatenated _ _ _ before.bytes met.ok.0 before.appends met.ok.3;
+          rw (append_assoc before.bytes met.ok.0 others)
+          (next g (goal.at.loop-item-preserved g c).After-item-item met.ok.0 others met.ok.1 h);
+      appends = appends_both g.W.Write.appended g.met.W.Write.appends_concatenated before.appends met.ok.3;
       unfailed = met.faults ∙ before.unfailed;
     }
 
@@ -46,8 +50,8 @@ stop g c =
     let others = have_stream (drop (c.loop-item.item-index + 1) c.args.items.now) in (
       _,
       next g (goal.at.returns-in_err-write-clause-err g c).After-item-item met.0 others.0 met.1 others.1,
-      AppendsPrefix-concatenated g.W.Write.appended g.met.W.Write.appends_concatenated _ _ _ before.bytes _ before.appends
-          (AppendsPrefix-append g.W.Write.appended _ _ met.0 others.0 met.2),
+      AppendsPrefix-concatenated g.W.Write.appended g.met.W.Write.appends_concatenated before.appends
+          (AppendsPrefix-append g.W.Write.appended others.0 met.2),
     )
 
 pub returns-in_err-write-clause-err : goal.returns-in_err-write-clause-err
@@ -56,7 +60,8 @@ returns-in_err-write-clause-err g c = OnErr-always _ (stop g c)
 pub returns-in_err-write-clause-any : goal.returns-in_err-write-clause-any
 returns-in_err-write-clause-any g c =
     let (some, concatenated, part) = stop g c in
-    let any : (all : List ℕ) → AreConcatenated (map pair_of c.args.items.now) all → AppendsPrefix g.W.Write.appended c.args.w.now all c.write.new.w =
+    let any : (all : List ℕ) → AreConcatenated (map pair_of c.args.items.now) all
+    → AppendsPrefix g.W.Write.appended c.args.w.now all c.write.new.w =
     λ all h. rw (parts_same IsEncoding encoding_same _ all some h concatenated) part in
     OnErr-always _ any
 

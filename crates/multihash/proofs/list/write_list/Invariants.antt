@@ -8,7 +8,8 @@ use Rattle.multihash.proofs.list.write_list.Given as goal
 abbrev pub invariant-loop-item : goal.invariant-loop-item
 invariant-loop-item g l = record {
   bytes : List ℕ;
-  whole : (others : List ℕ) → AreConcatenated (map pair_of (drop l.item-index l.items)) others → AreConcatenated (map pair_of l.items) (bytes ++ others);
+  whole : (others : List ℕ) → AreConcatenated (map pair_of (drop l.item-index l.items)) others
+      → AreConcatenated (map pair_of l.items) (bytes ++ others);
   appends : g.W.Write.appended l.initial.w bytes l.w;
   unfailed : g.W.Write.failures l.w ≡ g.W.Write.failures l.initial.w;
 }

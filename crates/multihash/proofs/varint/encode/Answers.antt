@@ -11,14 +11,14 @@ pub returns-then-rest-lt128 : goal.returns-then-rest-lt128
 returns-then-rest-lt128 c =
     let before = c.loop-len.invariant in
     rw (take_more_set c.loop-len.buffer c.loop-len.len c.loop-len.rest (omega (arith, c.loop-len-test.true, before.buffer)))
-    (wrote_last _ _ c.args.n _ before.wrote c.requires c.if-rest-lt128.true)
+    (wrote_last before.wrote c.requires c.if-rest-lt128.true)
 
 pub loop-len-preserved : goal.loop-len-preserved
 loop-len-preserved c =
     let before = c.loop-len.invariant in
     let room : c.loop-len.len < length c.loop-len.buffer = omega (arith, c.loop-len-test.true, before.buffer) in
     record {
-      wrote = wrote_more _ _ c.args.n _ before.wrote _ c.if-rest-lt128.false (take_more_set c.loop-len.buffer c.loop-len.len _ room);
+      wrote = wrote_more before.wrote c.if-rest-lt128.false (take_more_set c.loop-len.buffer c.loop-len.len _ room);
       buffer = length-set c.loop-len.buffer c.loop-len.len _ ∙ before.buffer;
     }
 
@@ -29,4 +29,4 @@ returns c =
     let wrote : Wrote (take 8 c.loop-len.buffer) 8 c.args.n c.loop-len.rest =
     subst (λ k. Wrote (take k c.loop-len.buffer) k c.args.n c.loop-len.rest) all before.wrote in
     rw (take_more_set c.loop-len.buffer 8 c.loop-len.rest (omega (arith, before.buffer)))
-    (wrote_last _ _ c.args.n _ wrote c.requires (last_digit _ c.args.n _ wrote c.requires))
+    (wrote_last wrote c.requires (last_digit wrote c.requires))

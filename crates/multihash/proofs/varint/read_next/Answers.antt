@@ -1,21 +1,18 @@
-use Rattle.std.proofs.Common.{◌≡◌, [], ◌∷◌, IfErr, IfSome, refl}
-use Rattle.multihash.specs.Refusal.{IsFrontError}
-use Rattle.multihash.specs.Consuming.{ConsumesAtVarintError, none_is_insufficient}
+use Rattle.std.proofs.Common.{[], ◌∷◌, refl}
 use Rattle.multihash.proofs.VarintReadLemmas.{none_read, reader_failed, input_ended}
 use Rattle.multihash.proofs.VarintWriteLemmas.{one_byte}
-use Rattle.multihash.proofs.OutcomeLemmas.{passed_err}
+use Rattle.multihash.proofs.OutcomeLemmas.{passed_error}
 use Rattle.multihash.proofs.varint.read_next.Goals as goal
 
 pub returns-in_err-first-clause-err : goal.returns-in_err-first-clause-err
 returns-in_err-first-clause-err g c =
-    passed_err (λ r. IfErr (none_is_insufficient r) (λ e. ConsumesAtVarintError e (g.R.Read.rest c.args.r.now) (g.R.Read.rest c.read_byte.new.r)))
-    c.from_residual.result _ c.from_residual.ensures.1
-    (rw c.in_err-first.ensures.err (reader_failed _ _ _ _ (none_read _) c.in_err-first.field-0.0 _ refl))
+    rw (passed_error c.from_residual.result _ c.from_residual.ensures.1)
+    (rw c.in_err-first.ensures.err (reader_failed (none_read _) c.in_err-first.field-0.0 refl))
 
 pub returns-in-None-clause-err : goal.returns-in-None-clause-err
 returns-in-None-clause-err g c =
     let ended = rw c.in-None.is at c.in_ok-first.ensures.byte in
-    rw ended.1 (input_ended _ _ _ _ (none_read _) ended.0 _ refl)
+    rw ended.1 (input_ended (none_read _) ended.0 refl)
 
 pub returns-then-first-lt128-clause-ok : goal.returns-then-first-lt128-clause-ok
 returns-then-first-lt128-clause-ok g c =
@@ -27,7 +24,5 @@ returns-clause-ok g c = rw (rw c.in-Some.is at c.in_ok-first.ensures.byte) c.in_
 
 pub returns-in_err-read_after-clause-front : goal.returns-in_err-read_after-clause-front
 returns-in_err-read_after-clause-front g c =
-    passed_err (λ r. IfSome (g.R.Read.rest c.args.r.now)
-    (λ input. g.R.Read.failures c.read_after.new.r ≡ g.R.Read.failures c.args.r.now → IfErr (none_is_insufficient r) (IsFrontError input)))
-    c.from_residual-in_err-read_after.result _ c.from_residual-in_err-read_after.ensures.1
+    rw (passed_error c.from_residual-in_err-read_after.result _ c.from_residual-in_err-read_after.ensures.1)
     (rw (rw c.in-Some.is at c.in_ok-first.ensures.byte, ← c.in_ok-first.ensures.faults) c.in_err-read_after.ensures.front)

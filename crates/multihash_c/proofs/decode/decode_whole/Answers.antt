@@ -1,3 +1,5 @@
+-- The two varints at the front of the first bytes are those of the whole input (`head_kept`), and a malformed one is so there
+-- too (`error_whole`); with its length they decide the verdict on the whole.
 use Rattle.std.proofs.Common.{◌≡◌, ◌<◌, length, refl, sym, ap, ◌∙◌, subst, arith, length-drop, take, drop}
 use Rattle.std.proofs.lemmas.List.{take_all}
 use Rattle.multihash.specs.Varint.{insufficient}
@@ -26,23 +28,21 @@ returns-in-Err-clause-cut c = λ has.
 
 pub returns-then-head-clause-verdict : goal.returns-then-head-clause-verdict
 returns-then-head-clause-verdict c = λ input long begins enough.
-    let h = c.in-Ok.head in
-    let head = head_kept h.code h.digest_len h.digest_offset c.args.front.now input begins c.in-Ok.ensures.ok in (
+    let head = head_kept input begins c.in-Ok.ensures.ok in (
       invalid_size _,
-      whole_over h.code h.digest_len h.digest_offset input head 255 (omega (arith, c.if-head.true)),
+      whole_over head 255 (omega (arith, c.if-head.true)),
       c.rejected_size.ensures.reports input,
     )
 
 pub returns-then-head-clause-cut : goal.returns-then-head-clause-cut
 returns-then-head-clause-cut c = λ has.
-    let h = c.in-Ok.head in
-    absurd (head_no_error h.code h.digest_len h.digest_offset c.args.front.now insufficient c.in-Ok.ensures.ok has)
+    absurd (head_no_error insufficient c.in-Ok.ensures.ok has)
 
 pub returns-then-end-whole_length-clause-verdict : goal.returns-then-end-whole_length-clause-verdict
 returns-then-end-whole_length-clause-verdict c = λ input long begins enough.
     let h = c.in-Ok.head in
     let has = c.in-Ok.ensures.ok in
-    let head = head_kept h.code h.digest_len h.digest_offset c.args.front.now input begins has in
+    let head = head_kept input begins has in
     let rest = drop h.digest_offset input in
     let exact : length rest ≡ h.digest_len =
     omega (arith, length-drop h.digest_offset input, long, c.if-end-whole_length.true) in
@@ -51,39 +51,37 @@ returns-then-end-whole_length-clause-verdict c = λ input long begins enough.
     let all : take c.accept.result.digest_length (drop c.accept.result.digest_offset input) ≡ rest =
     rw (c.accept.ensures.length, at) (take_all h.digest_len rest (omega (arith, exact))) in (
       accepted _,
-      whole_exact h.code h.digest_len h.digest_offset input head 255 (omega (arith, c.if-head.false)) rest refl exact,
+      whole_exact head 255 (omega (arith, c.if-head.false)) rest refl exact,
       c.accept.ensures.reports input _ refl (omega (arith, long)) (sym all),
     )
 
 pub returns-then-end-whole_length-clause-cut : goal.returns-then-end-whole_length-clause-cut
 returns-then-end-whole_length-clause-cut c = λ has.
-    let h = c.in-Ok.head in
-    absurd (head_no_error h.code h.digest_len h.digest_offset c.args.front.now insufficient c.in-Ok.ensures.ok has)
+    absurd (head_no_error insufficient c.in-Ok.ensures.ok has)
 
 pub returns-then-end-whole_length-2-clause-verdict : goal.returns-then-end-whole_length-2-clause-verdict
 returns-then-end-whole_length-2-clause-verdict c = λ input long begins enough.
     let h = c.in-Ok.head in
-    let head = head_kept h.code h.digest_len h.digest_offset c.args.front.now input begins c.in-Ok.ensures.ok in
+    let head = head_kept input begins c.in-Ok.ensures.ok in
     let rest = drop h.digest_offset input in
     let short : length rest < h.digest_len = omega (arith, length-drop h.digest_offset input, long, c.if-end-whole_length-2.true) in (
       unexpected_eof,
-      whole_short h.code h.digest_len h.digest_offset input head 255 (omega (arith, c.if-head.false)) rest refl short,
+      whole_short head 255 (omega (arith, c.if-head.false)) rest refl short,
       c.rejected_end.ensures.reports input,
     )
 
 pub returns-then-end-whole_length-2-clause-cut : goal.returns-then-end-whole_length-2-clause-cut
 returns-then-end-whole_length-2-clause-cut c = λ has.
-    let h = c.in-Ok.head in
-    absurd (head_no_error h.code h.digest_len h.digest_offset c.args.front.now insufficient c.in-Ok.ensures.ok has)
+    absurd (head_no_error insufficient c.in-Ok.ensures.ok has)
 
 pub returns-else-end-whole_length-2-clause-verdict : goal.returns-else-end-whole_length-2-clause-verdict
 returns-else-end-whole_length-2-clause-verdict c = λ input long begins enough.
     let h = c.in-Ok.head in
     let has = c.in-Ok.ensures.ok in
-    let head = head_kept h.code h.digest_len h.digest_offset c.args.front.now input begins has in
+    let head = head_kept input begins has in
     let rest = drop h.digest_offset input in (
       invalid_size _,
-      whole_trailing h.code h.digest_len h.digest_offset input head 255 (omega (arith, c.if-head.false)) rest refl _
+      whole_trailing head 255 (omega (arith, c.if-head.false)) rest refl
           (omega (arith, length-drop h.digest_offset input, long, c.if-end-whole_length.false, c.if-end-whole_length-2.false))
           (omega (arith, length-drop h.digest_offset input, long, has.within, c.requires)),
       c.rejected_size-in-Ok.ensures.reports input,
@@ -91,5 +89,4 @@ returns-else-end-whole_length-2-clause-verdict c = λ input long begins enough.
 
 pub returns-else-end-whole_length-2-clause-cut : goal.returns-else-end-whole_length-2-clause-cut
 returns-else-end-whole_length-2-clause-cut c = λ has.
-    let h = c.in-Ok.head in
-    absurd (head_no_error h.code h.digest_len h.digest_offset c.args.front.now insufficient c.in-Ok.ensures.ok has)
+    absurd (head_no_error insufficient c.in-Ok.ensures.ok has)

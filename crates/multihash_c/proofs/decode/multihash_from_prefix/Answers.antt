@@ -15,7 +15,8 @@ returns c =
     let same : take c.min.result prefix ≡ take len prefix = ap (λ k. take k prefix) count ∙ take_min len prefix in
     record {
       verdict = λ input long begins enough.
-          c.decode_whole.ensures.verdict input long (subst (λ z. IsPrefix z input) (sym same) begins) (determines_cut prefix _ len same enough);
+          c.decode_whole.ensures.verdict input long (subst (λ z. IsPrefix z input) (sym same) begins)
+          (determines_cut prefix _ len same enough);
       cut = λ short has.
           let whole = same ∙ take_all len prefix (omega (arith, short)) in
           c.decode_whole.ensures.cut (subst (λ z. HasVerdict 255 z (malformed insufficient)) (sym whole) has);

@@ -12,5 +12,11 @@ returns-in-Err c =
       no_code = refl;
       no_length = refl;
       reads = λ limit.
-          error_read c.args.bytes.now _ _ h limit _ refl (record { is_status = is; is_size = refl; is_code = refl; no_offset = refl; no_length = refl });
+          error_read h limit _ refl (record {
+            is_status = is;
+            is_size = refl;
+            is_code = refl;
+            no_offset = refl;
+            no_length = refl;
+          });
     })

@@ -1,3 +1,5 @@
+-- The first eight bytes, the byte after them and the length of the input decide the verdict: a lemma of `DecodedLemmas` for each
+-- return.
 use Rattle.std.proofs.Common.{◌≡◌, ◌<◌, length, inl, arith, rules}
 use Rattle.multihash.specs.Verdict.{accepted, invalid_code, unexpected_eof}
 use Rattle.multihash_c.proofs.DecodedLemmas.{code_taken, size_missing, digest_missing, form_taken}
@@ -16,8 +18,9 @@ returns-in_default-clause-verdict c =
 pub returns-then-code-gt-MAX-clause-verdict : goal.returns-then-code-gt-MAX-clause-verdict
 returns-then-code-gt-MAX-clause-verdict c =
     let input = c.args.bytes.now in
-    let found = code_taken input _ _ c.from_le_bytes-code.result c.in-Some.ensures.cases (λ i. omega (arith, c.type_inv.bytes i))
-    (omega (arith, c.from_le_bytes-code.type_inv)) c.from_le_bytes-code.ensures _ (omega (arith, c.if-code-gt-MAX.true)) c.rejected_code.ensures.taken in
+    let found = code_taken input c.in-Some.ensures.cases (λ i. omega (arith, c.type_inv.bytes i))
+    (omega (arith, c.from_le_bytes-code.type_inv)) c.from_le_bytes-code.ensures
+    (omega (arith, c.if-code-gt-MAX.true)) c.rejected_code.ensures.taken in
     (invalid_code _, found.0, c.rejected_code.ensures.reports input, found.1)
 
 pub returns-then-is_empty-clause-verdict : goal.returns-then-is_empty-clause-verdict
@@ -27,10 +30,14 @@ returns-then-is_empty-clause-verdict c =
     let none : length c.in-Some.rest.now ≡ 0 = search rules in
     let reported = c.rejected_end-then-is_empty.ensures in (
       unexpected_eof,
-      size_missing input _ _ c.from_le_bytes-code.result c.in-Some.ensures.cases (λ i. omega (arith, c.type_inv.bytes i))
+      size_missing input c.in-Some.ensures.cases (λ i. omega (arith, c.type_inv.bytes i))
           (omega (arith, c.from_le_bytes-code.type_inv)) c.from_le_bytes-code.ensures (omega (arith, c.if-code-gt-MAX.false)) none,
       reported.reports input,
-      record { no_code = λ e. absurd (omega (arith, e, all)); code = λ _. reported.taken; size = λ e. absurd (omega (arith, e, all, none)) },
+      record {
+        no_code = λ e. absurd (omega (arith, e, all));
+        code = λ _. reported.taken;
+        size = λ e. absurd (omega (arith, e, all, none));
+      },
     )
 
 pub returns-then-bytes-taken-clause-verdict : goal.returns-then-bytes-taken-clause-verdict
@@ -40,11 +47,16 @@ returns-then-bytes-taken-clause-verdict c =
     let more : 0 < length c.in-Some.rest.now = search rules in
     let reported = c.rejected_end-then-bytes-taken.ensures in (
       unexpected_eof,
-      digest_missing input _ _ c.from_le_bytes-code.result c.in-Some.ensures.cases (λ i. omega (arith, c.type_inv.bytes i))
-          (omega (arith, c.from_le_bytes-code.type_inv)) c.from_le_bytes-code.ensures (omega (arith, c.if-code-gt-MAX.false)) c.from-size.result more
+      digest_missing input c.in-Some.ensures.cases (λ i. omega (arith, c.type_inv.bytes i))
+          (omega (arith, c.from_le_bytes-code.type_inv)) c.from_le_bytes-code.ensures
+          (omega (arith, c.if-code-gt-MAX.false)) c.from-size.result more
           c.from-size.ensures c.if-bytes-taken.true,
       reported.reports input,
-      record { no_code = λ e. absurd (omega (arith, e, all)); code = λ e. absurd (omega (arith, e, all, more)); size = λ _. reported.taken },
+      record {
+        no_code = λ e. absurd (omega (arith, e, all));
+        code = λ e. absurd (omega (arith, e, all, more));
+        size = λ _. reported.taken;
+      },
     )
 
 pub returns-clause-verdict : goal.returns-clause-verdict
@@ -52,8 +64,9 @@ returns-clause-verdict c =
     let input = c.args.bytes.now in
     let more : 0 < length c.in-Some.rest.now = search rules in
     let reported = c.accept.ensures in
-    let found = form_taken input _ _ c.from_le_bytes-code.result c.in-Some.ensures.cases (λ i. omega (arith, c.type_inv.bytes i))
-    (omega (arith, c.from_le_bytes-code.type_inv)) c.from_le_bytes-code.ensures (omega (arith, c.if-code-gt-MAX.false)) c.from-size.result more
+    let found = form_taken input c.in-Some.ensures.cases (λ i. omega (arith, c.type_inv.bytes i))
+    (omega (arith, c.from_le_bytes-code.type_inv)) c.from_le_bytes-code.ensures
+    (omega (arith, c.if-code-gt-MAX.false)) c.from-size.result more
     c.from-size.ensures c.accept.result.digest_offset c.accept.result.digest_length c.accept.result.taken reported.length reported.taken
     (omega (arith, reported.offset, reported.length, reported.taken)) (omega (arith, reported.taken, c.if-bytes-taken.false)) in
     (accepted found.0, found.2, reported.reports input found.0 found.1 (omega (arith, c.if-bytes-taken.false)) found.3, found.4)

@@ -10,7 +10,7 @@ returns c = λ code a is_code long.
       no_size = c.count.ensures.no_size;
       is_length = λ digest same. (
         a ++ (b ++ digest),
-        encoding_of_parts (record { code = code; digest = digest }) _ _ digest a b refl (sym same) refl is_code is_size,
+        encoding_of_parts (record { code = code; digest = digest }) a b refl (sym same) refl is_code is_size,
         omega (arith, c.count.ensures.length, long, size_long, same, length-parts a b digest),
       );
     }

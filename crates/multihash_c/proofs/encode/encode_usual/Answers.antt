@@ -17,10 +17,12 @@ returns c =
     let bytes : List ℕ = c.args.code ∷ 32 ∷ digest in
     let usual : length digest ≡ 32 = c.requires.usual in
     let form : IsEncoding p bytes =
-    encoding_of_parts p c.args.code 32 digest (c.args.code ∷ []) (32 ∷ []) refl (sym usual) refl (one_byte c.args.code c.requires.small) (one_byte 32 (omega arith)) in
+    encoding_of_parts p (c.args.code ∷ []) (32 ∷ []) refl (sym usual) refl (one_byte c.args.code c.requires.small)
+    (one_byte 32 (omega arith)) in
     let long : length bytes ≡ 34 = omega (arith, usual) in
     writes_form IsEncoding p old new _ c.count.result (omega (arith, usual)) (omega (arith, c.requires.small)) c.count.ensures
-    c.if-out-ge-USUAL_ENCODING.auto.out (λ other is_other. sym long ∙ ap (λ (y : List ℕ). length y) (encoding_same p bytes other form is_other))
+    c.if-out-ge-USUAL_ENCODING.auto.out (λ other is_other.
+    sym long ∙ ap (λ (y : List ℕ). length y) (encoding_same p bytes other form is_other))
     (elim c.if-out-ge-USUAL_ENCODING.branch [
       | then-out-ge-USUAL_ENCODING w ↦
           let appends : new ≡ bytes ++ drop (length bytes) old = grind (arith, common_steps) in

@@ -1,4 +1,4 @@
-use Rattle.std.proofs.Common.{[], ◌∷◌, ℕ, List, ◌++◌, length, refl, arith}
+use Rattle.std.proofs.Common.{[], ◌∷◌, ℕ, List, ◌++◌, refl, arith}
 use Rattle.std.proofs.lemmas.Grind.{common_steps}
 use Rattle.multihash.specs.Pair.{Pair}
 use Rattle.multihash.proofs.EncodingLemmas.{encoding_of_parts}
@@ -20,8 +20,11 @@ returns-then-code-lt128 c =
     let (bytes, e, fit) = c.requires.fits in
     let is_code = one_byte c.args.code c.if-code-lt128.true in
     let (size, is_size, rest) = c.put_sized.ensures in
-    let parts = parts_long p bytes (c.args.code ∷ []) size e is_code is_size in
-    (c.args.code ∷ (size ++ digest), encoding_of_parts p c.args.code (length digest) digest _ size refl refl refl is_code is_size, grind (arith, common_steps))
+    let parts = parts_long p bytes (c.args.code ∷ []) size e is_code is_size in (
+      c.args.code ∷ (size ++ digest),
+      encoding_of_parts p (c.args.code ∷ []) size refl refl refl is_code is_size,
+      grind (arith, common_steps),
+    )
 
 pub put_varint-code_length-requires-clause-fits : goal.put_varint-code_length-requires-clause-fits
 put_varint-code_length-requires-clause-fits c = λ code is_code.
@@ -45,4 +48,4 @@ returns c =
     let (code, is_code, long, put) = c.put_varint-code_length.ensures in
     let (size, is_size, rest) = c.put_sized-2.ensures in
     let parts = parts_long p bytes code size e is_code is_size in
-    (code ++ (size ++ digest), encoding_of_parts p c.args.code (length digest) digest code size refl refl refl is_code is_size, grind (arith, common_steps))
+    (code ++ (size ++ digest), encoding_of_parts p code size refl refl refl is_code is_size, grind (arith, common_steps))

@@ -70,7 +70,7 @@ loop-preserved g c =
         consumed = (
           before.reads.consumed.0 ++ one.0,
           parts_push g.T.Form.is_form before.reads.values value _ _ before.reads.consumed.1 one.1,
-          Consumes-concatenated _ _ _ before.reads.consumed.0 one.0 _ refl before.reads.consumed.2 one.2,
+          Consumes-concatenated _ before.reads.consumed.0 one.0 refl before.reads.consumed.2 one.2,
         );
       };
       count = omega (arith, length-append before.reads.values (value ∷ []), before.count);

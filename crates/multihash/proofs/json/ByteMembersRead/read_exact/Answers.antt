@@ -9,7 +9,8 @@ returns-then-self-buf c =
     let bytes = member_bytes c.args.self.now.left.now in
     let short : length bytes < length c.args.buf.now =
     omega (arith, length-member_bytes c.args.self.now.left.now c.args.self.now.are_bytes, c.if-self-buf.true) in
-    let err : ConsumesFewerThan (length c.args.buf.now) (Some bytes) (Some bytes) = record { consumed = []; fewer = omega (arith, short); consumes = refl } in
+    let err : ConsumesFewerThan (length c.args.buf.now) (Some bytes) (Some bytes) =
+    record { consumed = []; fewer = omega (arith, short); consumes = refl } in
     search rules
 
 pub returns : goal.returns

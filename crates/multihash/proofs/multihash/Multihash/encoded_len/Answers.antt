@@ -9,7 +9,7 @@ returns-clause-encoding g c =
     let a = c.len_in_range-code.ensures.varint in
     let b = c.len_in_range-size.ensures.varint in (
       a.0 ++ (b.0 ++ p.digest),
-      encoding_of_parts p _ _ p.digest a.0 b.0 c.code.ensures.code (c.from.ensures ∙ c.size.ensures.size) refl a.1 b.1,
+      encoding_of_parts p a.0 b.0 c.code.ensures.code (c.from.ensures ∙ c.size.ensures.size) refl a.1 b.1,
       omega (arith, a.2, b.2, c.from-2.ensures, c.size-2.ensures.size, length-parts a.0 b.0 p.digest),
     )
 

@@ -1,28 +1,29 @@
+-- The head gives the two varints; the size beside the capacity, and beside the bytes that are left, decides which verdict on
+-- the whole holds (`VerdictLemmas`).
 use Rattle.std.proofs.Common.{refl, arith, sym, ap}
 use Rattle.std.proofs.lemmas.List.{take_rest}
-use Rattle.multihash.specs.Verdict.{Verdict, invalid_size, unexpected_eof, accepted, malformed, HasWholeVerdict}
-use Rattle.multihash.specs.Outcome.{IsResultOf}
-use Rattle.multihash.proofs.OutcomeLemmas.{passed_err}
+use Rattle.multihash.specs.Verdict.{invalid_size, unexpected_eof, accepted, malformed}
+use Rattle.multihash.proofs.OutcomeLemmas.{passed_error}
 use Rattle.multihash.proofs.VerdictLemmas.{whole_over, whole_short, whole_trailing, whole_exact}
 use Rattle.multihash.proofs.multihash.Multihash.from_bytes.Goals as goal
 
 pub returns-in_err-head : goal.returns-in_err-head
 returns-in_err-head g c =
     let (error, named, has) = c.in_err-head.ensures.err in
-    passed_err (λ r. (v : Verdict) × HasWholeVerdict g.row.S c.args.bytes.now v × IsResultOf r v) c.from_residual.result _ c.from_residual.ensures.1
+    rw (passed_error c.from_residual.result _ c.from_residual.ensures.1)
     (malformed error, has g.row.S, named)
 
 pub returns-then-not-is_valid_size : goal.returns-then-not-is_valid_size
 returns-then-not-is_valid_size g c = (
   invalid_size _,
-  whole_over _ _ _ _ c.in_ok-head.ensures.ok g.row.S (c.is_valid_size.ensures.over c.if-not-is_valid_size.true),
+  whole_over c.in_ok-head.ensures.ok g.row.S (c.is_valid_size.ensures.over c.if-not-is_valid_size.true),
   c.from_size.ensures,
 )
 
 pub returns-then-digest-len : goal.returns-then-digest-len
 returns-then-digest-len g c = (
   unexpected_eof,
-  whole_short _ _ _ _ c.in_ok-head.ensures.ok g.row.S (c.is_valid_size.ensures.fits c.if-not-is_valid_size.false) _ (take_rest c.args.bytes.now _)
+  whole_short c.in_ok-head.ensures.ok g.row.S (c.is_valid_size.ensures.fits c.if-not-is_valid_size.false) _ (take_rest c.args.bytes.now _)
       c.if-digest-len.true,
   (_, c.from.ensures, c.unexpected_eof.ensures),
 )
@@ -30,7 +31,8 @@ returns-then-digest-len g c = (
 pub returns-then-digest-len-2 : goal.returns-then-digest-len-2
 returns-then-digest-len-2 g c = (
   invalid_size _,
-  whole_trailing _ _ _ _ c.in_ok-head.ensures.ok g.row.S (c.is_valid_size.ensures.fits c.if-not-is_valid_size.false) _ (take_rest c.args.bytes.now _) _
+  whole_trailing c.in_ok-head.ensures.ok g.row.S (c.is_valid_size.ensures.fits c.if-not-is_valid_size.false) _
+      (take_rest c.args.bytes.now _)
       c.if-digest-len-2.true refl,
   c.from_size-then-digest-len-2.ensures,
 )
@@ -38,7 +40,7 @@ returns-then-digest-len-2 g c = (
 pub returns : goal.returns
 returns g c = (
   accepted _,
-  whole_exact _ _ _ _ c.in_ok-head.ensures.ok g.row.S (c.is_valid_size.ensures.fits c.if-not-is_valid_size.false) _ (take_rest c.args.bytes.now _)
+  whole_exact c.in_ok-head.ensures.ok g.row.S (c.is_valid_size.ensures.fits c.if-not-is_valid_size.false) _ (take_rest c.args.bytes.now _)
       (omega (arith, c.if-digest-len.false, c.if-digest-len-2.false)),
   ap accepted (sym c.of_digest.ensures),
 )

@@ -1,11 +1,12 @@
+-- `from_value` reads the members of the array as `read` reads bytes, so the verdict of `read` on these, and whether members are
+-- left, is the verdict on the whole.
 use Rattle.std.proofs.Common.{◌≡◌, ◌<◌, ◌++◌, length, refl, sym, ◌∙◌, ap, inr, rules}
 use Rattle.std.proofs.lemmas.List.{nil_from_length}
 use Rattle.multihash.specs.Private.{member_bytes}
-use Rattle.multihash.specs.Verdict.{Verdict, accepted, invalid_size, HasWholeVerdict}
+use Rattle.multihash.specs.Verdict.{accepted, invalid_size}
 use Rattle.multihash.specs.Encoding.{IsEncoding}
-use Rattle.multihash.specs.Outcome.{IsResultOf}
 use Rattle.multihash.specs.Multihash.{pair_of}
-use Rattle.multihash.proofs.OutcomeLemmas.{passed_err, passed_on}
+use Rattle.multihash.proofs.OutcomeLemmas.{passed_error}
 use Rattle.multihash.proofs.JsonLemmas.{array_unique, length-member_bytes}
 use Rattle.multihash.proofs.VerdictLemmas.{whole_pair, whole_rejected}
 use Rattle.multihash.proofs.EncodingLemmas.{digest_fits}
@@ -17,11 +18,11 @@ returns-in_err-multihash-clause-verdict g c bytes h =
     let found = c.in_err-multihash.ensures.verdict refl in
     let listed = member_bytes c.in-Some.members.now in
     rw (array_unique bytes listed (sym h.array ∙ c.in-Some.ensures.1.array))
-    (passed_err (λ r. (w : Verdict) × HasWholeVerdict g.row.S listed w × IsResultOf r w) c.from_residual.result _ c.from_residual.ensures.1
+    (rw (passed_error c.from_residual.result _ c.from_residual.ensures.1)
     (whole_rejected g.row.S _ _ found.0 found.1 found.2))
 
 pub returns-in_err-multihash-clause-ok : goal.returns-in_err-multihash-clause-ok
-returns-in_err-multihash-clause-ok g c = passed_on _ _ _ _ c.from_residual.ensures.1 tt
+returns-in_err-multihash-clause-ok g c = rw (passed_error c.from_residual.result _ c.from_residual.ensures.1) tt
 
 pub returns-then-not-is_empty-clause-verdict : goal.returns-then-not-is_empty-clause-verdict
 returns-then-not-is_empty-clause-verdict g c bytes h =
@@ -37,7 +38,8 @@ returns-then-not-is_empty-clause-verdict g c bytes h =
     )
 
 -- the members' bytes are an encoding of the pair, and nothing follows it
-listed : (g : given.Over) (c : goal.Else-not-is_empty g) → IsEncoding (pair_of c.in_ok-multihash.multihash) (member_bytes c.in-Some.members.now)
+listed : (g : given.Over) (c : goal.Else-not-is_empty g)
+    → IsEncoding (pair_of c.in_ok-multihash.multihash) (member_bytes c.in-Some.members.now)
 listed g c =
     let met = c.in_ok-multihash.ensures.ok in
     let left = c.read.new.r.left.now in
@@ -47,7 +49,8 @@ listed g c =
 
 pub returns-clause-verdict : goal.returns-clause-verdict
 returns-clause-verdict g c bytes h =
-    rw (array_unique bytes _ (sym h.array ∙ c.in-Some.ensures.1.array)) (accepted _, (listed g c, digest_fits c.in_ok-multihash.multihash), refl)
+    rw (array_unique bytes _ (sym h.array ∙ c.in-Some.ensures.1.array))
+    (accepted _, (listed g c, digest_fits c.in_ok-multihash.multihash), refl)
 
 pub returns-clause-ok : goal.returns-clause-ok
 returns-clause-ok g c = (_, c.in-Some.ensures.1, listed g c)

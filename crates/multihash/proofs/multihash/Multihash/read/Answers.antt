@@ -1,12 +1,11 @@
-use Rattle.multihash.specs.Consuming.{ReadMeets}
-use Rattle.multihash.proofs.OutcomeLemmas.{passed_err}
+use Rattle.multihash.proofs.OutcomeLemmas.{passed_error}
 use Rattle.multihash.proofs.ReadConsumingLemmas.{stops_in_code}
 use Rattle.multihash.proofs.multihash.Multihash.read.Goals as goal
 
 pub returns-in_err-code : goal.returns-in_err-code
 returns-in_err-code g c =
     let t = c.in_err-code.ensures in
-    passed_err (ReadMeets g.row.S _ _ _ _) c.from_residual.result _ c.from_residual.ensures.1 (stops_in_code g.row.S _ _ _ _ _ _ t.err t.faults t.err.consumes)
+    rw (passed_error c.from_residual.result _ c.from_residual.ensures.1) (stops_in_code g.row.S _ t.err t.faults t.err.consumes)
 
 pub returns : goal.returns
 returns g c =

@@ -1,7 +1,6 @@
 use Rattle.std.proofs.Common.{inr, refl}
 use Rattle.multihash.specs.Varint.{insufficient}
-use Rattle.multihash.specs.Consuming.{ReadMeets, none_is_insufficient}
-use Rattle.multihash.proofs.OutcomeLemmas.{passed_err}
+use Rattle.multihash.proofs.OutcomeLemmas.{passed_error}
 use Rattle.multihash.proofs.ReadConsumingLemmas.{stops_in_code}
 use Rattle.multihash.proofs.multihash.Multihash.read_next.Goals as goal
 
@@ -10,10 +9,9 @@ returns-in_err-code-clause-read g c =
     let t = c.in_err-code.ensures in
     let old = g.R.Read.rest c.args.r.now in
     let new = g.R.Read.rest c.read_next.new.r in
-    passed_err (λ r. ReadMeets g.row.S old new (g.R.Read.failures c.args.r.now) (g.R.Read.failures c.read_next.new.r) (none_is_insufficient r))
-    c.from_residual.result _ c.from_residual.ensures.1 (stops_in_code g.row.S _ _ _ _ _ _ t.err t.faults t.err.consumes)
+    rw (passed_error c.from_residual.result _ c.from_residual.ensures.1) (stops_in_code g.row.S _ t.err t.faults t.err.consumes)
 
 pub returns-in-None-clause-read : goal.returns-in-None-clause-read
 returns-in-None-clause-read g c =
     let t = rw c.in-None.is at c.in_ok-code.ensures in
-    stops_in_code g.row.S _ _ _ _ _ _ t.err (inr (t.faults, (insufficient, refl))) t.err.consumes
+    stops_in_code g.row.S _ t.err (inr (t.faults, (insufficient, refl))) t.err.consumes

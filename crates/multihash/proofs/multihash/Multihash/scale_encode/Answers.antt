@@ -1,9 +1,11 @@
+-- The form is the code's eight bytes, the size and the digest (`form`): two calls that succeed append it, and one that fails
+-- has appended a strict prefix of it.
 use Rattle.std.proofs.Common.{[], ◌++◌, length, ap, arith, append_assoc, refl}
 use Rattle.multihash.specs.Scale.{IsScale}
 use Rattle.multihash.specs.Multihash.{pair_of}
 use Rattle.multihash.proofs.ScaleLemmas.{scale_length}
-use Rattle.multihash.proofs.OutcomeLemmas.{passed_on}
-use Rattle.multihash.proofs.WritingLemmas.{fault_from, stops_in_first, stops_in_third}
+use Rattle.multihash.proofs.OutcomeLemmas.{passed_error}
+use Rattle.multihash.proofs.WritingLemmas.{appends_both, stops_in_first, stops_in_third}
 use Rattle.multihash.proofs.multihash.Multihash.scale_encode.Given as given
 use Rattle.multihash.proofs.multihash.Multihash.scale_encode.Goals as goal
 use Rattle.multihash.proofs.multihash.Multihash.scale_encode.Goals.{After-scale_head}
@@ -23,19 +25,20 @@ form g c =
 pub returns-in_err-write_all-clause-err : goal.returns-in_err-write_all-clause-err
 returns-in_err-write_all-clause-err g c =
     let written = form g (goal.at.returns-in_err-write_all-clause-err g c).After-scale_head in
-    stops_in_first g.W.Write.appended g.met.W.Write.appends_concatenated (IsScale (pair_of c.args.self.now)) _ [] c.digest-digest.result.now written
-    _ _ _ c.in_err-write_all.ensures.laws.err
+    stops_in_first g.W.Write.appended g.met.W.Write.appends_concatenated (IsScale (pair_of c.args.self.now)) _ []
+    c.digest-digest.result.now written _ c.in_err-write_all.ensures.laws.err
 
 pub returns-in_err-write_scale_digest-clause-err : goal.returns-in_err-write_scale_digest-clause-err
 returns-in_err-write_scale_digest-clause-err g c =
     let written = form g (goal.at.returns-in_err-write_scale_digest-clause-err g c).After-scale_head in
-    stops_in_third g.W.Write.appended g.met.W.Write.appends_concatenated (IsScale (pair_of c.args.self.now)) _ [] _ written
-    _ _ _ _ _ c.in_ok-write_all.ensures.laws.ok (g.met.W.Write.appends_nothing _) c.in_err-write_scale_digest.ensures.laws.err
+    stops_in_third g.W.Write.appended g.met.W.Write.appends_concatenated (IsScale (pair_of c.args.self.now)) _ []
+    c.digest-digest.result.now written _ c.in_ok-write_all.ensures.laws.ok
+    (g.met.W.Write.appends_nothing _) c.in_err-write_scale_digest.ensures.laws.err
 
 pub returns-in_err-write_scale_digest-clause-faults : goal.returns-in_err-write_scale_digest-clause-faults
 returns-in_err-write_scale_digest-clause-faults g c =
-    passed_on c.from_residual-in_err-write_scale_digest.result _ _ _ c.from_residual-in_err-write_scale_digest.ensures.1
-    (_, refl, fault_from _ _ _ _ _ _ c.in_ok-write_all.ensures.laws.faults c.in_err-write_scale_digest.ensures.laws.faults)
+    rw (passed_error c.from_residual-in_err-write_scale_digest.result _ c.from_residual-in_err-write_scale_digest.ensures.1)
+    (_, refl, rw c.in_ok-write_all.ensures.laws.faults at c.in_err-write_scale_digest.ensures.laws.faults)
 
 pub returns-clause-ok : goal.returns-clause-ok
 returns-clause-ok g c =
@@ -43,5 +46,6 @@ returns-clause-ok g c =
       _,
       written,
       omega (arith, scale_length (pair_of c.args.self.now) _ written, ap length c.digest-digest.ensures.digest),
-      g.met.W.Write.appends_concatenated _ _ _ _ _ c.in_ok-write_all.ensures.laws.ok c.in_ok-write_scale_digest.ensures.laws.ok,
+      appends_both g.W.Write.appended g.met.W.Write.appends_concatenated c.in_ok-write_all.ensures.laws.ok
+          c.in_ok-write_scale_digest.ensures.laws.ok,
     )

@@ -36,12 +36,14 @@ pub returns-in-Some-clause-ok : goal.returns-in-Some-clause-ok
 returns-in-Some-clause-ok c =
     let xs = c.args.bytes.now in
     consumed xs c.read_word.result
-    (IfOk-weaker c.read_word.result _ _ (λ found is. is xs (bytes_of xs (λ i. omega (arith, c.type_inv.bytes i))) (full c)) c.read_word.ensures.ok)
+    (IfOk-weaker c.read_word.result _ _ (λ found is. is xs (bytes_of xs (λ i. omega (arith, c.type_inv.bytes i))) (full c))
+    c.read_word.ensures.ok)
 
 pub returns-in-Some-clause-err : goal.returns-in-Some-clause-err
 returns-in-Some-clause-err c =
     let xs = c.args.bytes.now in
-    IfErr-weaker c.read_word.result _ _ (λ e is. is xs (bytes_of xs (λ i. omega (arith, c.type_inv.bytes i))) (full c)) c.read_word.ensures.err
+    IfErr-weaker c.read_word.result _ _ (λ e is. is xs (bytes_of xs (λ i. omega (arith, c.type_inv.bytes i))) (full c))
+    c.read_word.ensures.err
 
 pub returns-in-None-clause-ok : goal.returns-in-None-clause-ok
 returns-in-None-clause-ok c =

@@ -11,5 +11,5 @@ returns-then-buf-all-clause-laws c =
       room = grind (arith, common_steps);
       left = grind (arith, common_steps);
     } in
-    let part = AppendsPrefix-take _ _ _ c.args.buf.now [] _ n refl (grind (arith, common_steps)) past in
+    let part = AppendsPrefix-take _ [] c.args.buf.now n refl (grind (arith, common_steps)) past in
     record { ok = tt; empty = search rules; err = part; faults = search rules }

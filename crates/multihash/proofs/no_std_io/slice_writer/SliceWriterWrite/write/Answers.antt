@@ -6,7 +6,7 @@ use Rattle.multihash.proofs.no_std_io.slice_writer.SliceWriterWrite.write.Goals 
 pub returns-clause-laws : goal.returns-clause-laws
 returns-clause-laws c = record {
   count = search rules;
-  ok = record { same_slice = search rules; fills = fills_slice _ _ _ _ _ (search rules) (search rules) (grind (arith, common_steps)) };
+  ok = record { same_slice = search rules; fills = fills_slice (search rules) (search rules) (grind (arith, common_steps)) };
   stuck = search rules;
   err = tt;
   faults = refl;

@@ -1,15 +1,18 @@
 -- What decoding known inputs returns to a C caller, also by their first bytes, and what no decoding returns. Two
 -- results of one input agree: with a weaker part of a definition they may differ.
-use Rattle.std.proofs.Common.{◌≡◌, ℕ, List, [], ◌∷◌, length, get_or, refl, sym, ap, ◌∙◌, arith, ◌++◌, length-append, drop, replicate, subst, inl, inr, length-drop, ◌≤◌, take, take-append-drop}
+use Rattle.std.proofs.Common.{◌≡◌, ℕ, List, [], ◌∷◌, length, get_or, refl, sym, ap, ◌∙◌, arith, ◌++◌, length-append, drop, replicate}
+use Rattle.std.proofs.Common.{subst, inl, inr, length-drop, ◌≤◌, take, take-append-drop}
 use Rattle.multihash.specs.Varint.{VarintError, insufficient, overflow, not_minimal}
-use Rattle.multihash.specs.Verdict.{Verdict, accepted, invalid_size, invalid_code, malformed, unexpected_eof, HasHead, HasVerdict, HasWholeVerdict, IsIncomplete}
+use Rattle.multihash.specs.Verdict.{Verdict, accepted, invalid_size, invalid_code, malformed, unexpected_eof, HasHead, HasVerdict}
+use Rattle.multihash.specs.Verdict.{HasWholeVerdict, IsIncomplete}
 use Rattle.multihash.proofs.KnownExamples.{pair, code_named, code_alone}
 use Rattle.multihash.proofs.VarintWriteLemmas.{one_byte}
 use Rattle.multihash_c.specs.declared.decode.Decoded.{Decoded}
 use Rattle.multihash_c.specs.declared.decode.Varint.{Varint}
 use Rattle.multihash.proofs.VarintLemmas.{HasFront, number, number_unique, number_no_error}
 use Rattle.multihash_c.specs.Status.{status_of_error}
-use Rattle.multihash_c.specs.Decoded.{ReportsPair, ReportsError, Reports, ConsumesForm, ReportsPrefix, Determines, ReadsWithin, ReportsHead, ReportsHeadError, ReportsVarint, ReadsVarint}
+use Rattle.multihash_c.specs.Decoded.{ReportsPair, ReportsError, Reports, ConsumesForm, ReportsPrefix, Determines, ReadsWithin}
+use Rattle.multihash_c.specs.Decoded.{ReportsHead, ReportsHeadError, ReportsVarint, ReadsVarint}
 use Rattle.multihash_c.proofs.DecodedLemmas.{reported_length}
 use Rattle.multihash.proofs.ScaleLemmas.{scale_verdict_unique}
 use Rattle.multihash.proofs.CodecExamples.{zeros, all_255, scale_code_above}
@@ -135,12 +138,19 @@ both = 0 ∷ 1 ∷ []
 both_head : HasHead 0 1 2 both
 both_head = record {
   within = omega arith;
-  varints = record { code = 0; code_bytes = 0 ∷ []; size_bytes = 1 ∷ []; is_code = one_byte 0 (omega arith); is_size = one_byte 1 (omega arith); cut = refl };
+  varints = record {
+    code = 0;
+    code_bytes = 0 ∷ [];
+    size_bytes = 1 ∷ [];
+    is_code = one_byte 0 (omega arith);
+    is_size = one_byte 1 (omega arith);
+    cut = refl;
+  };
   is_code = refl;
 }
 
 both_end : ¬ (HasVerdict 255 both (malformed insufficient))
-both_end has = head_no_error 0 1 2 both insufficient both_head has
+both_end has = head_no_error insufficient both_head has
 
 -- the code alone determines nothing, unless nothing follows
 determined : Determines (0 ∷ []) 1
@@ -167,7 +177,7 @@ reports_no_end h =
     let whole : List ℕ = 0 ∷ 1 ∷ 9 ∷ [] in
     let (v, has, reports) = h.verdict whole refl (9 ∷ [], refl) (inr (inr both_end)) in
     let there : HasWholeVerdict 255 whole (accepted (pair 0 (9 ∷ []))) =
-    whole_exact 0 1 2 whole (head_kept 0 1 2 both whole (9 ∷ [], refl) both_head) 255 (omega arith) (9 ∷ []) refl refl in
+    whole_exact (head_kept whole (9 ∷ [], refl) both_head) 255 (omega arith) (9 ∷ []) refl refl in
     let told : Reports whole (outcome 6 0 0 0 0 3) (accepted (pair 0 (9 ∷ []))) =
     subst (Reports whole (outcome 6 0 0 0 0 3)) (whole_verdict_unique 255 whole v (accepted (pair 0 (9 ∷ []))) has there) reports in
     omega (arith, told.is_ok)
@@ -187,11 +197,13 @@ settled_at limit input taken inside c =
     )
 
 module _ (limit : ℕ) (input : List ℕ) (a b : Decoded) (h : ReadsWithin limit input a) (k : ReadsWithin limit input b) where
-  settles_alike : ConsumesShortestSettling limit input (Some (drop a.taken input)) → ConsumesShortestSettling limit input (Some (drop b.taken input))
+  settles_alike : ConsumesShortestSettling limit input (Some (drop a.taken input))
+      → ConsumesShortestSettling limit input (Some (drop b.taken input))
       → a.taken ≡ b.taken
   settles_alike c d =
       sym (settled_at limit input a.taken h.inside c)
-      ∙ (ap (λ (z : List ℕ). length z) (shortest_unique limit input c.front d.front c.shortest d.shortest) ∙ settled_at limit input b.taken k.inside d)
+      ∙ (ap (λ (z : List ℕ). length z) (shortest_unique limit input c.front d.front c.shortest d.shortest)
+      ∙ settled_at limit input b.taken k.inside d)
 
   late : (v : Verdict) → HasVerdict limit input v → ¬ (IsIncomplete v) → a.taken ≡ b.taken
   late v has stays = settles_alike (h.settled v has stays) (k.settled v has stays)
