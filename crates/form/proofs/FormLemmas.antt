@@ -57,10 +57,10 @@ rejects_malformed error e old new c named whole = (
 )
 
 -- `varint::read` failed
-pub varint_stops : (before after : ℕ) (e : Refusal) (old new : Option (List ℕ)) → FailsBy before after IsAnyVarintError e
+pub varint_stops : {before after : ℕ} {e : Refusal} {old new : Option (List ℕ)} → FailsBy before after IsAnyVarintError e
     → ConsumesAtVarintError e old new → ReadStops IsVarint RejectsNumber before after (Failed e) old new
-varint_stops before after e None new cause c = inr tt
-varint_stops before after e (Some input) new cause c = inr (record {
+varint_stops {old = None} cause c = inr tt
+varint_stops {e = e} {old = Some input} {new = new} cause c = inr (record {
   consumed = c.consumed;
   consumes = c.consumes;
   cause = elim cause [
@@ -189,8 +189,8 @@ module _ {A : Type 0} (IsForm : A → List ℕ → Type 0) where
 -- ---- faults
 
 -- the clause `faults`, of an error that `?` converts
-pub faults_as : (before after : ℕ) (Listed : Refusal → Type 0) (e : Refusal)
+pub faults_as : {before after : ℕ} (Listed : Refusal → Type 0) {e : Refusal}
     → ((before < after) × IsReaderError e) ⊎ ((after ≡ before) × Listed e)
     → ((before < after) × IsFailed IsReaderError (Failed e)) ⊎ ((after ≡ before) × IsFailed Listed (Failed e))
-faults_as before after Listed e (inl (up, own)) = inl (up, (e, refl, own))
-faults_as before after Listed e (inr (same, listed)) = inr (same, (e, refl, listed))
+faults_as Listed {e = e} (inl (up, own)) = inl (up, (e, refl, own))
+faults_as Listed {e = e} (inr (same, listed)) = inr (same, (e, refl, listed))

@@ -181,10 +181,10 @@ items_stop IsPart Rejects Same unique not_both (f ∷ found) (suc n) c before mi
 
 -- the same before calls that counted no failure and consumed nothing
 pub stops_later : {A : Type 0} (IsForm : A → List ℕ → Type 0) (Rejects : FormError → List ℕ → Type 0)
-    (before middle after : ℕ) (e : FormError)
-    (old mid new : Option (List ℕ)) → middle ≡ before → mid ≡ old → ReadStops IsForm Rejects middle after e mid new
+    {before middle : ℕ} (after : ℕ) {e : FormError}
+    {old mid : Option (List ℕ)} (new : Option (List ℕ)) → middle ≡ before → mid ≡ old → ReadStops IsForm Rejects middle after e mid new
     → ReadStops IsForm Rejects before after e old new
-stops_later IsForm Rejects before middle after e old mid new same kept stops =
+stops_later IsForm Rejects {middle = middle} after {e = e} {old = old} new same kept stops =
     subst (λ (k : ℕ). ReadStops IsForm Rejects k after e old new) same
     (subst (λ (o : Option (List ℕ)). ReadStops IsForm Rejects middle after e o new) kept stops)
 
@@ -192,10 +192,10 @@ stops_later IsForm Rejects before middle after e old mid new same kept stops =
 pub nothing_stops : {A : Type 0} (IsForm : A → List ℕ → Type 0) (Rejects : FormError → List ℕ → Type 0)
     → ((x : A) (bytes : List ℕ) → IsForm x bytes → 0 < length bytes)
     → ((e : FormError) (bytes : List ℕ) → Rejects e bytes → 0 < length bytes)
-    → (before after : ℕ) (e : FormError) (old new : Option (List ℕ)) → before < after → new ≡ old
+    → {before after : ℕ} (e : FormError) {old new : Option (List ℕ)} → before < after → new ≡ old
     → ReadStops IsForm Rejects before after e old new
-nothing_stops IsForm Rejects some rejects_some before after e None new failed kept = inr tt
-nothing_stops IsForm Rejects some rejects_some before after e (Some input) new failed kept = inr (record {
+nothing_stops IsForm Rejects some rejects_some e {old = None} failed kept = inr tt
+nothing_stops IsForm Rejects some rejects_some e {old = Some input} {new = new} failed kept = inr (record {
   consumed = [];
   consumes = sym kept ∙ Consumes-none new;
   cause = inr (inl (

@@ -20,7 +20,7 @@ longer part c left bytes more split cut =
 module _ {A : Type 0} (IsForm : A → List ℕ → Type 0) (Rejects : FormError → List ℕ → Type 0) (Same : A → A → Type 0)
     (unique : (x y : A) (a b r s : List ℕ) → IsForm x a → IsForm y b → a ++ r ≡ b ++ s → Same x y × (r ≡ s))
     (not_both : (x : A) (e : FormError) (a b r s : List ℕ) → IsForm x a → Rejects e b → a ++ r ≡ b ++ s → ⊥)
-    (before after : ℕ) (same : after ≡ before) (old new : Option (List ℕ)) where
+    {before after : ℕ} (same : after ≡ before) {old : Option (List ℕ)} (new : Option (List ℕ)) where
   -- the clause `found`
   pub form_found : (r : Result A FormError) → IfOk r (λ x. ConsumesSome (IsForm x) old new)
       → IfErr r (λ e. ReadStops IsForm Rejects before after e old new) → (x : A) (bytes more : List ℕ) → IsForm x bytes
@@ -87,23 +87,23 @@ module _ {A : Type 0} (IsForm : A → List ℕ → Type 0) (Rejects : FormError 
       ]
 
 -- the clause `err` of `from_bytes`, from that of `read`
-pub whole_error : {A : Type 0} (IsForm : A → List ℕ → Type 0) (Rejects : FormError → List ℕ → Type 0) (before after : ℕ) → after ≡ before
-    → (e : FormError) (input : List ℕ) (new : Option (List ℕ)) → ReadStops IsForm Rejects before after e (Some input) new
+pub whole_error : {A : Type 0} (IsForm : A → List ℕ → Type 0) (Rejects : FormError → List ℕ → Type 0) {before after : ℕ} → after ≡ before
+    → {e : FormError} (input : List ℕ) (new : Option (List ℕ)) → ReadStops IsForm Rejects before after e (Some input) new
     → IsWholeError IsForm Rejects e input
-whole_error IsForm Rejects before after same e input new (inl memory) = inl memory
-whole_error IsForm Rejects before after same e input new (inr s) = elim s.cause [
+whole_error IsForm Rejects same input new (inl memory) = inl memory
+whole_error IsForm Rejects same input new (inr s) = elim s.cause [
   | inl rejects ↦ let (left, _, cut) = Consumes-known input s.consumed new s.consumes in inr (inl (s.consumed, left, rejects, cut))
   | inr (inl (failed, _)) ↦ absurd (omega (arith, failed, same))
   | inr (inr ends) ↦ inr (inr (inl ends))
 ]
 
 -- the clause `back` of `through`, if the value was written: W is how the writer may fail
-pub read_back : {A E : Type 0} (IsMemory Own Listed W : E → Type 0) (Found : A → Type 0) (before after : ℕ) (r : Result A E)
+pub read_back : {A E : Type 0} (IsMemory Own Listed W : E → Type 0) (Found : A → Type 0) {before after : ℕ} (r : Result A E)
     → CountsReaderFailures Own Listed before after r → (after ≡ before → MatchResult r Found IsMemory)
     → MatchResult r Found (λ e. IsMemory e ⊎ W e ⊎ ((before < after) × Own e))
-read_back IsMemory Own Listed W Found before after (Ok y) faults found = found faults
-read_back IsMemory Own Listed W Found before after (Err e) (inl failed) found = inr (inr failed)
-read_back IsMemory Own Listed W Found before after (Err e) (inr (same, _)) found = inl (found same)
+read_back IsMemory Own Listed W Found (Ok y) faults found = found faults
+read_back IsMemory Own Listed W Found (Err e) (inl failed) found = inr (inr failed)
+read_back IsMemory Own Listed W Found (Err e) (inr (same, _)) found = inl (found same)
 
 -- what holds of an error holds of the error that a `?` returns, which equals it
 pub if_passed : {T E : Type 0} (P : E → Type 0) (r : Result T E) (e : E) → IsErrAnd r (λ x. x ≡ e) → P e

@@ -1,6 +1,8 @@
+-- The loop keeps that the values so far are the front of the bytes; any other list of values with these bytes is the same so
+-- far, has one more or is longer than the bytes (`parts_compared`).
 use Rattle.std.proofs.Common.{◌≡◌, ◌++◌, ℕ, List, [], ◌∷◌, length, length-append, append_assoc, append-nil, inl, inr}
 use Rattle.std.proofs.Common.{sym, ap, ◌∙◌, arith, rules}
-use Rattle.multihash.proofs.OutcomeLemmas.{passed_on}
+use Rattle.multihash.proofs.OutcomeLemmas.{passed_error}
 use Rattle.multihash.proofs.StreamLemmas.{parts_push}
 use Rattle.form.proofs.CountedLemmas.{parts_compared}
 use Rattle.form.proofs.WholeLemmas.{empty_is, not_empty}
@@ -12,7 +14,7 @@ returns-in_err-item-clause-found g c xs all =
     elim (parts_compared g.T.Form.is_form g.T.Form.same g.met.T.Form.unique g.met.T.Form.some c.loop-rest.items.items xs front
     c.loop-rest.rest.now c.args.bytes.now [] parts all (sym cut ∙ sym (append-nil c.args.bytes.now))) [
       | inl same ↦ absurd (not_empty c.loop-rest.rest.now _ c.is_empty.ensures c.loop-rest-test.true same.1)
-      | inr (inl (_, next)) ↦ passed_on c.from_residual.result _ _ _ c.from_residual.ensures.1
+      | inr (inl (_, next)) ↦ rw (passed_error c.from_residual.result _ c.from_residual.ensures.1)
           (c.in_err-item.ensures.found next.0 next.1 next.2 next.3 next.4)
       | inr (inr over) ↦ absurd (omega (arith, over.1))
     ]
@@ -47,5 +49,5 @@ returns-clause-found g c xs all =
 pub returns-in_err-item-clause-err : goal.returns-in_err-item-clause-err
 returns-in_err-item-clause-err g c =
     let (front, parts, cut) = c.loop-rest.invariant in
-    passed_on c.from_residual.result _ _ _ c.from_residual.ensures.1
+    rw (passed_error c.from_residual.result _ c.from_residual.ensures.1)
     (c.loop-rest.items.items, front, c.loop-rest.rest.now, parts, cut, c.in_err-item.ensures.err)

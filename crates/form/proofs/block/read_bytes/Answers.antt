@@ -1,7 +1,7 @@
 use Rattle.std.proofs.Common.{inr, refl, rules}
 use Rattle.multihash.specs.Refusal.{of_io}
 use Rattle.multihash.proofs.CallingLemmas.{exact_fails, exact_after}
-use Rattle.multihash.proofs.OutcomeLemmas.{passed_on}
+use Rattle.multihash.proofs.OutcomeLemmas.{passed_error}
 use Rattle.form.specs.declared.error.FormError.TheVariants.{Failed}
 use Rattle.form.proofs.block.read_bytes.Goals as goal
 
@@ -17,7 +17,7 @@ returns-in_err-read_exact-clause-err g c =
     let mid = g.R.Read.rest c.loop-chunk.r in
     let new = g.R.Read.rest c.read_exact.new.self in
     let fails = exact_fails _ start middle after mid new e so_far.unfailed met.faults met.eof met.err in
-    passed_on c.from_residual-in_err-read_exact.result (Failed (of_io e)) _ _ c.from_residual-in_err-read_exact.ensures.1
+    rw (passed_error c.from_residual-in_err-read_exact.result (Failed (of_io e)) c.from_residual-in_err-read_exact.ensures.1)
     (inr (
       of_io e,
       refl,

@@ -1,3 +1,5 @@
+-- The loop keeps that the bytes appended so far and those of the items that are left are the bytes of all items, so a failure at
+-- any item has appended a strict prefix of them.
 use Rattle.std.proofs.Common.{◌+◌, ℕ, List, [], ◌∷◌, ◌++◌, drop, refl, sym, ap, ◌∙◌, append_assoc, append-nil}
 use Rattle.std.proofs.lemmas.List.{drop_more, drop_all}
 use Rattle.multihash.specs.Streams.{AreParts}

@@ -1,5 +1,5 @@
 use Rattle.std.proofs.Common.{Some, ap, inl, inr, refl}
-use Rattle.multihash.proofs.OutcomeLemmas.{passed_on}
+use Rattle.multihash.proofs.OutcomeLemmas.{passed_error}
 use Rattle.form.proofs.WholeLemmas.{known_is, if_passed}
 use Rattle.form.proofs.whole.read_front.Goals as goal
 
@@ -27,4 +27,4 @@ returns-clause-rejected g c e front more rejects cut = c.in_ok-value.ensures.rej
 
 pub returns-in_err-value-clause-err : goal.returns-in_err-value-clause-err
 returns-in_err-value-clause-err g c =
-    passed_on c.from_residual.result _ _ _ c.from_residual.ensures.1 (_, c.in_err-value.ensures.err)
+    rw (passed_error c.from_residual.result _ c.from_residual.ensures.1) (_, c.in_err-value.ensures.err)

@@ -1,3 +1,5 @@
+-- The buffer has room for one encoding of the pair, and an encoding has one length (`parts_long`), so each part has room where
+-- it is put; the parts make the encoding.
 use Rattle.std.proofs.Common.{[], ◌∷◌, ℕ, List, ◌++◌, refl, arith}
 use Rattle.std.proofs.lemmas.Grind.{common_steps}
 use Rattle.multihash.specs.Pair.{Pair}

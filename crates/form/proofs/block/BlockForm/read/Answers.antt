@@ -1,6 +1,8 @@
+-- A block is a length and that many bytes: reading stops in the length, at one above MAX or in the bytes, and `BlockLemmas` has
+-- what each shows of the whole.
 use Rattle.std.proofs.Common.{◌≡◌, ◌≤◌, ℕ, List, length, inl, inr, refl, arith}
 use Rattle.multihash.specs.Varint.{IsVarint}
-use Rattle.multihash.proofs.OutcomeLemmas.{passed_on}
+use Rattle.multihash.proofs.OutcomeLemmas.{passed_error}
 use Rattle.form.specs.declared.error.FormError.TheVariants.{Failed, TooLong}
 use Rattle.form.proofs.BlockLemmas.{length_stops, too_long, bytes_stop}
 use Rattle.form.proofs.BothLemmas.{number_is, then_read}
@@ -15,8 +17,8 @@ returns-in_err-len-clause-err g c =
     let after = g.R.Read.failures c.read.new.r in
     let old = g.R.Read.rest c.args.r.now in
     let new = g.R.Read.rest c.read.new.r in
-    passed_on c.from_residual.result (Failed e) _ _ c.from_residual.ensures.1
-    (length_stops g.row.MAX before after (Failed e) old new (varint_stops before after e old new met.faults met.err))
+    rw (passed_error c.from_residual.result (Failed e) c.from_residual.ensures.1)
+    (length_stops g.row.MAX before after (Failed e) old new (varint_stops met.faults met.err))
 
 pub returns-then-len-clause-err : goal.returns-then-len-clause-err
 returns-then-len-clause-err g c =
@@ -29,7 +31,7 @@ returns-then-len-clause-err g c =
 
 pub returns-in_err-bytes-clause-faults : goal.returns-in_err-bytes-clause-faults
 returns-in_err-bytes-clause-faults g c =
-    passed_on c.from_residual-in_err-bytes.result c.in_err-bytes.field-0.0 _ _ c.from_residual-in_err-bytes.ensures.1
+    rw (passed_error c.from_residual-in_err-bytes.result c.in_err-bytes.field-0.0 c.from_residual-in_err-bytes.ensures.1)
     (elim (rw c.in_ok-len.ensures.faults at c.in_err-bytes.ensures.faults) [
       | inl own ↦ inl own
       | inr (same, (cause, is, listed)) ↦ inr (same, inl (cause, is, inr listed))
@@ -43,7 +45,7 @@ returns-in_err-bytes-clause-err g c =
     let before = g.R.Read.failures c.args.r.now in
     let old = g.R.Read.rest c.args.r.now in
     let within : c.in_ok-len.len ≤ g.row.MAX = omega (arith, c.if-len.false) in
-    passed_on c.from_residual-in_err-bytes.result e _ _ c.from_residual-in_err-bytes.ensures.1
+    rw (passed_error c.from_residual-in_err-bytes.result e c.from_residual-in_err-bytes.ensures.1)
     (bytes_stop g.row.MAX before (g.R.Read.failures left) e old (g.R.Read.rest left)
     c.in_ok-len.len _ _ within number.faults number.ok c.in_err-bytes.ensures.err)
 
@@ -53,4 +55,4 @@ returns-clause-ok g c =
     let read = c.in_ok-bytes.ensures.ok in
     let old = g.R.Read.rest c.args.r.now in
     let number = number_is c.in_ok-len.len (length bytes) old _ read.0 c.in_ok-len.ensures.ok in
-    then_read (IsVarint (length bytes)) (λ (rest : List ℕ). rest ≡ bytes) old _ _ number (bytes, refl, read.1)
+    then_read (IsVarint (length bytes)) (λ (rest : List ℕ). rest ≡ bytes) _ number (bytes, refl, read.1)

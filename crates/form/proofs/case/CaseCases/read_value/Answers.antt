@@ -1,5 +1,5 @@
 use Rattle.std.proofs.Common.{◌≡◌, arith}
-use Rattle.multihash.proofs.OutcomeLemmas.{passed_on}
+use Rattle.multihash.proofs.OutcomeLemmas.{passed_error}
 use Rattle.form.proofs.CaseLemmas.{this_stops, other_stops}
 use Rattle.form.proofs.case.CaseCases.read_value.Goals as goal
 
@@ -10,7 +10,7 @@ returns-in_err-value-clause-err g c =
     let r = c.args.r.now in
     let e = c.in_err-value.field-0.0 in
     let is : c.args.tag.value ≡ g.row.M = omega (arith, c.if-tag.true) in
-    passed_on c.from_residual.result e _ _ c.from_residual.ensures.1
+    rw (passed_error c.from_residual.result e c.from_residual.ensures.1)
     (this_stops c.args.tag.value C.tag_of A.is_form C.is_value (λ y. y.other) A.rejects C.rejects
     (g.R.Read.failures r) (g.R.Read.failures c.read.new.r) e (g.R.Read.rest r) (g.R.Read.rest c.read.new.r)
     is c.in_err-value.ensures.err)
@@ -21,7 +21,7 @@ returns-in_err-case-clause-err g c =
     let A = g.A.Form in
     let r = c.args.r.now in
     let e = c.in_err-case.field-0.0 in
-    passed_on c.from_residual-in_err-case.result e _ _ c.from_residual-in_err-case.ensures.1
+    rw (passed_error c.from_residual-in_err-case.result e c.from_residual-in_err-case.ensures.1)
     (other_stops c.args.tag.value C.tag_of A.is_form C.is_value (λ y. y.other) A.rejects C.rejects
     (g.R.Read.failures r) (g.R.Read.failures c.read_value.new.r) e (g.R.Read.rest r) (g.R.Read.rest c.read_value.new.r)
     c.if-tag.false c.in_err-case.ensures.err)

@@ -10,7 +10,7 @@ returns-in_err-write-clause-err g c =
     let case = c.args.self.now.case in
     let stops = rw c.tag.ensures at c.in_err-write.ensures.err in
     OnErr-always c.from_residual.result
-    (then_stops_first g.W.Write.appended (IsVarint (C.tag_of case)) (C.is_value case) _ _ stops
+    (then_stops_first g.W.Write.appended (IsVarint (C.tag_of case)) (C.is_value case) stops
     (g.met.C.Cases.exists case))
 
 pub returns-clause-ok : goal.returns-clause-ok
@@ -19,8 +19,7 @@ returns-clause-ok g c =
     let case = c.args.self.now.case in
     let tag = rw c.tag.ensures at c.in_ok-write.ensures.ok in
     on_ok_weaker c.write_value.result
-    (then_written g.W.Write.appended g.met.W.Write.appends_concatenated (IsVarint (C.tag_of case)) (C.is_value case)
-    c.args.w.now _ _ tag)
+    (then_written g.W.Write.appended g.met.W.Write.appends_concatenated (IsVarint (C.tag_of case)) (C.is_value case) tag)
     c.write_value.ensures.ok
 
 pub returns-clause-err : goal.returns-clause-err
@@ -29,6 +28,5 @@ returns-clause-err g c =
     let case = c.args.self.now.case in
     let tag = rw c.tag.ensures at c.in_ok-write.ensures.ok in
     on_err_weaker c.write_value.result
-    (then_stops_second g.W.Write.appended g.met.W.Write.appends_concatenated (IsVarint (C.tag_of case)) (C.is_value case)
-    c.args.w.now _ _ tag)
+    (then_stops_second g.W.Write.appended g.met.W.Write.appends_concatenated (IsVarint (C.tag_of case)) (C.is_value case) tag)
     c.write_value.ensures.err

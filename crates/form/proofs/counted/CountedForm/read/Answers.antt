@@ -1,7 +1,9 @@
+-- A counted list is a number and that many items: reading stops in the number, at one above MAX or in the items, and
+-- `StopLemmas` has what each shows of the whole.
 use Rattle.std.proofs.Common.{◌≤◌, ℕ, List, length, inl, inr, refl, sym, subst, ◌∙◌, arith}
 use Rattle.multihash.specs.Varint.{IsVarint}
 use Rattle.multihash.specs.Streams.{AreParts}
-use Rattle.multihash.proofs.OutcomeLemmas.{passed_on}
+use Rattle.multihash.proofs.OutcomeLemmas.{passed_error}
 use Rattle.form.specs.Form.{Then}
 use Rattle.form.specs.Rejecting.{RejectsNumber, RejectsItem, RejectsCounted, AreItems}
 use Rattle.form.specs.declared.error.FormError.{FormError}
@@ -29,9 +31,9 @@ only_item IsPart Rejects MAX n within e bytes (inr item) = item.1
 pub returns-in_err-count-clause-err : goal.returns-in_err-count-clause-err
 returns-in_err-count-clause-err g c =
     let met = c.in_err-count.ensures in
-    passed_on c.from_residual.result _ _ _ c.from_residual.ensures.1
+    rw (passed_error c.from_residual.result _ c.from_residual.ensures.1)
     (first_stops IsVarint RejectsNumber (RejectsCounted g.T.Form.is_form g.T.Form.rejects g.row.MAX) (AreItems g.T.Form.is_form) _
-    (split g.T.Form.is_form (λ x. x.items.items)) _ _ _ _ _ (varint_stops _ _ _ _ _ met.faults met.err))
+    (split g.T.Form.is_form (λ x. x.items.items)) _ _ _ _ _ (varint_stops met.faults met.err))
 
 pub returns-then-count-clause-err : goal.returns-then-count-clause-err
 returns-then-count-clause-err g c =
@@ -41,7 +43,7 @@ returns-then-count-clause-err g c =
 
 pub returns-in_err-items-clause-faults : goal.returns-in_err-items-clause-faults
 returns-in_err-items-clause-faults g c =
-    passed_on c.from_residual-in_err-items.result _ _ _ c.from_residual-in_err-items.ensures.1
+    rw (passed_error c.from_residual-in_err-items.result _ c.from_residual-in_err-items.ensures.1)
     (elim (rw c.in_ok-count.ensures.faults at c.in_err-items.ensures.faults) [
       | inl own ↦ inl own
       | inr (same, inl refused) ↦ inr (same, inl refused)
@@ -50,7 +52,7 @@ returns-in_err-items-clause-faults g c =
 
 pub returns-in_err-items-clause-err : goal.returns-in_err-items-clause-err
 returns-in_err-items-clause-err g c =
-    passed_on c.from_residual-in_err-items.result _ _ _ c.from_residual-in_err-items.ensures.1
+    rw (passed_error c.from_residual-in_err-items.result _ c.from_residual-in_err-items.ensures.1)
     (from_stops (RejectsCounted g.T.Form.is_form g.T.Form.rejects g.row.MAX) (AreItems g.T.Form.is_form) _
     (split g.T.Form.is_form (λ x. x.items.items)) c.in_ok-count.count _ _ _ _ _ _ _ c.in_ok-count.ensures.faults c.in_ok-count.ensures.ok
     (stops_as _ _ _ _ (λ xs bytes are. (xs, are)) (λ e bytes item. inr (omega (arith, c.if-count.false), item))
@@ -61,6 +63,6 @@ pub returns-clause-ok : goal.returns-clause-ok
 returns-clause-ok g c =
     let n = c.in_ok-count.ensures.ok in
     let list = c.in_ok-items.items in
-    then_read (IsVarint (length list.items)) (AreParts g.T.Form.is_form list.items) _ _ _
+    then_read (IsVarint (length list.items)) (AreParts g.T.Form.is_form list.items) _
     (n.0, subst (λ (k : ℕ). IsVarint k n.0) (sym c.in_ok-items.ensures.count ∙ list.ok.0) n.1, n.2)
     c.in_ok-items.ensures.ok

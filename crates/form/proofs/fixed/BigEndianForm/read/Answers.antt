@@ -1,9 +1,10 @@
+-- Bytes of a fixed number are decided only when all are there: `read_exact` returns them or shows that fewer were left.
 use Rattle.std.proofs.Common.{◌≡◌, ◌<◌, ◌≤◌, ◌-◌, ◌+◌, ◌^◌, length, inr, refl, sym, ap, ◌∙◌, arith, rules}
 use Rattle.std.specs.Prelude.{take, drop}
 use Rattle.std.specs.Int.{bytes_high_first}
 use Rattle.std.proofs.lemmas.List.{length-drop, length-take-le}
 use Rattle.multihash.specs.Refusal.{of_io}
-use Rattle.multihash.proofs.OutcomeLemmas.{passed_on}
+use Rattle.multihash.proofs.OutcomeLemmas.{passed_error}
 use Rattle.form.specs.declared.fixed.BigEndian.{BigEndian}
 use Rattle.form.specs.declared.error.FormError.TheVariants.{Failed}
 use Rattle.form.proofs.FormLemmas.{sized_stops, no_value_stops}
@@ -28,7 +29,7 @@ returns-in_err-read_exact-clause-err g c =
     let fits : g.row.N ≤ 8 = omega (arith, c.if-this-gt8.false) in
     let part : 8 - at ≤ length (drop at zeros) = omega (arith, length-drop at zeros) in
     let long : length (take (8 - at) (drop at zeros)) ≡ g.row.N = omega (arith, fits, length-take-le (8 - at) (drop at zeros) part) in
-    passed_on c.from_residual.result (Failed (of_io e)) _ _ c.from_residual.ensures.1
+    rw (passed_error c.from_residual.result (Failed (of_io e)) c.from_residual.ensures.1)
     (sized_stops (λ (x : BigEndian g.row.N) bytes. bytes ≡ bytes_high_first g.row.N x.value) (length (take (8 - at) (drop at zeros)))
     (g.R.Read.failures r) (g.R.Read.failures left) e (g.R.Read.rest r) (g.R.Read.rest left)
     (λ x bytes is. ap length is ∙ high_length g.row.N x.value ∙ sym long) met.faults met.eof met.err)

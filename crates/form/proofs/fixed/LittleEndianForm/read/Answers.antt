@@ -1,9 +1,10 @@
+-- Bytes of a fixed number are decided only when all are there: `read_exact` returns them or shows that fewer were left.
 use Rattle.std.proofs.Common.{◌≡◌, ◌<◌, ◌≤◌, ◌^◌, length, inr, refl, sym, ap, ◌∙◌, arith, rules}
 use Rattle.std.specs.Prelude.{take}
 use Rattle.std.specs.Int.{bytes_low_first}
 use Rattle.std.proofs.lemmas.List.{length-take-le}
 use Rattle.multihash.specs.Refusal.{of_io}
-use Rattle.multihash.proofs.OutcomeLemmas.{passed_on}
+use Rattle.multihash.proofs.OutcomeLemmas.{passed_error}
 use Rattle.form.specs.declared.fixed.LittleEndian.{LittleEndian}
 use Rattle.form.specs.declared.error.FormError.TheVariants.{Failed}
 use Rattle.form.proofs.FormLemmas.{sized_stops, no_value_stops}
@@ -26,7 +27,7 @@ returns-in_err-read_exact-clause-err g c =
     let left = c.read_exact.new.self in
     let fits : g.row.N ≤ 8 = omega (arith, c.if-this-gt8.false) in
     let long : length (take g.row.N zeros) ≡ g.row.N = length-take-le g.row.N zeros fits in
-    passed_on c.from_residual.result (Failed (of_io e)) _ _ c.from_residual.ensures.1
+    rw (passed_error c.from_residual.result (Failed (of_io e)) c.from_residual.ensures.1)
     (sized_stops (λ (x : LittleEndian g.row.N) bytes. bytes ≡ bytes_low_first 0 g.row.N x.value) (length (take g.row.N zeros))
     (g.R.Read.failures r) (g.R.Read.failures left) e (g.R.Read.rest r) (g.R.Read.rest left)
     (λ x bytes is. ap length is ∙ low_length 0 g.row.N x.value ∙ sym long) met.faults met.eof met.err)

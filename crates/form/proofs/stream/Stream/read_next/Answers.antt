@@ -1,6 +1,7 @@
+-- A look for the end consumes nothing, and no value is empty, so an input that is not at its end is read as `read` reads it.
 use Rattle.std.proofs.Common.{ap, inl, inr, length, length-append, sym, subst, ◌∙◌, arith}
 use Rattle.std.specs.Io.KnownBytes.{IsAtEnd}
-use Rattle.multihash.proofs.OutcomeLemmas.{passed_on}
+use Rattle.multihash.proofs.OutcomeLemmas.{passed_error}
 use Rattle.form.proofs.StopLemmas.{nothing_stops, stops_later}
 use Rattle.form.proofs.WholeLemmas.{if_passed}
 use Rattle.form.proofs.stream.Stream.read_next.Goals as goal
@@ -29,14 +30,14 @@ returns-clause-truncated g c x bytes part is strict some at same =
 pub returns-in_err-is_at_end-clause-err : goal.returns-in_err-is_at_end-clause-err
 returns-in_err-is_at_end-clause-err g c =
     let met = c.in_err-is_at_end.ensures in
-    passed_on c.from_residual.result _ _ _ c.from_residual.ensures.1
+    rw (passed_error c.from_residual.result _ c.from_residual.ensures.1)
     (elim met.faults [
-      | inl own ↦ nothing_stops g.T.Form.is_form g.T.Form.rejects g.met.T.Form.some g.met.T.Form.rejects_some _ _ _ _ _ own.0 met.kept
+      | inl own ↦ nothing_stops g.T.Form.is_form g.T.Form.rejects g.met.T.Form.some g.met.T.Form.rejects_some _ own.0 met.kept
       | inr other ↦ absurd other.1
     ])
 
 pub returns-in_err-value-clause-err : goal.returns-in_err-value-clause-err
 returns-in_err-value-clause-err g c =
     let met = c.in_ok-is_at_end.ensures in
-    passed_on c.from_residual-in_err-value.result _ _ _ c.from_residual-in_err-value.ensures.1
-    (stops_later g.T.Form.is_form g.T.Form.rejects _ _ _ _ _ _ _ met.faults met.kept c.in_err-value.ensures.err)
+    rw (passed_error c.from_residual-in_err-value.result _ c.from_residual-in_err-value.ensures.1)
+    (stops_later g.T.Form.is_form g.T.Form.rejects _ _ met.faults met.kept c.in_err-value.ensures.err)

@@ -1,6 +1,8 @@
+-- The loop keeps that the values so far were consumed, one after another; if the bytes of other values come first, these are the
+-- same, or there is one more that comes next (`parts_compared`).
 use Rattle.std.proofs.Common.{◌≡◌, ◌<◌, ◌⊎◌, ◌++◌, ℕ, List, [], ◌∷◌, inl, inr, length, length-append, append_assoc}
 use Rattle.std.proofs.Common.{append-nil, refl, sym, ap, subst, ◌∙◌, arith, rules, Option, Some}
-use Rattle.multihash.proofs.OutcomeLemmas.{passed_on, if_given}
+use Rattle.multihash.proofs.OutcomeLemmas.{passed_error, if_given}
 use Rattle.std.specs.Io.KnownBytes.{IsAtEnd}
 use Rattle.multihash.specs.Reading.{Consumes}
 use Rattle.multihash.specs.Streams.{AreParts}
@@ -21,16 +23,16 @@ loop-init g c = record {
 pub returns-in_err-value-clause-err : goal.returns-in_err-value-clause-err
 returns-in_err-value-clause-err g c =
     let before = c.loop.invariant in
-    passed_on c.from_residual.result _ _ _ c.from_residual.ensures.1 (record {
+    rw (passed_error c.from_residual.result _ c.from_residual.ensures.1) (record {
       following = _;
       reads = before.reads;
       fewer = omega (arith, before.count, c.loop-test.true);
-      failed = stops_later g.T.Form.is_form g.T.Form.rejects _ _ _ _ _ _ _ before.unfailed refl c.in_err-value.ensures.err;
+      failed = stops_later g.T.Form.is_form g.T.Form.rejects _ _ before.unfailed refl c.in_err-value.ensures.err;
     })
 
 pub returns-in_err-value-clause-faults : goal.returns-in_err-value-clause-faults
 returns-in_err-value-clause-faults g c =
-    passed_on c.from_residual.result _ _ _ c.from_residual.ensures.1
+    rw (passed_error c.from_residual.result _ c.from_residual.ensures.1)
     (elim (rw c.loop.invariant.unfailed at c.in_err-value.ensures.faults) [
       | inl own ↦ inl own
       | inr listed ↦ inr (listed.0, inl listed.1)
@@ -128,7 +130,7 @@ pub returns-in_err-value-clause-found : goal.returns-in_err-value-clause-found
 returns-in_err-value-clause-found g c xs bytes more are at number same =
     let before = c.loop.invariant in
     let unfailed = same ∙ sym before.unfailed in
-    passed_on c.from_residual.result _ _ _ c.from_residual.ensures.1
+    rw (passed_error c.from_residual.result _ c.from_residual.ensures.1)
     (elim (fewer_found g.T.Form.is_form g.T.Form.same g.met.T.Form.unique g.met.T.Form.some _ _ _ _ before.reads xs bytes more are at
     c.args.n number (omega (arith, before.count, c.loop-test.true))) [
       | inl (_, ended, none) ↦ absurd (c.in_err-value.ensures.end.always unfailed (ended ∙ ap Some none))

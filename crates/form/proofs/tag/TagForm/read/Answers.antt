@@ -1,6 +1,6 @@
 use Rattle.std.proofs.Common.{◌≡◌, ℕ, List, [], refl, sym, append-nil}
 use Rattle.multihash.specs.Varint.{IsVarint}
-use Rattle.multihash.proofs.OutcomeLemmas.{passed_on}
+use Rattle.multihash.proofs.OutcomeLemmas.{passed_error}
 use Rattle.form.specs.Form.{Then}
 use Rattle.form.specs.Rejecting.{RejectsNumber, RejectsOtherTag}
 use Rattle.form.proofs.FormLemmas.{varint_stops}
@@ -17,9 +17,9 @@ split N x bytes is = (N, 0, record { first = bytes; second = []; is_first = is; 
 pub returns-in_err-number-clause-err : goal.returns-in_err-number-clause-err
 returns-in_err-number-clause-err g c =
     let met = c.in_err-number.ensures in
-    passed_on c.from_residual.result _ _ _ c.from_residual.ensures.1
+    rw (passed_error c.from_residual.result _ c.from_residual.ensures.1)
     (first_stops IsVarint RejectsNumber (RejectsOtherTag g.row.N) Nothing (λ _. IsVarint g.row.N) (split g.row.N) _ _ _ _ _
-    (varint_stops _ _ _ _ _ met.faults met.err))
+    (varint_stops met.faults met.err))
 
 pub returns-then-number-clause-err : goal.returns-then-number-clause-err
 returns-then-number-clause-err g c =
