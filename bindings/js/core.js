@@ -45,7 +45,8 @@ function put(data, name) {
 
 /** The low and the high half of a number that `checkedWide` accepts. */
 const lowOf = (number) => (typeof number === 'number' ? number : Number(number & 0xffffffffn)) | 0;
-const highOf = (number) => (typeof number === 'number' ? number / 0x100000000 : Number(number >> 32n)) | 0;
+const highOf = (number) => (number <= 0xffffffff ? 0 : // as mostly, without a division
+  typeof number === 'number' ? number / 0x100000000 : Number(number >> 32n)) | 0;
 
 /** A length in the library, in which the largest stands for all above it: a call rejects it too. */
 export const lengthOf = (number) => Math.min(Number(number), 0xffffffff);
