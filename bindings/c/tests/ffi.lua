@@ -6,6 +6,7 @@ ffi.cdef(assert(io.open(header)):read('*a'))
 local C = ffi.load(library)
 local result, text, out = ffi.new('uint64_t[5]'), ffi.new('char[128]'), ffi.new('uint8_t[300]')
 local WORDS = {[0] = 'pair', 'insufficient', 'overflow', 'not_minimal', 'invalid_size', 'invalid_code', 'unexpected_eof'}
+local NO_ROOM = 7
 
 local function same(found, wanted, line)
   if found ~= wanted then error(('%s, and not %s: %s'):format(found, wanted, line), 2) end
@@ -32,7 +33,7 @@ local function check_vector(line, limit, input, read, taken, whole, scale, scale
   if limit < 255 then return end
   same(shown(C.multihash_ffi_read(input, #input, result), input), read, line)
   same(shown(C.multihash_ffi_from_bytes(input, #input, result), input), whole, line)
-  same(shown(C.multihash_ffi_from_prefix(input, #input, #input, result), input), whole, line)
+  same(shown(C.multihash_ffi_from_prefix(input, math.min(#input, 18), #input, result), input), whole, line)
   same(shown(C.multihash_ffi_scale_decode(input, #input, result), input), scale, line)
   if scale_taken ~= '-' then same(digits(result[4]), scale_taken, line) end
   local item = ffi.new('struct { uint64_t code; size_t digest_offset, digest_length; }[1]')
@@ -48,6 +49,7 @@ local function check_encoding(line, encode, code, digest, wanted)
   local status = encode(code, digest, #digest, out, 300, result)
   local found = status == 0 and hex(ffi.string(out, result[1])) or WORDS[status]
   same(found, status == 0 and wanted or wanted:match('%S+'), line)
+  if status == 0 then same(encode(code, digest, #digest, out, result[1] - 1, result), NO_ROOM, line) end
 end
 
 local function check_value(line, limit, code, digest, plain, scale)
@@ -85,6 +87,7 @@ for status = 0, 8 do same(C.multihash_ffi_is_incomplete(status), (status == 1 or
 for value in pairs {[0ULL] = 1, [300ULL] = 2, [2 ^ 63 - 1024] = 9} do
   same(C.multihash_ffi_write_varint(value, out, 9, result), 0, value)
   local length = result[1]
+  same(C.multihash_ffi_write_varint(value, out, length - 1, result), NO_ROOM, value)
   same(C.multihash_ffi_read_varint(out, length, result), 0, value)
   same(digits(result[0]) .. digits(result[1]), digits(value + 0ULL) .. digits(length), value)
 end
@@ -93,4 +96,8 @@ same(C.multihash_ffi_encode(18, out, 300, out, 0, result), 4)
 same(ffi.string(C.multihash_ffi_status_text(4)), 'the digest or the input is too long')
 C.multihash_ffi_encode_message(text, 128, 4, result, 18, 0)
 same(ffi.string(text), 'the digest has 300 bytes, and the limit is 255')
+C.multihash_ffi_encode_message(text, 128, C.multihash_ffi_encode(18, out, 3, out, 4, result), result, 18, 4)
+same(ffi.string(text), 'the buffer has 4 bytes, and 5 are needed')
+C.multihash_ffi_encode_message(text, 128, 5, result, number('9223372036854775808'), 0)
+same(ffi.string(text), 'the code 9223372036854775808 is 2^63 or more')
 same(C.multihash_ffi_name(1), nil)
