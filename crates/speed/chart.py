@@ -30,7 +30,11 @@ circle { fill: #0969da; fill-opacity: .55 } .more { fill: #bc4c00 }
 def shares(page: str, heading: str) -> list[tuple[str, float]]:
     """Returns the calls of the first table with shares below a heading, each with its share."""
     found = re.search(rf"^## {heading}\n(?:(?!## ).*\n)*?\|.*\| share \|\n\|[-:|]+\n((?:\|.*\n)+)", page, re.M)
-    rows = [[cell.strip(" `") for cell in row.strip("|").split("|")] for row in found[1].splitlines()] if found else []
+    rows = (
+        [[cell.strip() for cell in row.replace("`", "").strip("|").split("|")] for row in found[1].splitlines()]
+        if found
+        else []
+    )
     return [(row[0], float(row[-1])) for row in rows if row[-1]]
 
 
