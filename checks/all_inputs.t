@@ -4,5 +4,9 @@
 . "$(dirname "$0")/lib/tap.sh"
 require clang python:z3
 
-try "Clang -O2, wasm32" /usr/bin/python3 bindings/c/proof/check.py
+if [ -z "${ALL-}" ]; then
+  try "one build" /usr/bin/python3 bindings/c/proof/check.py
+else
+  needs="clang-15 clang-19" try "all builds" /usr/bin/python3 bindings/c/proof/check.py --all
+fi
 finish

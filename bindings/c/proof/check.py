@@ -23,7 +23,7 @@ OTHERS = [
     "clang --target=wasm32 -O0",
     "clang --target=wasm64 -O2",
     "clang --target=wasm32 -O2 -U__GNUC__",
-    "clang --target=wasm32 -O1 -fsanitize=undefined -fsanitize-undefined-trap-on-error",
+    "clang --target=wasm64 -O1 -fsanitize=undefined -fsanitize-undefined-trap-on-error",
     "clang-15 --target=wasm32 -O2",
     "clang-19 --target=wasm32 -O2",
 ]

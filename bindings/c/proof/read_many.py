@@ -23,7 +23,6 @@ ITEMS = [
     [130] * (i % 2 * (i + 1) // 2) + [5 + i] + ([size] if size < 128 else [size, 1]) + [0] * size
     for i, size in ((i, size) for i in range(17) for size in (3 + i, 32, 32, 130 + i))
 ]
-ITEM = 16
 
 
 class ReadMany(Check):
@@ -33,8 +32,15 @@ class ReadMany(Check):
         super().__init__(program, "read_many")
         self.word = program.word
         self.length, self.room = self.given["bytes_length"], self.given["out_length"]
+        self.item = self.header.sizes["multihash_item"]
+        self.most = 1 << (28 if self.word == 32 else 59)  # so many items do not fit in memory
         self.count, self.taken = z3.BitVec("count", self.word), z3.BitVec("taken", self.word)
-        behind = {"bytes": -self.taken, "bytes_length": self.taken, "out": -ITEM * self.count, "out_length": self.count}
+        behind = {
+            "bytes": -self.taken,
+            "bytes_length": self.taken,
+            "out": -self.item * self.count,
+            "out_length": self.count,
+        }
         symbols = {name: z3.BitVec(name, self.word) for name in behind}
         self.whole = {name: (symbols[name], symbols[name] + behind[name]) for name in behind}
         # at each loop: the states with what is written and consumed there, and with what is left
@@ -46,8 +52,7 @@ class ReadMany(Check):
         machine = super().machine()
         machine.lengths |= {"count", "taken"}
         machine.cuts = True
-        most = 1 << (self.word - 4 if self.word == 32 else 59)  # no more items fit in memory
-        machine.solver.add(z3.ULT(self.room, most))
+        machine.solver.add(z3.ULT(self.room, self.most))
         return machine
 
     def run(self) -> None:
@@ -82,7 +87,7 @@ class ReadMany(Check):
                 raise Refused("read_many branches on known items")
             if not ends[0].frames:
                 return
-            count = len({offset // ITEM for offset, _, _ in ends[0].writes})
+            count = len({offset // self.item for offset, _, _ in ends[0].writes})
             taken = sum(map(len, ITEMS[:count]))
             arrival = count, taken, room - count, len(data) - taken, ends[0]
             self.arrivals.setdefault(ends[0].frames[0].at, []).append(arrival)
@@ -103,7 +108,7 @@ class ReadMany(Check):
         """The places that depend linearly on what is written and consumed."""
         form = {}
         for place in set.intersection(*(set(values) for _, _, values in seen)):
-            for p, q in product((0, 1, -1, ITEM, -ITEM), (0, 1, -1)):
+            for p, q in product((0, 1, -1, self.item, -self.item), (0, 1, -1)):
                 rests = []
                 for count, taken, values in seen:
                     x = values[place]
@@ -143,9 +148,10 @@ class ReadMany(Check):
         for (kind, offset), x in values.items():
             if kind == "word":
                 machine.store(state, ("", offset), self.word // 8, x)
-        base, length, _, room = (whole for _, whole in self.whole.values())
-        machine.solver.add(is_valid(base, length), z3.UGE(length, self.taken), z3.UGE(room, self.count))
-        machine.solver.add(z3.ULT(room, 1 << self.word - 4), *self.ahead(loop, self.room, self.length))
+        base, length, out, room = (whole for _, whole in self.whole.values())
+        machine.solver.add(is_valid(base, length), z3.UGE(length, self.taken), is_valid(out, self.item * room))
+        machine.solver.add(z3.ULT(self.count, self.most), z3.ULT(room, self.most))
+        machine.solver.add(*self.ahead(loop, self.room, self.length))
         return state
 
     def turn(self, loop: int | None) -> None:
@@ -177,7 +183,7 @@ class ReadMany(Check):
         status = result.get("status", OK)
         wrong, room, length = outside(machine, end), self.room, self.length
         if written:
-            if written != set(range(ITEM)) or status != OK or not result:
+            if written != set(range(self.item)) or status != OK or not result:
                 machine.refuse("read_many writes another item")
             moved = simple(z3.Extract(self.word - 1, 0, widened(result["taken"])))
             item = {**result, "digest_offset": widened(taken) + result["digest_offset"]}
