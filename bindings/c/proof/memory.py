@@ -51,6 +51,11 @@ def is_valid(base: Any, size: Any) -> Any:
     return z3.Or(size == 0, z3.And(base != 0, z3.ULT(size, -base), most))
 
 
+def eight(cell: Any) -> Any:
+    """A byte of memory as a bit vector."""
+    return vector(cell, 8) if isinstance(cell, int) else z3.Extract(8 * cell[1] + 7, 8 * cell[1], cell[0])
+
+
 @dataclass
 class State:
     """What a path has come to. A byte of memory is an integer, or a number and which of its bytes. `wrong` has the
@@ -213,7 +218,7 @@ class Memory:
         if whole is not None and whole.size() == 8 * size:
             if all(not isinstance(c, int) and c[0] is whole and c[1] == i for i, c in enumerate(cells)):
                 return whole
-        parts = [vector(c, 8) if isinstance(c, int) else z3.Extract(8 * c[1] + 7, 8 * c[1], c[0]) for c in cells]
+        parts = [eight(cell) for cell in cells]
         return simple(z3.Concat(*reversed(parts)) if size > 1 else parts[0])
 
     def store(self, state: State, place: tuple[str, int], size: int, x: Value) -> None:
@@ -223,7 +228,7 @@ class Memory:
         for i in range(size):
             state.cells[place[0], place[1] + i] = x >> 8 * i & 255 if isinstance(x, int) else (x, i)
 
-    def pointers(self, state: State, count: Value, *places: tuple[str, int]) -> None:
+    def pointers(self, state: State, *places: tuple[str, int]) -> None:
         """C's functions need valid pointers, even for no bytes."""
         for region, _ in places:
             if region and not isinstance(self.regions[region].size, int):
@@ -232,7 +237,7 @@ class Memory:
     def memcpy(self, state: State, at: int) -> Value:
         count = state.frames[-1].stack[at + 2]
         to, source = self.place(state, at), self.place(state, at + 1)
-        self.pointers(state, count, to, source)
+        self.pointers(state, to, source)
         self.touch(state, source, count)
         self.touch(state, to, count, True)
         most = count
@@ -250,29 +255,17 @@ class Memory:
             least += more * (self.decide(state, z3.UGE(count, least + more)) is True)
         for i, cell in enumerate([self.byte(state, source[0], source[1] + i) for i in range(most)]):
             if i >= least:
-                old, new = (self.eight(c) for c in (self.byte(state, to[0], to[1] + i), cell))
+                old, new = (eight(c) for c in (self.byte(state, to[0], to[1] + i), cell))
                 x = simple(z3.If(z3.UGT(count, i), new, old))
                 cell = x if isinstance(x, int) else (x, 0)
             state.cells[to[0], to[1] + i] = cell
-        return state.frames[-1].stack[at]
-
-    def eight(self, cell: Any) -> Any:
-        return vector(cell, 8) if isinstance(cell, int) else z3.Extract(8 * cell[1] + 7, 8 * cell[1], cell[0])
-
-    def memset(self, state: State, at: int) -> Value:
-        _, x, count = state.frames[-1].stack[at:]
-        if not isinstance(count, int) or not isinstance(x, int):
-            raise Refused("memset of a length or a value that is not known")
-        to = self.place(state, at)
-        for i in range(count):
-            self.store(state, (to[0], to[1] + i), 1, x & 255)
         return state.frames[-1].stack[at]
 
     def memcmp(self, state: State, at: int) -> Value:
         """The order by the first byte that differs, for two whole arguments."""
         count = state.frames[-1].stack[at + 2]
         left, right = self.place(state, at), self.place(state, at + 1)
-        self.pointers(state, count, left, right)
+        self.pointers(state, left, right)
         if left[1] or right[1] or not left[0] or not right[0]:
             raise Refused("memcmp of a part")
         wholes = [vector(count, self.word) == vector(self.regions[r].size, self.word) for r in (left[0], right[0])]

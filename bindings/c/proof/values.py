@@ -96,10 +96,7 @@ BINARY: dict[str, Callable[[Any, Any], Any]] = {
     "shl": lambda a, b: a << amount(b),
     "shr_s": lambda a, b: a >> amount(b),
     "shr_u": lambda a, b: z3.LShR(a, amount(b)),
-    "rotl": lambda a, b: z3.RotateLeft(a, amount(b)),
-    "rotr": lambda a, b: z3.RotateRight(a, amount(b)),
     "div_u": z3.UDiv,
-    "rem_u": z3.URem,
     "eq": lambda a, b: a == b,
     "ne": lambda a, b: a != b,
     "lt_s": lambda a, b: a < b,
@@ -116,11 +113,7 @@ UNARY: dict[str, Callable[[Any], Any]] = {
     "clz": lambda a: zeros(a, list(reversed(range(a.size())))),
     "ctz": lambda a: zeros(a, list(range(a.size()))),
     "wrap_i64": lambda a: z3.Extract(31, 0, a),
-    "extend_i32_s": lambda a: z3.SignExt(32, a),
     "extend_i32_u": lambda a: z3.ZeroExt(32, a),
-    "extend8_s": lambda a: z3.SignExt(a.size() - 8, z3.Extract(7, 0, a)),
-    "extend16_s": lambda a: z3.SignExt(a.size() - 16, z3.Extract(15, 0, a)),
-    "extend32_s": lambda a: z3.SignExt(32, z3.Extract(31, 0, a)),
 }
 
 
@@ -140,7 +133,7 @@ known = cache(compute)
 
 def apply(name: str, width: int, *operands: Value) -> Value:
     """The result of an instruction, by its name, and the width of its operands."""
-    if name[:3] in ("div", "rem") and not (isinstance(operands[1], int) and operands[1]):
+    if name == "div_u" and not (isinstance(operands[1], int) and operands[1]):
         raise Refused("divides by a number that is not known")
     if all(isinstance(x, int) for x in operands):
         return known(name, width, *operands)
