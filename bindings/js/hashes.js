@@ -49,7 +49,7 @@ function byWeb(algorithm) {
   };
 }
 
-/** The content itself, or an object with its length if that is the length of no digest. */
+/** Returns the content as its own digest or, if it is too long for one, an object with its length, for the error. */
 function byNothing() {
   const content = new Uint8Array(DIGEST_MAX);
   let length = 0;

@@ -114,7 +114,8 @@ class ReadMany(Check):
                     x = values[place]
                     width = self.word if isinstance(x, int) else x.size()
                     rests.append(z3.simplify(vector(x, width) - p * count - q * taken))
-                if any("[" in name for name in names(rests[0])):  # of what the stack had at the start
+                # A name with a bracket is a byte of memory: here one that was on the stack before the call.
+                if any("[" in name for name in names(rests[0])):
                     break
                 if all(rest.eq(rests[0]) for rest in rests) and (rests[0].size() == self.word or p == q == 0):
                     form[place] = p, q, simple(rests[0])

@@ -26,6 +26,7 @@ use Rattle.form.specs.declared.error.FormError.TheVariants.{Failed, TooMany, Too
 
 module _ {E : Type 0} (P : E → List ℕ → Type 0) (kept : (e : E) (x more : List ℕ) → P e x → P e (x ++ more))
     (one : (e f : E) (x : List ℕ) → P e x → P f x → e ≡ f) where
+  -- no strict prefix of the shortest bytes that show an error shows one
   sooner : (e f : E) (a b : List ℕ) → P e a → IsShortest (P f) b → IsStrictPrefix a b → ⊥
   sooner e f a b holds y (more, some, cut) =
       let same : e ≡ f = one e f b (subst (P e) (sym cut) (kept e a more holds)) y.holds in
