@@ -16,6 +16,6 @@ archive_passes() {
 
 for what in c rust contracts vectors tables chart; do try "tools/generate $what" tools/generate "$what" --check; done
 try "the version that files state" tools/version.py --check
-needs="clang=$clang wasm-ld=$lld wasm2js=$binaryen" try "tools/generate js" tools/generate js --check
+needs="clang=$clang wasm-ld=$lld wasm-opt=$binaryen wasm2js" try "tools/generate js" tools/generate js --check
 needs="rt cc /lib64/ld-linux-x86-64.so.2" try "the tests for C, over the compiled proved functions" archive_passes
 finish
