@@ -2,7 +2,7 @@
 import { checkedLength } from './arguments.js';
 import { decodeBlock, errorOfBlock, putItems } from './core.js';
 
-// The columns have room for as many encodings of this length as fit, at first for at most so many.
+// The columns have room for as many encodings of this length as the input can hold, but at first for at most MOST.
 const USUAL = 34;
 const MOST = 2 ** 20;
 

@@ -336,7 +336,7 @@ MH_INLINE mh_varint_or_error_at mh_read_word(mh_u128 word, size_t present)
     return (mh_varint_or_error_at){.is_ok = true, .ok = {mh_join_digits(varint), continuation_bytes + 1}};
 }
 
-/* The word of bytes that are fewer, with zeros for those that are missing.
+/* The word of up to sixteen bytes, with zeros for those that are missing.
  * Proved: length bytes <= 16. */
 MH_COLD mh_u128 mh_padded_word(const uint8_t *bytes, size_t bytes_length)
 {
@@ -353,7 +353,7 @@ MH_INLINE mh_varint_or_error_at mh_word_read_front(const uint8_t *bytes, size_t 
     if (bytes_length >= 1 && bytes[0] < 128) {
         return (mh_varint_or_error_at){.is_ok = true, .ok = {(uint64_t)bytes[0], 1}};
     }
-    /* Each word is read where it is made, so that for sixteen bytes the tests of how many are there are gone. */
+    /* Two calls and not one, so that the compiler drops the tests of `present` where it is sixteen. */
     if (bytes_length >= MH_WORD_LEN) return mh_read_word(mh_u128_from_le_bytes(bytes), MH_WORD_LEN);
     return mh_read_word(mh_padded_word(bytes, bytes_length), bytes_length);
 }
@@ -407,7 +407,7 @@ static inline mh_usize_or_error mh_varint_len(uint64_t n)
 /* ---- multihash/src/head.rt
  * The two varints at the front of an encoding, for callers that keep the digest where it is. */
 
-/* Does what `mh_head_read_counted` does, for all bytes, out of line: that is in line in many functions. */
+/* Does all of `mh_head_read_counted`. It is out of line, since `mh_head_read_counted` is in line in many functions. */
 MH_NOT_INLINE mh_head_or_error_at mh_read_longer(const uint8_t *bytes, size_t bytes_length)
 {
     const mh_varint_or_error_at code_result = mh_word_read_front(bytes, bytes_length);
@@ -508,8 +508,8 @@ static inline uint32_t mh_varint_status(mh_error error)
     return MULTIHASH_NOT_MINIMAL;
 }
 
-/* Decodes each input of that many bytes that begins with the front. No digest is read, so only the two
- * varints have to be there.
+/* Decodes an input of `whole_length` bytes of which `front` is the prefix that the caller has. No byte of the
+ * digest is read, so only the two varints have to be in it.
  * Proved: length front <= whole_length. */
 MH_INLINE multihash_decoded mh_decode_whole(const uint8_t *front, size_t front_length, size_t whole_length)
 {

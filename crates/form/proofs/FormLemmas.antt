@@ -161,7 +161,7 @@ undecided_stops IsForm Rejects before e (Some input) undecided ends =
     inr (record { consumed = []; consumes = Consumes-none (Some input); cause = inr (inr (ends, undecided input)) })
 
 module _ {A : Type 0} (IsForm : A → List ℕ → Type 0) where
-  -- `read_exact` of `n` bytes failed, of a form whose encodings have so many, and which rejects nothing
+  -- `read_exact` of `n` bytes failed, of a form whose encodings have `n` bytes, and which rejects nothing
   pub sized_stops : (n before after : ℕ) (error : Fault) (old new : Option (List ℕ))
       → ((x : A) (bytes : List ℕ) → IsForm x bytes → length bytes ≡ n)
       → ((before < after) × IsOwnFault error) ⊎ ((after ≡ before) × IsUnexpectedEof error)

@@ -159,8 +159,8 @@ pub extern "C" fn multihash_scale_decode(bytes: &[u8]) -> Decoded
     accept(code, size, taken)
 }
 
-// Decodes each input of that many bytes that begins with the front. No digest is read, so only the two
-// varints have to be there.
+// Decodes an input of `whole_length` bytes of which `front` is the prefix that the caller has. No byte of the
+// digest is read, so only the two varints have to be in it.
 #[inline(always)]
 fn decode_whole(front: &[u8], whole_length: usize) -> Decoded
     requires { length front.now ≤ whole_length }

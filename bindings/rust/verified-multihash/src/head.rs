@@ -52,7 +52,7 @@ impl Head {
         Self::read_longer(bytes)
     }
 
-    // Does what `read_counted` does, for all bytes, out of line: that is in line in many functions.
+    // Does all of `read_counted`. It is out of line, since `read_counted` is in line in many functions.
     #[inline(never)]
     fn read_longer(bytes: &[u8]) -> Result<Self, (Error, usize)> {
         let (code, code_len) = word::read_front(bytes)?;

@@ -25,14 +25,14 @@ pub(crate) fn read_front(bytes: &[u8]) -> Result<(u64, usize), (Error, usize)> {
     if bytes.len() >= 1 && bytes[0] < 128 {
         return Ok((u64::from(bytes[0]), 1));
     }
-    // Each word is read where it is made, so that for sixteen bytes the tests of how many are there are gone.
+    // Two calls and not one, so that the compiler drops the tests of `present` where it is sixteen.
     match bytes.first_chunk::<WORD_LEN>() {
         Some(front) => read_word(u128::from_le_bytes(*front), WORD_LEN),
         None => read_word(padded_word(bytes), bytes.len()),
     }
 }
 
-// The word of bytes that are fewer, with zeros for those that are missing.
+// The word of up to sixteen bytes, with zeros for those that are missing.
 #[cold]
 #[inline(never)]
 fn padded_word(bytes: &[u8]) -> u128 {
