@@ -25,7 +25,7 @@ This page shows the public items of the crates [theorems](#theorems), [multihash
 clauses. `tools/generate contracts` writes it, and CI compares it with the sources: a difference here is a changed
 promise. [What contracts see](../crates/multihash/CALLING.md#what-contracts-see) says how to read a clause.
 
-The functions of `laws.rt` and `pins.rt` have empty bodies, but for three of `multihash`, which return a constant. Their
+The functions of `laws.rt` and `exposed.rt` have empty bodies, but for three of `multihash`, which return a constant. Their
 clauses state laws of the definitions, and what callers can know about the library's own readers and writers.
 """
 
@@ -95,7 +95,7 @@ def item_lines(item: Item, private: set[str]) -> Iterator[str]:
                 yield from (first, *lines, "}")
             else:
                 yield f"{first} .. }}" if first.endswith("{") else first
-    elif item.is_public or item.name == "pins":
+    elif item.is_public or item.name == "exposed":
         yield from attribute_lines(item, "")
         yield from kept_lines(item.source)
 

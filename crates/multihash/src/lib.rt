@@ -17,13 +17,13 @@
 mod binary;
 mod compare;
 mod error;
+mod exposed;
 mod head;
 mod json;
 pub mod laws;
 pub mod list;
 mod multihash;
 pub mod no_std_io;
-mod pins;
 mod scale;
 pub mod varint;
 
