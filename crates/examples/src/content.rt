@@ -60,7 +60,8 @@ pub fn verify<const S: usize>(multihash: &Multihash<S>, content: &[u8]) -> Resul
     Ok(multihash.same_as(&hash_of::<32>(content)))
 }
 
-/// Returns whether the multihash is a SHA2-256 one of other content. It returns false for any other hash function.
+/// Returns whether the multihash is a SHA2-256 one of other content. For any other hash function it returns
+/// false.
 pub fn is_damaged<const S: usize>(multihash: &Multihash<S>, content: &[u8]) -> bool
     ensures { IsTrue result ↔ (((pair_of multihash.now).code ≡ 0x12)
         × (pair_of multihash.now ≢ content_pair content.now)) }

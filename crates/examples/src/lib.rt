@@ -1,4 +1,5 @@
-//! Callers of each kind, by public paths of the library and of `form` alone: what the pages show, and users of multihashes.
+//! Callers of each kind, by public paths of the library and of `form` alone: what the pages show, and users of
+//! multihashes.
 #![tactic(auto)]
 
 pub mod capacities;
