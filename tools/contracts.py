@@ -138,7 +138,7 @@ def with_parameters(name: str, kind: str, rest: str, next_line: str) -> str:
 
 def word_rows(definitions: str) -> Iterator[str]:
     """Returns a row for each of the words that are defined in a file."""
-    form = r"^((?:-- [^\n]*\n)+)(?:abbrev )?pub (record |data |)([\w-]+)([^\n]*)\n([^\n]*)"
+    form = r"^((?:-- [^\n]*\n)+)(?:abbrev )?pub (?!mod )(record |data |)([\w-]+)([^\n]*)\n([^\n]*)"
     for comment, kind, name, *rest in re.findall(form, definitions, re.M):
         text = " ".join(line[3:] for line in comment.splitlines())
         yield f"| `{with_parameters(name, kind, *rest)}` | {text} |"
