@@ -54,6 +54,7 @@ type Mh = Multihash<0>;
 pub fn print_errors(page: &mut Page) {
     page.heading("Errors: the text, and the tests that apply");
     let mut reader = FailAt::new(Cuts::new(&[], 1), 0, OUT_OF_MEMORY);
+    let mut other = FailAt::new(Cuts::new(&[], 1), 0, "link down");
     let own: Result<(), _> = Err(Error::from(no_std_io::Error::other("x")));
     errors!(page;
         "wrap::<0>(0, \"A\")" => Mh::wrap(0, b"A"),
@@ -65,6 +66,7 @@ pub fn print_errors(page: &mut Page) {
         "from_bytes::<1>([00 01])" => Multihash::<1>::from_bytes(&[0, 1]),
         "default::<0>().write(0 places)" => Mh::default().write(&mut [].as_mut_slice()),
         "a reader's out_of_memory()" => Mh::read(&mut reader),
+        "a reader's other(\"link down\")" => Mh::read(&mut other),
         "from(no_std_io::Error::other(\"x\"))" => own,
     );
 }
