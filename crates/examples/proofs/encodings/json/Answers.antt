@@ -1,3 +1,4 @@
+-- The value lists the bytes of the encoding, so `from_value` has the verdict of that encoding, which is the multihash.
 use Rattle.std.proofs.Common.{Ok, Err, arith}
 use Rattle.multihash.specs.Multihash.{pair_of}
 use Rattle.multihash.proofs.CallingLemmas.{from_bytes_of_encoding}

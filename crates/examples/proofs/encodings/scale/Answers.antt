@@ -1,3 +1,5 @@
+-- What is decoded is the SCALE encoding and nothing after it, and no other pair has it (`scale_pair`), so decoding returns the same
+-- pair.
 use Rattle.std.proofs.Common.{◌≡◌, [], ◌++◌, refl, sym, ◌∙◌, subst, arith, append-nil, rules}
 use Rattle.multihash.specs.Scale.{IsScale}
 use Rattle.multihash.specs.Multihash.{pair_of}

@@ -1,7 +1,6 @@
-use Rattle.std.proofs.Common.{◌≡◌, IsOkAnd, inl, inr, arith}
+use Rattle.std.proofs.Common.{inl, inr, arith}
 use Rattle.multihash.specs.Pair.{FitsBuffer}
 use Rattle.multihash.specs.Verdict.{malformed}
-use Rattle.multihash.specs.Multihash.{pair_of}
 use Rattle.multihash.proofs.CallingLemmas.{rejected_no_encoding}
 use Rattle.multihash.proofs.OutcomeLemmas.{passed_error}
 use Rattle.examples.proofs.peer_id.read_peer.Goals as goal

@@ -1,3 +1,5 @@
+-- What `read` leaves of a slice is what follows the bytes that it consumed. If the size is too large these are the two varints, as no
+-- shorter prefix settles the verdict.
 use Rattle.std.proofs.Common.{refl, ◌≡◌, ℕ, List, Some, sym, ◌∙◌, ◌<◌, ◌++◌, length, ap, append_assoc}
 use Rattle.std.proofs.lemmas.Result.{IfOk-weaker}
 use Rattle.multihash.specs.Verdict.{invalid_size, BeginsWithSize}

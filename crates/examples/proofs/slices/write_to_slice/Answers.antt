@@ -1,3 +1,4 @@
+-- A slice neither fails nor allocates, so `write` returns an error only when the slice is full: then the encoding is longer.
 use Rattle.std.proofs.Common.{◌≤◌, ◌<◌, ℕ, length, Result, Ok, Err, IsOk, IfOk, IsErrAnd, arith, ap, length-append, length-drop}
 use Rattle.multihash.proofs.WritingLemmas.{full_of_errors, length_of_not_nil}
 use Rattle.examples.proofs.slices.write_to_slice.Goals as goal
@@ -18,8 +19,8 @@ returns-in_err-len g c =
       length-append stop.part rest,
       length_of_not_nil rest stop.strict.1,
       ap length stop.appends.left,
-      ap length (full_of_errors _ _ _ c.in_err-len.ensures.faults.2),
+      ap length (full_of_errors 0 _ _ c.in_err-len.ensures.faults.2),
       length-drop (length stop.part) c.args.buffer.now,
     ) in
-    let told = no_ok c.from_residual.result _ _ _ _ c.from_residual.ensures.1 less in
+    let told = no_ok c.from_residual.result _ _ (length bytes) (length c.args.buffer.now) c.from_residual.ensures.1 less in
     (bytes, is_form, told.0, told.1)
