@@ -1,3 +1,5 @@
+-- `read_front` is `read` of a reader that has the bytes and nothing more, so each clause is that of `read`, and what `read` leaves is
+-- what follows the value.
 use Rattle.std.proofs.Common.{Some, ap, inl, inr, refl}
 use Rattle.multihash.proofs.OutcomeLemmas.{passed_error}
 use Rattle.form.proofs.WholeLemmas.{known_is, if_passed}

@@ -1,3 +1,4 @@
+-- The tag decides what is read, the value of this case or one of the others, and `CaseLemmas` has what an error of either shows.
 use Rattle.std.proofs.Common.{◌≡◌, arith}
 use Rattle.multihash.proofs.OutcomeLemmas.{passed_error}
 use Rattle.form.proofs.CaseLemmas.{this_stops, other_stops}

@@ -1,3 +1,4 @@
+-- A choice is its tag and then its value: reading stops in the tag or in the value, and `CaseLemmas` has what each shows of the whole.
 use Rattle.form.specs.declared.error.FormError.TheVariants.{Failed}
 use Rattle.multihash.specs.Varint.{IsVarint}
 use Rattle.multihash.proofs.OutcomeLemmas.{passed_error}

@@ -1,3 +1,4 @@
+-- A choice is its tag and then its value: writing is that of two parts, and `BothLemmas` has what an error in either shows.
 use Rattle.std.proofs.lemmas.Result.{on_ok_weaker, on_err_weaker}
 use Rattle.multihash.specs.Varint.{IsVarint}
 use Rattle.multihash.proofs.OutcomeLemmas.{OnErr-always}

@@ -4,10 +4,12 @@ use Rattle.std.proofs.Common.{◌≡◌, ◌<◌, ◌⊎◌, ◌++◌, ℕ, List
 use Rattle.std.proofs.Common.{append-nil, refl, sym, ap, subst, ◌∙◌, arith, rules, Option, Some}
 use Rattle.multihash.proofs.OutcomeLemmas.{passed_error, if_given}
 use Rattle.std.specs.Io.KnownBytes.{IsAtEnd}
+use Rattle.multihash.specs.Refusal.{IsOutOfMemory}
 use Rattle.multihash.specs.Reading.{Consumes}
 use Rattle.multihash.specs.Streams.{AreParts}
 use Rattle.multihash.proofs.ReadingLemmas.{Consumes-known, Consumes-none, Consumes-concatenated}
 use Rattle.multihash.proofs.StreamLemmas.{parts_push}
+use Rattle.form.specs.FormError.{IsFailed}
 use Rattle.form.specs.Stream.{rest_from, AppendsValues, AppendsSame}
 use Rattle.form.proofs.CountedLemmas.{Next, parts_compared}
 use Rattle.form.proofs.StopLemmas.{stops_later}
@@ -51,7 +53,7 @@ pub returns-in_err-push-clause-err : goal.returns-in_err-push-clause-err
 returns-in_err-push-clause-err g c =
     let before = c.loop.invariant in
     let kept : c.push.new.self.items ≡ c.loop.list.items = search rules in
-    if_given _ _ _ c.from_residual-in_err-push.result c.from_residual-in_err-push.ensures.1 (λ e memory. record {
+    if_given (IsFailed IsOutOfMemory) _ _ c.from_residual-in_err-push.result c.from_residual-in_err-push.ensures.1 (λ e memory. record {
       following = rest_from c.loop.self.ahead (g.R.Read.rest c.loop.self.inner);
       reads = record { values = before.reads.values; appended = kept ∙ before.reads.appended; consumed = before.reads.consumed };
       fewer = omega (arith, before.count, c.loop-test.true);
@@ -130,19 +132,23 @@ pub returns-in_err-value-clause-found : goal.returns-in_err-value-clause-found
 returns-in_err-value-clause-found g c xs bytes more are at number same =
     let before = c.loop.invariant in
     let unfailed = same ∙ sym before.unfailed in
+    let old = rest_from c.args.self.now.ahead (g.R.Read.rest c.args.self.now.inner) in
     rw (passed_error c.from_residual.result _ c.from_residual.ensures.1)
-    (elim (fewer_found g.T.Form.is_form g.T.Form.same g.met.T.Form.unique g.met.T.Form.some _ _ _ _ before.reads xs bytes more are at
-    c.args.n number (omega (arith, before.count, c.loop-test.true))) [
+    (elim (fewer_found g.T.Form.is_form g.T.Form.same g.met.T.Form.unique g.met.T.Form.some
+    c.args.list.now.items c.loop.list.items old _ before.reads xs bytes more are at c.args.n number
+    (omega (arith, before.count, c.loop-test.true))) [
       | inl (_, ended, none) ↦ absurd (c.in_err-value.ensures.end.always unfailed (ended ∙ ap Some none))
       | inr (left, is_left, (x, part, rest, is, cut)) ↦ c.in_err-value.ensures.found x part rest is (is_left ∙ ap Some cut) unfailed
     ])
 
 pub returns-in-None-clause-found : goal.returns-in-None-clause-found
 returns-in-None-clause-found g c xs bytes more are at number same =
+    let old = rest_from c.args.self.now.ahead (g.R.Read.rest c.args.self.now.inner) in
     let before = c.loop.invariant in
     let ended = rw c.in-None.is at c.in_ok-value.ensures.end.none in
-    elim (fewer_found g.T.Form.is_form g.T.Form.same g.met.T.Form.unique g.met.T.Form.some _ _ _ _ before.reads xs bytes more are at
-    c.args.n number (omega (arith, before.count, c.loop-test.true))) [
+    elim (fewer_found g.T.Form.is_form g.T.Form.same g.met.T.Form.unique g.met.T.Form.some
+    c.args.list.now.items c.loop.list.items old _ before.reads xs bytes more are at c.args.n number
+    (omega (arith, before.count, c.loop-test.true))) [
       | inl (appends, rest, _) ↦ (appends, ended.1 ∙ rest)
       | inr (left, is_left, (x, part, rest, is, cut)) ↦ absurd (omega (
         arith,
@@ -155,9 +161,11 @@ returns-in-None-clause-found g c xs bytes more are at number same =
 
 pub returns-in_err-push-clause-found : goal.returns-in_err-push-clause-found
 returns-in_err-push-clause-found g c xs bytes more are at number same =
-    if_given _ _ _ c.from_residual-in_err-push.result c.from_residual-in_err-push.ensures.1 (λ e memory. memory)
+    if_given (IsFailed IsOutOfMemory) _ _ c.from_residual-in_err-push.result c.from_residual-in_err-push.ensures.1 (λ e memory. memory)
 
 pub returns-clause-found : goal.returns-clause-found
 returns-clause-found g c xs bytes more are at number same =
-    all_found g.T.Form.is_form g.T.Form.same g.met.T.Form.unique g.met.T.Form.some _ _ _ _ c.loop.invariant.reads xs bytes more are at
-    c.args.n number (omega (arith, c.loop.invariant.count, c.loop-test.false, c.loop.auto.counter-end))
+    let old = rest_from c.args.self.now.ahead (g.R.Read.rest c.args.self.now.inner) in
+    all_found g.T.Form.is_form g.T.Form.same g.met.T.Form.unique g.met.T.Form.some
+    c.args.list.now.items c.loop.list.items old _ c.loop.invariant.reads xs bytes more are at c.args.n number
+    (omega (arith, c.loop.invariant.count, c.loop-test.false, c.loop.auto.counter-end))

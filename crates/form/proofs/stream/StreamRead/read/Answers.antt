@@ -1,3 +1,4 @@
+-- The byte that was read ahead is the first of what is left: it is put at the front of the buffer, and nothing else is read.
 use Rattle.std.proofs.Common.{◌≡◌, ◌<◌, ℕ, List, [], ◌∷◌, length, take, drop, slice_set, refl, sym, ap, ◌∙◌, arith}
 use Rattle.std.specs.Io.KnownBytes.{prepend_known}
 use Rattle.form.specs.Stream.{rest_from}
