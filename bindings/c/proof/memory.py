@@ -46,7 +46,8 @@ def rewritten(x: Value, rewrites: dict[str, tuple[Any, Any]]) -> Value:
 
 
 def is_valid(base: Any, size: Any) -> Any:
-    """The header's precondition: bytes that are there, at any address but null, below 2^63."""
+    """The header's precondition: bytes that are there, at any address but null, below 2^63. The last address is not one
+    of theirs: C needs a pointer behind them."""
     most = z3.ULT(size, 1 << 63) if size.size() == 64 else z3.BoolVal(True)
     return z3.Or(size == 0, z3.And(base != 0, z3.ULT(size, -base), most))
 
@@ -192,8 +193,8 @@ class Memory:
         if region == "":
             size: Value = TOP
             inside = TOP - STACK <= offset
-        else:
-            size, inside = self.regions[region].size, not writes or self.regions[region].writable
+        else:  # no byte of `out` is read, so its cells need not follow copies of any length
+            size, inside = self.regions[region].size, self.regions[region].writable if writes else region != "out"
         if not inside:
             self.refuse(f"an access to {region or 'the stack'} at {offset}")
         if isinstance(count, int):
@@ -230,9 +231,10 @@ class Memory:
 
     def pointers(self, state: State, *places: tuple[str, int]) -> None:
         """C's functions need valid pointers, even for no bytes."""
-        for region, _ in places:
+        for region, offset in places:
             if region and not isinstance(self.regions[region].size, int):
-                state.wrong.append(self.regions[region].size == 0)
+                size = self.regions[region].size
+                state.wrong.append(z3.Or(size == 0, z3.ULT(size, offset)))
 
     def memcpy(self, state: State, at: int) -> Value:
         count = state.frames[-1].stack[at + 2]

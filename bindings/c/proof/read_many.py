@@ -135,8 +135,11 @@ class ReadMany(Check):
         """Any state at the start of a loop."""
         before = self.arrivals[loop][-1][4]
         values = {}
+        function = before.frames[0].function
+        widths = {("local", i): width for i, width in enumerate(function.parameters + function.variables)}
         for place, x in self.values(before).items():
-            values[place] = z3.BitVec(f"old {place}", self.word if isinstance(x, int) else x.size())
+            width = self.word if isinstance(x, int) else x.size()
+            values[place] = z3.BitVec(f"old {place}", widths.get(place, width))
             if place in self.forms[loop]:
                 values[place] = self.place(self.forms[loop][place], self.whole, self.count, self.taken)
         old = before.frames[0]
@@ -203,7 +206,7 @@ class ReadMany(Check):
     def doubts(self, machine: Machine, loop: int | None, end: State, count: Value, taken: Value) -> dict[Place, Any]:
         """The conditions under which a state at a loop is not of its form, for each place."""
         at, values, doubts = end.frames[0].at, self.values(end), {}
-        if end.pointer != self.arrivals[at][0][4].pointer:
+        if end.pointer != self.arrivals[at][-1][4].pointer:
             raise Refused("read_many has another stack pointer at a loop")
         for (kind, i), (p, q, rest) in self.forms[at].items():
             x = machine.number(end, "", i, self.word // 8) if kind == "word" else values[kind, i]
