@@ -253,7 +253,7 @@ class Memory:
         elif to[0] == "out":
             state.writes.append((to[1], count, None))
         least = most if isinstance(count, int) else 0
-        for more in () if least else (8, 4, 2, 1):
+        for more in () if isinstance(count, int) else (8, 4, 2, 1):
             least += more * (self.decide(state, z3.UGE(count, least + more)) is True)
         for i, cell in enumerate([self.byte(state, source[0], source[1] + i) for i in range(most)]):
             if i >= least:
