@@ -2,7 +2,7 @@
 """For `tools/generate rust`: writes the modules of the Rust package verified-multihash into a folder. They are the proved
 source without its contracts.
 
-    tools/erase FOLDER
+    tools/rust_source.py FOLDER
 
 Removed are what begins as a line of CUT: ghost items and fields, `impl Model`, `Write for Vec`, contracts and attributes;
 the modules that need JSON or have no code; examples; and from other lines WORDS: the bound `Drop`, the parameter of
