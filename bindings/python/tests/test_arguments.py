@@ -1,4 +1,4 @@
-"""Arguments, errors and values."""
+"""Tests of what the package makes of arguments, of its errors, and of values."""
 
 import array
 import copy

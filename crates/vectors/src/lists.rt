@@ -12,26 +12,26 @@ use serde_json::Value;
 use std::alloc::{AllocError, Global};
 
 #[derive(Clone, Copy)]
-enum Form {
+enum Encoding {
     Binary,
     Scale,
     Json,
 }
 
-const FORMS: [Form; 3] = [Form::Binary, Form::Scale, Form::Json];
+const ENCODINGS: [Encoding; 3] = [Encoding::Binary, Encoding::Scale, Encoding::Json];
 
-impl Form {
+impl Encoding {
     // A reader has no JSON.
     fn read<const S: usize, R: Read>(self, r: &mut R) -> Result<Multihash<S>, Error>
         requires { S < 2 ^ 16 }
     {
         match self {
-            Form::Scale => Multihash::scale_decode(r),
+            Encoding::Scale => Multihash::scale_decode(r),
             _ => Multihash::read(r),
         }
     }
 
-    // Made in this form, and read by another capacity.
+    // Made in this encoding, and read by another capacity.
     fn through<const S: usize, const T: usize>(
         self,
         alloc: Global,
@@ -40,13 +40,13 @@ impl Form {
         requires { T < 2 ^ 16 }
     {
         match self {
-            Form::Binary => Multihash::from_bytes(&m.to_bytes(alloc)?),
-            Form::Scale => {
+            Encoding::Binary => Multihash::from_bytes(&m.to_bytes(alloc)?),
+            Encoding::Scale => {
                 let mut bytes = Vec::new(alloc);
                 m.scale_encode(&mut bytes)?;
                 Multihash::scale_decode(&mut bytes.as_slice())
             }
-            Form::Json => Multihash::from_value(&m.to_value(alloc)?),
+            Encoding::Json => Multihash::from_value(&m.to_value(alloc)?),
         }
     }
 }
@@ -92,22 +92,22 @@ fn put_reading<const S: usize>(page: &mut Page, found: &Result<Multihash<S>, Err
 }
 
 // Of a slice and of few bytes per call.
-fn put_readings<const S: usize>(page: &mut Page, form: Form, input: &[u8])
+fn put_readings<const S: usize>(page: &mut Page, encoding: Encoding, input: &[u8])
     requires { S < 2 ^ 16 }
 {
     let mut left = input;
-    let found = form.read::<S, _>(&mut left);
+    let found = encoding.read::<S, _>(&mut left);
     let taken = input.len().saturating_sub(left.len());
     put_reading(page, &found, taken);
     page.answer("");
     for most in 1..8 {
         let mut cuts = Cuts::new(input, most);
-        let found = form.read::<S, _>(&mut cuts);
+        let found = encoding.read::<S, _>(&mut cuts);
         put_reading(page, &found, input.len().saturating_sub(cuts.left.len()));
         page.answer(format_args!(" or by {most} bytes "));
     }
     if !is_incomplete(&found) {
-        put_determined::<S>(page, form, input.get(..taken).unwrap_or(&[]));
+        put_determined::<S>(page, encoding, input.get(..taken).unwrap_or(&[]));
     }
 }
 
@@ -120,19 +120,19 @@ fn joined(alloc: Global, front: &[u8], more: &[u8]) -> Result<Vec<u8>, AllocErro
 const MORE: [&[u8]; 3] = [&[0], &[255], &[128, 128]];
 
 // These bytes determine the result, and fewer do not.
-fn put_determined<const S: usize>(page: &mut Page, form: Form, front: &[u8])
+fn put_determined<const S: usize>(page: &mut Page, encoding: Encoding, front: &[u8])
     requires { S < 2 ^ 16 }
 {
     for more in &MORE {
         if let Ok(bytes) = joined(page.alloc, front, more) {
             let mut left = bytes.as_slice();
-            let found = form.read::<S, _>(&mut left);
+            let found = encoding.read::<S, _>(&mut left);
             put_reading(page, &found, bytes.len().saturating_sub(left.len()));
         }
         page.answer(" or with more ");
     }
     if let Some((_, fewer)) = front.split_last() {
-        if !is_incomplete(&form.read::<S, _>(&mut { fewer })) {
+        if !is_incomplete(&encoding.read::<S, _>(&mut { fewer })) {
             page.put("the same");
             page.answer(" or with fewer ");
         }
@@ -150,7 +150,7 @@ fn json_of(alloc: Global, bytes: &[u8]) -> Result<Value, AllocError> {
 fn put_results<const S: usize>(page: &mut Page, input: &[u8])
     requires { S < 2 ^ 16 }
 {
-    put_readings::<S>(page, Form::Binary, input);
+    put_readings::<S>(page, Encoding::Binary, input);
     page.column();
     put_verdict(page, &Multihash::<S>::from_bytes(input));
     page.answer("");
@@ -159,7 +159,7 @@ fn put_results<const S: usize>(page: &mut Page, input: &[u8])
     }
     page.answer(" or from JSON ");
     page.column();
-    put_readings::<S>(page, Form::Scale, input);
+    put_readings::<S>(page, Encoding::Scale, input);
 }
 
 fn bytes_of(alloc: Global, digits: &str) -> Vec<u8> {
@@ -191,14 +191,14 @@ fn print_verdict(page: &mut Page, line: &str) {
     page.end_if_other(line);
 }
 
-// Through each two forms, read last by this capacity.
+// Through each two encodings, read last by this capacity.
 fn put_through<const S: usize, const T: usize>(page: &mut Page, m: &Multihash<S>)
     requires source { S < 2 ^ 16 }
     requires last { T < 2 ^ 16 }
 {
-    for form in &FORMS {
-        for last in &FORMS {
-            match form.through::<S, S>(page.alloc, m) {
+    for encoding in &ENCODINGS {
+        for last in &ENCODINGS {
+            match encoding.through::<S, S>(page.alloc, m) {
                 Ok(again) => put_verdict(page, &last.through::<S, T>(page.alloc, &again)),
                 Err(e) => page.put(e),
             }

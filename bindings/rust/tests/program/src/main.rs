@@ -1,3 +1,5 @@
+//! Prints an error that shows which package `multihash` is: checks/rust.t runs this program with the page's line, which
+//! replaces upstream's. It also serializes to a format that has no bytes.
 use multihash::Multihash;
 use serde::{Serialize, Serializer};
 
