@@ -14,8 +14,8 @@ ghost use Rattle.form.specs.declared.error.FormError.TheVariants.{Trailing};
 ghost use Rattle.examples.specs.Node.{IsNode};
 
 use form::{
-    BigEndian, Block, Both, Bytes, Case, Choice, Counted, Form, FormError, LittleEndian, NoCase,
-    Number, Others, Stream, Tag, Tagged,
+    BigEndian, Block, Both, Bytes, Case, Choice, Counted, Form, FormError, LittleEndian, Number,
+    Others, Stream, Tag, Tagged,
 };
 use multihash::Multihash;
 use multihash::no_std_io::{Read, Write};
@@ -24,7 +24,7 @@ use std::alloc::Global;
 /// A content identifier: of version 1 with a codec and a multihash, or of version 0, a bare multihash of
 /// SHA2-256. So the first number is the version 1 or the code 0x12, which the length 32 and the digest follow.
 pub type Identifier = Choice<
-    Case<Both<Number, Multihash<64>>, 1, Case<Both<Tag<32>, Bytes<32>>, 0x12, NoCase>>,
+    Case<Both<Number, Multihash<64>>, 1, Tagged<Both<Tag<32>, Bytes<32>>, 0x12>>,
 >;
 
 /// An entry of a log: its number, the multihash of its block, and the block.
@@ -44,7 +44,7 @@ pub type AddressPart = Choice<
         Case<
             BigEndian<2>,
             6,
-            Case<Block<253>, 53, Case<BigEndian<2>, 273, Case<Block<42>, 421, NoCase>>>,
+            Case<Block<253>, 53, Case<BigEndian<2>, 273, Tagged<Block<42>, 421>>>,
         >,
     >,
 >;

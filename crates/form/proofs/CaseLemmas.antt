@@ -4,11 +4,12 @@ use Rattle.multihash.specs.Varint.{IsVarint}
 use Rattle.multihash.specs.Consuming.{ConsumesSome}
 use Rattle.form.specs.Form.{Then}
 use Rattle.form.specs.Case.{case_tag, IsCaseValue}
-use Rattle.form.specs.Rejecting.{IsCase, RejectsNumber, RejectsCase, RejectsNumberThen, ReadStops}
+use Rattle.form.specs.Rejecting.{IsCase, RejectsNumber, RejectsCase, RejectsNoCase, RejectsNumberThen, ReadStops}
 use Rattle.form.specs.declared.error.FormError.{FormError}
 use Rattle.form.specs.declared.case.Case.{Case}
 use Rattle.form.specs.declared.case.Case.TheVariants.{This, Other}
 use Rattle.form.specs.declared.case.Others.{Others}
+use Rattle.form.specs.declared.case.Tagged.{Tagged}
 use Rattle.form.specs.declared.choice.Choice.{Choice}
 use Rattle.form.proofs.StopLemmas.{stops_as, first_stops, from_stops}
 
@@ -53,6 +54,29 @@ module _ {A C : Type 0} {M : ℕ} {bound : _} (n : ℕ) (tag_of : C → ℕ) (Is
           → ReadStops IsOf RejectsOf before after e old new
       other_stops not = stops_as (IsCase tag_of IsC n) IsOf (RejectsC n) RejectsOf (other_form not)
           (λ f bytes rejects. inr (not, rejects)) (other_rejects not) before after e old new
+
+-- ---- the last case
+
+module _ {A : Type 0} (M n : ℕ) (IsA : A → List ℕ → Type 0) (RejectsA : FormError → List ℕ → Type 0) where
+  -- a value with the tag n
+  abbrev IsLast : Tagged A M → List ℕ → Type 0
+  IsLast = IsCase (λ x. M) (λ x. IsA x.value) n
+
+  abbrev RejectsLast : FormError → List ℕ → Type 0
+  RejectsLast = RejectsCase RejectsA RejectsNoCase M n
+
+  last_form : (x : Tagged A M) (bytes : List ℕ) → IsLast x bytes → (y : A) × IsA y bytes
+  last_form x bytes (_, form) = (x.value, form)
+
+  last_rejects : n ≡ M → (e : FormError) (bytes : List ℕ) → RejectsLast e bytes → RejectsA e bytes
+  last_rejects is e bytes (inl (_, rejects)) = rejects
+  last_rejects is e bytes (inr (not, _)) = absurd (not is)
+
+  -- the tag is M, and its value was not read
+  pub last_stops : (before after : ℕ) (e : FormError) (old new : Option (List ℕ)) → n ≡ M
+      → ReadStops IsA RejectsA before after e old new → ReadStops IsLast RejectsLast before after e old new
+  last_stops before after e old new is = stops_as IsA IsLast RejectsA RejectsLast last_form
+      (λ f bytes rejects. inl (is, rejects)) (last_rejects is) before after e old new
 
 -- ---- a choice
 

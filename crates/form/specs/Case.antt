@@ -2,7 +2,6 @@
 use Rattle.std.specs.Prelude.{ℕ, List}
 use Rattle.form.specs.declared.case.Case.{Case}
 use Rattle.form.specs.declared.case.Case.TheVariants.{This, Other}
-use Rattle.form.specs.declared.case.NoCase.{NoCase}
 
 -- the tag M, or that of the other case
 abbrev pub case_tag : {A C : Type 0} {M : ℕ} {b : _} → (C → ℕ) → Case A M C b → ℕ
@@ -22,7 +21,3 @@ AreSameCase SameA SameC (This x) (This y) = SameA x.value y.value
 AreSameCase SameA SameC (This x) (Other y) = ⊥
 AreSameCase SameA SameC (Other x) (This y) = ⊥
 AreSameCase SameA SameC (Other x) (Other y) = SameC x.case y.case
-
--- there is no such value
-abbrev pub no_case : {B : Type 0} → NoCase → B
-no_case x = elim x [ ]

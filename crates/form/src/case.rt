@@ -16,7 +16,7 @@ pub enum Case<A, const M: u64, C: Cases> {
     Other(Others<C, M>),
 }
 
-/// What follows the tag `M`, which is below 2^63.
+/// What follows the tag `M`, which is below 2^63. As cases it is the last one: no other tag is right.
 #[derive(Debug, Drop)]
 pub struct Tagged<A, const M: u64> {
     /// What follows the tag.
@@ -31,10 +31,6 @@ pub struct Others<C: Cases, const M: u64> {
     pub case: C,
     pub ghost other: { C.tag_of case ≢ M },
 }
-
-/// No case, of which there is no value: what comes after the last case.
-#[derive(Debug, Drop)]
-pub enum NoCase {}
 
 impl<A: Form, const M: u64, C: Cases> Cases for Case<A, M, C> {
     ghost use Rattle.std.specs.Prelude.{◌≡◌, ◌⊎◌};
@@ -91,46 +87,49 @@ impl<A: Form, const M: u64, C: Cases> Cases for Case<A, M, C> {
     ghost one = { case_one A.is_form C.is_value A.same C.same A.one C.one };
 }
 
-impl Cases for NoCase {
-    ghost use Rattle.std.specs.Prelude.{◌≡◌};
+impl<A: Form, const M: u64> Cases for Tagged<A, M> {
+    ghost use Rattle.std.specs.Prelude.{◌≡◌, ◌⊎◌, refl};
     ghost use Rattle.form.specs.declared.error.FormError.TheVariants.{OtherTag};
-    ghost use Rattle.form.specs.Rejecting.{RejectsNoCase};
-    ghost use Rattle.form.specs.Case.{no_case};
-    ghost use Rattle.form.specs.Laws.Cases.{no_case_rejects_unique};
+    ghost use Rattle.form.specs.Rejecting.{RejectsCase, RejectsNoCase};
+    ghost use Rattle.form.specs.Laws.Cases.{last_not_both, case_rejects_unique, no_case_rejects_unique};
 
-    ghost tag_of = { no_case };
+    ghost tag_of = { λ _. M };
 
-    ghost is_value = { λ _ _. ⊥ };
+    ghost is_value = { λ x. A.is_form x.value };
 
-    ghost same = { λ _ _. ⊥ };
+    ghost same = { λ x y. A.same x.value y.value };
 
-    ghost rejects_with = { λ n e. e ≡ OtherTag n };
+    ghost rejects_with = { λ n e. ((n ≡ M) × A.rejects_with e) ⊎ ((n ≢ M) × (e ≡ OtherTag n)) };
 
-    ghost rejects = { RejectsNoCase };
+    ghost rejects = { RejectsCase A.rejects RejectsNoCase M };
 
     fn tag(&self) -> Number {
-        match *self {}
+        Number { value: M }
     }
 
-    fn write_value<W: Write>(&self, _w: &mut W) -> Result<(), FormError> {
-        match *self {}
+    fn write_value<W: Write>(&self, w: &mut W) -> Result<(), FormError> {
+        self.value.write(w)
     }
 
-    fn read_value<R: Read>(_alloc: Global, _r: &mut R, tag: Number) -> Result<Self, FormError> {
-        Err(FormError::OtherTag(tag.value))
+    fn read_value<R: Read>(alloc: Global, r: &mut R, tag: Number) -> Result<Self, FormError> {
+        if tag.value != M {
+            return Err(FormError::OtherTag(tag.value));
+        }
+        let value = A::read(alloc, r)?;
+        Ok(Tagged { value })
     }
 
-    ghost in_range = { λ x. no_case x };
+    ghost in_range = { λ x. x.in_range };
 
-    ghost same_tag = { λ x. no_case x };
+    ghost same_tag = { λ _ _ _. refl };
 
-    ghost exists = { λ x. no_case x };
+    ghost exists = { λ x. A.exists x.value };
 
-    ghost unique = { λ x. no_case x };
+    ghost unique = { λ x y _. A.unique x.value y.value };
 
-    ghost not_both = { λ x. no_case x };
+    ghost not_both = { λ x e. last_not_both M (A.is_form x.value) A.rejects e (A.not_both x.value e) };
 
-    ghost rejects_unique = { no_case_rejects_unique };
+    ghost rejects_unique = { case_rejects_unique M A.rejects RejectsNoCase A.rejects_unique no_case_rejects_unique };
 
-    ghost one = { λ x. no_case x };
+    ghost one = { λ x y. A.one x.value y.value };
 }

@@ -5,7 +5,7 @@ use multihash::no_std_io::{Read, Write};
 use multihash::varint;
 use std::alloc::Global;
 
-/// One of the cases of `C`, such as `Case<Bytes<4>, 4, Case<Bytes<2>, 6, NoCase>>`. The encoding is the varint of its
+/// One of the cases of `C`, such as `Case<Bytes<4>, 4, Tagged<Bytes<2>, 6>>`. The encoding is the varint of its
 /// tag, and the encoding of its value.
 ///
 /// `read` returns the errors of [`varint::read`], [`FormError::OtherTag`] with the number that comes next if that is

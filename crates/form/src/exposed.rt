@@ -16,7 +16,7 @@ ghost use Rattle.form.specs.declared.case.Case.TheVariants.{This, Other};
 
 use crate::{
     BigEndian, Block, Both, Bytes, Case, Cases, Choice, Counted, Form, FormError, LittleEndian,
-    NoCase, Number, Others, Tag, Tagged,
+    Number, Others, Tag, Tagged,
 };
 use multihash::Multihash;
 
@@ -131,8 +131,12 @@ fn cases<A: Form, const M: u64, C: Cases>(x: &Tagged<A, M>, y: &Others<C, M>, e:
         ↔ RejectsCase A.rejects C.rejects M n e.now bytes }
 {}
 
-fn no_cases(e: &FormError)
-    ensures rejects_with { (n : ℕ) → ⟦<NoCase as Cases>⟧.rejects_with n e.now → e.now ≡ OtherTag n }
-    ensures rejects { (n : ℕ) (bytes : List ℕ) →
-        ⟦<NoCase as Cases>⟧.rejects n e.now bytes ↔ RejectsNoCase n e.now bytes }
+fn last_case<A: Form, const M: u64>(x: &Tagged<A, M>, y: &Tagged<A, M>, e: &FormError)
+    ensures tag { ⟦<Tagged<A, M> as Cases>⟧.tag_of x.now ≡ M }
+    ensures is_value { (bytes : List ℕ) → ⟦<Tagged<A, M> as Cases>⟧.is_value x.now bytes ↔ A.is_form x.now.value bytes }
+    ensures same { ⟦<Tagged<A, M> as Cases>⟧.same x.now y.now ↔ A.same x.now.value y.now.value }
+    ensures rejects_with { (n : ℕ) → ⟦<Tagged<A, M> as Cases>⟧.rejects_with n e.now →
+        ((n ≡ M) × A.rejects_with e.now) ⊎ ((n ≢ M) × (e.now ≡ OtherTag n)) }
+    ensures rejects { (n : ℕ) (bytes : List ℕ) → ⟦<Tagged<A, M> as Cases>⟧.rejects n e.now bytes
+        ↔ RejectsCase A.rejects RejectsNoCase M n e.now bytes }
 {}

@@ -30,7 +30,7 @@ pub use array::Bytes;
 pub use block::Block;
 pub use both::{Both, write_three, write_two};
 pub use byte_count::ByteCount;
-pub use case::{Case, NoCase, Others, Tagged};
+pub use case::{Case, Others, Tagged};
 pub use cases::Cases;
 pub use choice::Choice;
 pub use counted::{Counted, read_items, write_items};

@@ -11,7 +11,7 @@ use verified_multihash::no_std_io::{Error, Read, SliceWriter, Write};
 use verified_multihash::{form, Multihash};
 
 type Cid = Both<Tag<1>, Both<Number, Multihash<64>>>;
-type Identifier = Choice<Case<Both<Number, Multihash<64>>, 1, Case<Both<Tag<32>, Bytes<32>>, 0x12, NoCase>>>;
+type Identifier = Choice<Case<Both<Number, Multihash<64>>, 1, Tagged<Both<Tag<32>, Bytes<32>>, 0x12>>>;
 type Node = Both<Number, Both<Counted<Multihash<64>, 1000>, Block<1_000_000>>>;
 type PeerRecord = Both<Multihash<42>, Both<LittleEndian<8>, Counted<Block<1000>, 1>>>;
 form! {
@@ -30,7 +30,7 @@ form! {
 }
 
 /// The same cases by the proved parts alone.
-type Protocols = Case<Bytes<4>, 4, Case<BigEndian<2>, 6, Case<Block<253>, 53, Case<Named, 421, Case<Number, FAR, NoCase>>>>>;
+type Protocols = Case<Bytes<4>, 4, Case<BigEndian<2>, 6, Case<Block<253>, 53, Case<Named, 421, Tagged<Number, FAR>>>>>;
 const FAR: u64 = 0x7fff_ffff_ffff_ffff;
 
 fn text<T>(result: &Result<T, FormError>) -> String {
@@ -133,7 +133,7 @@ fn identifier(draw: &mut Draw) -> Identifier {
     if draw.below(2) == 0 {
         return Choice { case: Case::this(Both { first: draw.number(), second: draw.multihash() }) };
     }
-    let second = Case::this(Both { first: Tag::new(), second: [draw.next() as u8; 32].into() });
+    let second = Tagged::new(Both { first: Tag::new(), second: [draw.next() as u8; 32].into() });
     Choice { case: Case::other(second).expect("another tag") }
 }
 
@@ -281,9 +281,9 @@ fn limits() {
     assert_eq!(from_bytes::<BigEndian<1>>(b"\xff").map(u8::from).ok(), Some(255));
     assert_eq!(from_bytes::<LittleEndian<8>>(&[255; 8]).map(u64::from).ok(), Some(u64::MAX));
     assert!(from_bytes::<BigEndian<0>>(b"").is_err() && from_bytes::<LittleEndian<9>>(&[0; 9]).is_err());
-    let [one, twice] = [Case::this(Number::from(7)), Case::this(Number::from(8))];
-    assert_eq!(Case::<Number, 3, Case<Number, 4, NoCase>>::other(one.clone()).expect("another").tag().get(), 4);
-    assert!(matches!(Case::<Number, 4, Case<Number, 4, NoCase>>::other(twice), Err(FormError::OtherTag(4))));
+    let [one, twice] = [Tagged::new(Number::from(7)), Tagged::new(Number::from(8))];
+    assert_eq!(Case::<Number, 3, Tagged<Number, 4>>::other(one.clone()).expect("another").tag().get(), 4);
+    assert!(matches!(Case::<Number, 4, Tagged<Number, 4>>::other(twice), Err(FormError::OtherTag(4))));
     assert!(matches!(from_bytes::<Protocol>(b"\x05"), Err(FormError::OtherTag(5))));
 }
 

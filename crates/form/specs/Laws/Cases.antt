@@ -84,6 +84,12 @@ case_rejects_unique M RejectsA RejectsC this other n e f a b r s (inl (is, _)) (
 case_rejects_unique M RejectsA RejectsC this other n e f a b r s (inr (not, _)) (inl (is, _)) = absurd (not is)
 case_rejects_unique M RejectsA RejectsC this other n e f a b r s (inr (_, x)) (inr (_, y)) = other n e f a b r s x y
 
+-- the same of the last case, which has the tag M
+pub last_not_both : (M : ℕ) (IsValue : List ℕ → Type 0) (Rejects : FormError → List ℕ → Type 0) (e : FormError)
+    → NotBoth IsValue (Rejects e) → NotBoth IsValue (RejectsCase Rejects RejectsNoCase M M e)
+last_not_both M IsValue Rejects e own a b r s is (inl (_, rejects)) cut = own a b r s is rejects cut
+last_not_both M IsValue Rejects e own a b r s is (inr (not, _)) cut = not refl
+
 pub no_case_rejects_unique : (n : ℕ) → OneError (RejectsNoCase n)
 no_case_rejects_unique n e f a b r s (is_e, none) (is_f, also_none) =
     here_unique (OtherTag n) e f a b r s is_e is_f none also_none

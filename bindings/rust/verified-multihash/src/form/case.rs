@@ -15,7 +15,7 @@ pub enum Case<A, const M: u64, C: Cases> {
     Other(Others<C, M>),
 }
 
-/// What follows the tag `M`, which is below 2^63.
+/// What follows the tag `M`, which is below 2^63. As cases it is the last one: no other tag is right.
 #[derive(Clone, Debug, PartialEq, Eq, PartialOrd, Ord, Hash)]
 #[non_exhaustive]
 pub struct Tagged<A, const M: u64> {
@@ -29,10 +29,6 @@ pub struct Others<C: Cases, const M: u64> {
     /// The case.
     pub(crate) case: C,
 }
-
-/// No case, of which there is no value: what comes after the last case.
-#[derive(Clone, Debug, PartialEq, Eq, PartialOrd, Ord, Hash)]
-pub enum NoCase {}
 
 impl<A: Form, const M: u64, C: Cases> Cases for Case<A, M, C> {
     fn tag(&self) -> Number {
@@ -59,16 +55,20 @@ impl<A: Form, const M: u64, C: Cases> Cases for Case<A, M, C> {
     }
 }
 
-impl Cases for NoCase {
+impl<A: Form, const M: u64> Cases for Tagged<A, M> {
     fn tag(&self) -> Number {
-        match *self {}
+        Number { value: M }
     }
 
-    fn write_value<W: Write>(&self, _w: &mut W) -> Result<(), FormError> {
-        match *self {}
+    fn write_value<W: Write>(&self, w: &mut W) -> Result<(), FormError> {
+        self.value.write(w)
     }
 
-    fn read_value<R: Read>(_r: &mut R, tag: Number) -> Result<Self, FormError> {
-        Err(FormError::OtherTag(tag.value))
+    fn read_value<R: Read>(r: &mut R, tag: Number) -> Result<Self, FormError> {
+        if tag.value != M {
+            return Err(FormError::OtherTag(tag.value));
+        }
+        let value = A::read(r)?;
+        Ok(Tagged { value })
     }
 }

@@ -6,7 +6,7 @@ use crate::form::{Form, FormError, Number};
 use crate::no_std_io::{Read, Write};
 use crate::varint;
 
-/// One of the cases of `C`, such as `Case<Bytes<4>, 4, Case<Bytes<2>, 6, NoCase>>`. The encoding is the varint of its
+/// One of the cases of `C`, such as `Case<Bytes<4>, 4, Tagged<Bytes<2>, 6>>`. The encoding is the varint of its
 /// tag, and the encoding of its value.
 ///
 /// `read` returns the errors of [`varint::read`], [`FormError::OtherTag`] with the number that comes next if that is

@@ -1,7 +1,7 @@
 //! Values of the parts, written by hand: they keep the limits that ghost fields state in the proved source. And `form!`,
 //! which makes your own types formats.
 use crate::form::{BigEndian, Block, Both, Bytes, Case, Cases, Choice, Counted, FormError, LittleEndian};
-use crate::form::{NoCase, Number, Others, Tag, Tagged};
+use crate::form::{Number, Others, Tag, Tagged};
 use crate::varint;
 use alloc::vec::Vec;
 use core::ops::Deref;
@@ -35,7 +35,7 @@ parts! {
     [T: Part, const MAX: usize] Counted<T, MAX> = above(T::DEPTH, 0);
     [C: Cases] Choice<C> = above(C::DEPTH, 0);
     [A: Part, const M: u64, C: Cases] Case<A, M, C> = above(A::DEPTH, C::DEPTH);
-    [] NoCase = 0;
+    [A: Part, const M: u64] Tagged<A, M> = A::DEPTH;
 }
 
 macro_rules! derefs {
@@ -154,13 +154,20 @@ impl<T, const MAX: usize> Counted<T, MAX> {
     }
 }
 
-impl<A, const M: u64, C: Cases> Case<A, M, C> {
+impl<A, const M: u64> Tagged<A, M> {
     const IN_RANGE: () = assert!(M <= varint::MAX, "a tag is below 2^63");
 
+    /// Returns the value with the tag `M`. A tag of 2^63 or more does not compile.
+    pub fn new(value: A) -> Self {
+        let () = Self::IN_RANGE;
+        Tagged { value }
+    }
+}
+
+impl<A, const M: u64, C: Cases> Case<A, M, C> {
     /// Returns the case with the tag `M`. A tag of 2^63 or more does not compile.
     pub fn this(value: A) -> Self {
-        let () = Self::IN_RANGE;
-        Case::This(Tagged { value })
+        Case::This(Tagged::new(value))
     }
 
     /// Returns another case.
