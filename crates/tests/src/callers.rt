@@ -106,10 +106,7 @@ fn expect_identifier(rt: &impl Abort, alloc: Global, bytes: &[u8], at: usize) {
     let id = expect_ok!(rt; parts::read_identifier(alloc, bytes));
     let digest = match &id.case {
         Case::This(tagged) => tagged.value.second.digest(),
-        Case::Other(others) => match &others.case {
-            Case::This(tagged) => tagged.value.second.bytes.as_slice(),
-            Case::Other(others) => match others.case {},
-        },
+        Case::Other(others) => others.case.value.second.bytes.as_slice(),
     };
     check_eq!(rt; digest, bytes.get(at..).unwrap_or(&[]));
     check_eq!(rt; expect_ok!(rt; form::to_bytes(alloc, &id)).as_slice(), bytes);
