@@ -33,7 +33,7 @@ class ReadMany(Check):
         self.word = program.word
         self.length, self.room = self.given["bytes_length"], self.given["out_length"]
         self.item = self.header.sizes["multihash_item"]
-        self.most = 1 << (28 if self.word == 32 else 59)  # so many items do not fit in memory
+        self.most = 1 << (28 if self.word == 32 else 59)  # that many items do not fit in memory
         self.count, self.taken = z3.BitVec("count", self.word), z3.BitVec("taken", self.word)
         behind = {
             "bytes": -self.taken,

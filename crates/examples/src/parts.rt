@@ -8,7 +8,7 @@ ghost use Rattle.multihash.specs.Writing.{CountsWriterFailures, IsWriterFaultOrF
 ghost use Rattle.multihash.specs.Refusal.{IsIo, IsOutOfMemory, IsReaderError};
 ghost use Rattle.form.specs.Form.{Then, AreSame, AppendsSome, AppendsPrefixOfSome};
 ghost use Rattle.form.specs.FormError.{IsFailed, IsTruncated};
-ghost use Rattle.form.specs.Rejecting.{ReadStops};
+ghost use Rattle.form.specs.Rejecting.{IsReadError, ReadStops};
 ghost use Rattle.form.specs.Stream.{rest_from, AppendsUpTo, AppendsSame};
 ghost use Rattle.form.specs.declared.error.FormError.TheVariants.{Trailing};
 ghost use Rattle.examples.specs.Node.{IsNode};
@@ -75,6 +75,9 @@ pub fn read_address(alloc: Global, bytes: &[u8]) -> Result<Vec<AddressPart>, For
     ensures ok { IfOk result (λ list. AreParts ⟦<AddressPart as Form>⟧.is_form list.items bytes.now) }
     ensures found { (xs : List _) → AreParts ⟦<AddressPart as Form>⟧.is_form xs bytes.now →
         MatchResult result (λ list. AreSame ⟦<AddressPart as Form>⟧.same list.items xs) (IsFailed IsOutOfMemory) }
+    ensures err { IfErr result (λ e. (xs : List _) × (front : List ℕ) × (rest : List ℕ)
+        × AreParts ⟦<AddressPart as Form>⟧.is_form xs front × (bytes.now ≡ front ++ rest)
+        × IsReadError ⟦<AddressPart as Form>⟧.is_form ⟦<AddressPart as Form>⟧.rejects e rest) }
 {
     form::all_from_bytes::<AddressPart>(alloc, bytes)
 }

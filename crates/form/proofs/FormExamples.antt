@@ -143,7 +143,7 @@ other_value r =
     let (c, are, consumes) = r.consumed in
     let cut : 1 ∷ [] ≡ c = all_read (1 ∷ []) c (Some []) consumes refl in
     let (part, rest, is, none, split) = subst (λ (l : List ℕ). AreParts IsByte l c) (sym r.appended) are in
-    let whole : 1 ∷ [] ≡ 2 ∷ [] = cut ∙ split ∙ ap (λ (l : List ℕ). l ++ rest) is ∙ ap (λ (l : List ℕ). 2 ∷ l) none in
+    let whole : ◌≡◌ {A = List ℕ} (1 ∷ []) (2 ∷ []) = cut ∙ split ∙ ap (λ (l : List ℕ). l ++ rest) is ∙ ap (λ (l : List ℕ). 2 ∷ l) none in
     let heads : ◌≡◌ {A = ℕ} 1 2 = cc in
     omega (arith, heads)
 
@@ -151,7 +151,7 @@ other_value r =
 stopped_early : ¬ (AppendsUpTo IsByte 1 [] [] (Some (1 ∷ [])) (Some (1 ∷ [])))
 stopped_early r = elim r.number [
   | inl all ↦ omega (arith, all, ap length r.reads.appended)
-  | inr (few, ended) ↦ let none : 1 ∷ [] ≡ [] = ended in cc
+  | inr (few, ended) ↦ let none : ◌≡◌ {A = List ℕ} (1 ∷ []) [] = ended in cc
 ]
 
 one_too_many : ¬ (AppendsUpTo IsByte 0 [] (1 ∷ []) (Some (1 ∷ [])) (Some []))

@@ -1,10 +1,11 @@
 //! A block of bytes with its length before it.
-ghost use Rattle.std.specs.Prelude.{◌≡◌, ◌<◌, ◌≤◌, ◌⊎◌, ◌↔◌, ℕ, length, vec_len, IfOk, IfErr, IsErr};
+ghost use Rattle.std.specs.Prelude.{◌≡◌, ◌<◌, ◌≤◌, ◌⊎◌, ℕ, length, vec_len, IfOk, IfErr};
 ghost use Rattle.multihash.specs.Varint.{varint_limit};
 ghost use Rattle.multihash.specs.Reading.{Consumes, CountsReaderFailures};
 ghost use Rattle.multihash.specs.Consuming.{ExactFails};
 ghost use Rattle.multihash.specs.Refusal.{IsEof, IsOutOfMemory, IsReaderError};
 ghost use Rattle.form.specs.FormError.{IsFailed};
+ghost use Rattle.form.specs.declared.error.FormError.TheVariants.{TooLong};
 
 use crate::{Form, FormError};
 use multihash::no_std_io::{Read, Write};
@@ -35,7 +36,7 @@ impl<const MAX: usize> Block<MAX> {
     /// [`FormError::TooLong`] if there are more than `MAX` bytes.
     pub fn new(bytes: Vec<u8>) -> Result<Self, FormError>
         ensures ok { IfOk result (λ x. x.bytes.items ≡ bytes.items) }
-        ensures err { IsErr result ↔ (MAX < vec_len bytes) }
+        ensures err { IfErr result (λ e. (e ≡ TooLong (vec_len bytes)) × (MAX < vec_len bytes)) }
     {
         if bytes.len() > MAX {
             return Err(FormError::TooLong(bytes.len() as u64));
@@ -47,7 +48,6 @@ impl<const MAX: usize> Block<MAX> {
 impl<const MAX: usize> Form for Block<MAX> {
     ghost use Rattle.multihash.specs.Refusal.{IsAnyVarintError};
     ghost use Rattle.form.specs.Form.{IsBlock};
-    ghost use Rattle.form.specs.declared.error.FormError.TheVariants.{TooLong};
     ghost use Rattle.form.specs.Rejecting.{RejectsNumberThen, RejectsTooLong};
     ghost use Rattle.form.specs.Laws.Parts.{block_exists, block_unique, block_one, block_some};
     ghost use Rattle.form.specs.Laws.Rejected.{block_not_both, block_rejects_unique, from_rejects_some};

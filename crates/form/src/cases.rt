@@ -15,7 +15,7 @@ use multihash::no_std_io::{Read, Write};
 use std::alloc::Global;
 
 /// A value that has a tag, which determines how the value is encoded: what a [`Choice`](crate::Choice) is made of.
-/// [`Case`](crate::Case) implements it.
+/// [`Case`](crate::Case) and [`Tagged`](crate::Tagged) implement it.
 ///
 /// The laws at the end are those of [`Form`](crate::Form), of values with one tag.
 pub trait Cases {

@@ -8,7 +8,7 @@ use std::alloc::Global;
 
 /// A number below 256^`N` in `N` bytes, the highest of them first. `N` is 1 to 8.
 ///
-/// `read` returns an unexpected end if fewer bytes remain.
+/// `read` returns an unexpected end if fewer bytes remain, or if `N` is not 1 to 8.
 #[derive(Clone, Copy, Debug)]
 pub struct BigEndian<const N: usize> {
     /// The number.
@@ -66,7 +66,7 @@ impl<const N: usize> Form for BigEndian<N> {
 
 /// A number below 256^`N` in `N` bytes, the lowest of them first. `N` is 1 to 8.
 ///
-/// `read` returns an unexpected end if fewer bytes remain.
+/// `read` returns an unexpected end if fewer bytes remain, or if `N` is not 1 to 8.
 #[derive(Clone, Copy, Debug)]
 pub struct LittleEndian<const N: usize> {
     /// The number.

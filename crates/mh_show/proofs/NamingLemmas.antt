@@ -40,12 +40,12 @@ named_pairs i (two ∷ digits) (byte ∷ bytes) h =
 -- `hex` decodes what a line names
 pub named_decodes : (line bytes : List ℕ) → NamesBytes line bytes → decode_of line ≡ Ok bytes
 named_decodes line bytes n =
-    let even : length line % 2 ≡ 0 = omega (arith, ap length n.spelled, length-two_digits n.digits) in
-    decode_of-even line even ∙ ap (decode_pairs 0) n.spelled ∙ named_pairs 0 n.digits bytes n.each
+    let even : length line % 2 ≡ 0 = omega (arith, ap length n.encoded, length-two_digits n.digits) in
+    decode_of-even line even ∙ ap (decode_pairs 0) n.encoded ∙ named_pairs 0 n.digits bytes n.each
 
 -- an even number of digits names bytes
 digits_name : (line : List ℕ) → length line % 2 ≡ 0 → AllPass is_hex_digit line → (bytes : List ℕ) × NamesBytes line bytes
-digits_name [] even h = ([], record { digits = []; spelled = refl; each = tt })
+digits_name [] even h = ([], record { digits = []; encoded = refl; each = tt })
 digits_name (high ∷ []) even h = absurd (omega arith)
 digits_name (high ∷ low ∷ line) even h =
     let tail = All-tail (λ c. is_hex_digit c ≡ true) high (low ∷ line) h in
@@ -55,7 +55,7 @@ digits_name (high ∷ low ∷ line) even h =
       (16 * a.0 + b.0) ∷ rest.0,
       record {
         digits = (high, low) ∷ rest.1.digits;
-        spelled = ap (λ (l : List ℕ). high ∷ low ∷ l) rest.1.spelled;
+        encoded = ap (λ (l : List ℕ). high ∷ low ∷ l) rest.1.encoded;
         each = (record { high = a.0; low = b.0; is_high = a.1; is_low = b.1; value = refl }, rest.1.each);
       },
     )

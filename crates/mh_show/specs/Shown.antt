@@ -44,7 +44,7 @@ pub record NamesByte (digits : ℕ × ℕ) (byte : ℕ) : Type 0 where
 -- each two digits of the line encode one byte
 pub record NamesBytes (line bytes : List ℕ) : Type 0 where
   pub digits : List (ℕ × ℕ)
-  pub spelled : line ≡ flat_map (λ two. two.0 ∷ two.1 ∷ []) digits
+  pub encoded : line ≡ flat_map (λ two. two.0 ∷ two.1 ∷ []) digits
   pub each : AllZip NamesByte digits bytes
 
 -- the text encodes the bytes of a pair, and the lines are those of the pair

@@ -246,7 +246,7 @@ module _ (code size len : ℕ) (input : List ℕ) (h : HasHead code size len inp
   pub head_of_encoding : (p : Pair) → IsEncoding p input → (code ≡ p.code) × (size ≡ length p.digest) × (drop len input ≡ p.digest)
   head_of_encoding p e =
       let own : BeginsWithSize (length p.digest) input p.digest =
-      record { code = p.code; code_bytes = e.code; size_bytes = e.size; is_code = e.is_code; is_size = e.is_size; cut = e.spelled } in
+      record { code = p.code; code_bytes = e.code; size_bytes = e.size; is_code = e.is_code; is_size = e.is_size; cut = e.encoded } in
       let once = sizes_once size (length p.digest) input (drop len input) p.digest h.varints own in
       (sym h.is_code ∙ once.0, once.1, once.2)
 

@@ -24,7 +24,7 @@ encoding_of_parts p a b same_code same_size same_digest is_code is_size = record
   size = b;
   is_code = subst (λ n. IsVarint n a) same_code is_code;
   is_size = subst (λ n. IsVarint n b) same_size is_size;
-  spelled = ap (λ z. a ++ (b ++ z)) same_digest;
+  encoded = ap (λ z. a ++ (b ++ z)) same_digest;
 }
 
 -- the length of three parts
@@ -44,7 +44,7 @@ same_cut a b x y l e =
 -- the parts of an encoding and of what follows it
 pub encoding_cut : (p : Pair) (a x : List ℕ) (e : IsEncoding p a) → a ++ x ≡ e.code ++ (e.size ++ (p.digest ++ x))
 encoding_cut p a x e =
-    ap (λ (z : List ℕ). z ++ x) e.spelled
+    ap (λ (z : List ℕ). z ++ x) e.encoded
     ∙ (append_assoc e.code (e.size ++ p.digest) x ∙ ap (λ (z : List ℕ). e.code ++ z) (append_assoc e.size p.digest x))
 
 -- two encodings at the front of one input are equal, of the same pair, and so is what follows them
@@ -62,8 +62,8 @@ encoding_unique p q a b x y e f same =
 pub encoding_same : (p : Pair) (a b : List ℕ) → IsEncoding p a → IsEncoding p b → a ≡ b
 encoding_same p a b e f =
     cc (
-      e.spelled,
-      f.spelled,
+      e.encoded,
+      f.encoded,
       varint_same p.code e.code f.code e.is_code f.is_code,
       varint_same (length p.digest) e.size f.size e.is_size f.is_size,
     )
@@ -73,7 +73,7 @@ pub encoding_exists : (p : Pair) → p.code < varint_limit → length p.digest <
 encoding_exists p code size =
     let c = varint_exists p.code code in
     let s = varint_exists (length p.digest) size in
-    (c.0 ++ (s.0 ++ p.digest), record { code = c.0; size = s.0; is_code = c.1; is_size = s.1; spelled = refl })
+    (c.0 ++ (s.0 ++ p.digest), record { code = c.0; size = s.0; is_code = c.1; is_size = s.1; encoded = refl })
 
 -- an encoding is at most the code's bytes, two of the size, and the digest
 pub encoding_length : (p : Pair) (bytes : List ℕ) → IsEncoding p bytes → length p.digest ≤ 255
@@ -81,7 +81,7 @@ pub encoding_length : (p : Pair) (bytes : List ℕ) → IsEncoding p bytes → l
 encoding_length p bytes e fits =
     omega (
       arith,
-      ap length e.spelled,
+      ap length e.encoded,
       length-append e.code (e.size ++ p.digest),
       length-append e.size p.digest,
       varint_longest p.code e.code e.is_code,
@@ -96,12 +96,12 @@ varint_is_bytes n bytes v =
     let last = All-head (λ d. d < 128) v.last [] (All-append_right (λ d. d < 128) v.front (v.last ∷ []) v.digits) in
     let front : IsBytes (continuation_bytes v.front) =
     All-map (λ b. b < 256) (λ d. d + 128) v.front (λ k d below. omega (arith, digits k d below)) in
-    rw v.spelled (All-push (λ b. b < 256) (continuation_bytes v.front) v.last front (omega (arith, last)))
+    rw v.encoded (All-push (λ b. b < 256) (continuation_bytes v.front) v.last front (omega (arith, last)))
 
 -- the numbers of an encoding are bytes if those of the digest are
 pub encoding_bytes : (p : Pair) (bytes : List ℕ) → IsBytes p.digest → IsEncoding p bytes → IsBytes bytes
 encoding_bytes p bytes digest e =
-    All-same (λ b. b < 256) bytes (e.code ++ (e.size ++ p.digest)) e.spelled
+    All-same (λ b. b < 256) bytes (e.code ++ (e.size ++ p.digest)) e.encoded
     (All-append (λ b. b < 256) e.code (e.size ++ p.digest) (varint_is_bytes p.code e.code e.is_code)
     (All-append (λ b. b < 256) e.size p.digest (varint_is_bytes (length p.digest) e.size e.is_size) digest))
 
@@ -136,7 +136,7 @@ is_encoding_of p code size = record {
   size = varint_of (length p.digest);
   is_code = is_varint_of p.code code;
   is_size = is_varint_of (length p.digest) size;
-  spelled = refl;
+  encoded = refl;
 }
 
 -- each encoding of a pair is `encoding_of` the pair

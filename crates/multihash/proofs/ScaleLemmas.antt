@@ -66,7 +66,7 @@ pub scale_of : (p : Pair) (size : ℕ) (a digest : List ℕ) → IsScaleCode p.c
     → size ≡ length p.digest → size < 256
     → digest ≡ p.digest → IsScale p (a ++ size ∷ digest)
 scale_of p size a digest is_code below long byte same =
-    record { code = a; is_code = is_code; in_range = below; size = omega (arith, long, byte); spelled = cc (long, same) }
+    record { code = a; is_code = is_code; in_range = below; size = omega (arith, long, byte); encoded = cc (long, same) }
 
 pub scale_exists : (p : Pair) → p.code < varint_limit → length p.digest < 256 → (bytes : List ℕ) × IsScale p bytes
 scale_exists p below size = (_, scale_of p _ _ p.digest (code_bytes p.code (omega (arith, below))) below refl size refl)
@@ -76,11 +76,11 @@ pub scale_same : (p : Pair) (a b : List ℕ) → IsScale p a → IsScale p b →
 scale_same p a b h k =
     let codes = place_value_unique 256 h.code k.code h.is_code.are_bytes k.is_code.are_bytes (h.is_code.eight ∙ sym k.is_code.eight)
     (h.is_code.value ∙ sym k.is_code.value) in
-    cc (codes, h.spelled, k.spelled)
+    cc (codes, h.encoded, k.encoded)
 
 -- eight bytes of the code, one of the size, and the digest
 pub scale_length : (p : Pair) (bytes : List ℕ) → IsScale p bytes → length bytes ≡ 9 + length p.digest
-scale_length p bytes h = omega (arith, ap length h.spelled, length-append h.code (length p.digest ∷ p.digest), h.is_code.eight)
+scale_length p bytes h = omega (arith, ap length h.encoded, length-append h.code (length p.digest ∷ p.digest), h.is_code.eight)
 
 -- ---- the verdict, computed
 
@@ -113,7 +113,7 @@ found_after k S code x bytes rest eight is cut =
 scale_found_is : (k S : ℕ) (x : List ℕ) (v : Verdict) → k ≡ 8 → HasScaleVerdict S x v → found_at k S x ≡ v
 scale_found_is k S x (accepted p) eight (bytes, rest, h, fits, cut) =
     found_after k S p.code x h.code (length p.digest ∷ (p.digest ++ rest)) eight h.is_code
-    (cut ∙ (ap (λ (z : List ℕ). z ++ rest) h.spelled ∙ append_assoc h.code (length p.digest ∷ p.digest) rest))
+    (cut ∙ (ap (λ (z : List ℕ). z ++ rest) h.encoded ∙ append_assoc h.code (length p.digest ∷ p.digest) rest))
     ∙ rw (
       lt-ltb p.code varint_limit h.in_range,
       le-ltb S (length p.digest) fits,

@@ -200,7 +200,7 @@ varint_no_sooner n bytes v p begins =
       last = v.last;
       all_continuation = All-continuation_bytes v.front;
       few = few;
-      cut = v.spelled;
+      cut = v.encoded;
     }) begins
 
 -- the input's verdict is incomplete
@@ -219,7 +219,7 @@ before_both S code size f t p is_code is_size = before_second S code f t p is_co
 
 pub before_digest : (S : ℕ) (p : Pair) (t x : List ℕ) → IsEncoding p t → FitsBuffer S p → IsStrictPrefix x t → IsIncompleteInput S x
 before_digest S p t x e fits (rest, some, cut) =
-    elim (split_prefix (e.code ++ e.size) p.digest x (rest, some, append_assoc e.code e.size p.digest ∙ (sym e.spelled ∙ cut))) [
+    elim (split_prefix (e.code ++ e.size) p.digest x (rest, some, append_assoc e.code e.size p.digest ∙ (sym e.encoded ∙ cut))) [
       | inl sooner ↦ before_both S p.code (length p.digest) e.code e.size x e.is_code e.is_size sooner
       | inr (z, z_cut, (left, some, d_cut)) ↦
           let both = sized p.code (length p.digest) e.code e.size x z e.is_code e.is_size (z_cut ∙ append_assoc e.code e.size z) in

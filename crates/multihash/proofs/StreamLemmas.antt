@@ -131,7 +131,7 @@ module _ {A : Type 0} (IsPart : A → List ℕ → Type 0) where
 
 -- an encoding is not empty
 pub encoding_some : (p : Pair) (bytes : List ℕ) → IsEncoding p bytes → 0 < length bytes
-encoding_some p bytes e = omega (arith, varint_some p.code e.code e.is_code, ap length e.spelled, length-append e.code (e.size ++ p.digest))
+encoding_some p bytes e = omega (arith, varint_some p.code e.code e.is_code, ap length e.encoded, length-append e.code (e.size ++ p.digest))
 
 -- the bytes of concatenated encodings determine the pairs
 pub concatenated_whole : (ps qs : List Pair) (bytes : List ℕ) → AreConcatenated ps bytes → AreConcatenated qs bytes → ps ≡ qs

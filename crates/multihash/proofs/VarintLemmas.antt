@@ -47,7 +47,7 @@ varint_same n a b v w =
     omega (arith, length_push v.front v.last, length_push w.front w.last, front_no_longer n a b v w, front_no_longer n b a w v) in
     let digits = place_value_unique 128 (v.front ++ v.last ∷ []) (w.front ++ w.last ∷ []) v.digits w.digits long (v.value ∙ sym w.value) in
     let same = same_from_push v.front w.front v.last w.last digits in
-    cc (v.spelled, w.spelled, same.0, same.1)
+    cc (v.encoded, w.encoded, same.0, same.1)
 
 -- ---- what bytes encode
 
@@ -79,7 +79,7 @@ varint_from_bytes ms b bytes all small few most minimal = record {
   minimal = λ z. ap low_digits (minimal z);
   value = ap (place_value 128) (sym (map_push (λ b. b % 128) ms b ∙ ap (λ d. low_digits ms ++ d ∷ []) (mod-eq_of_lt small)));
   in_range = low_digits_in_range ms b few most;
-  spelled = ap (λ front. front ++ b ∷ []) (sym (continuation_bytes-low_digits ms bytes all));
+  encoded = ap (λ front. front ++ b ∷ []) (sym (continuation_bytes-low_digits ms bytes all));
 }
 
 -- a byte after the most continuation bytes that is too large overflows
@@ -158,7 +158,7 @@ front_is x (number n rest) (bytes, v, cut) =
     let few = varint_length n bytes v in
     let ms = continuation_bytes v.front in
     let long : length ms ≡ length v.front = length-map v.front (λ d. d + 128) in
-    let whole : x ≡ ms ++ v.last ∷ rest = cut ∙ ap (λ b. b ++ rest) v.spelled ∙ append_assoc ms (v.last ∷ []) rest in
+    let whole : x ≡ ms ++ v.last ∷ rest = cut ∙ ap (λ b. b ++ rest) v.encoded ∙ append_assoc ms (v.last ∷ []) rest in
     let last : v.last < 128 = All-head IsDigit v.last [] (All-append_right IsDigit v.front (v.last ∷ []) v.digits) in
     let front = All-append_left IsDigit v.front (v.last ∷ []) v.digits in
     let value : place_value 128 (low_digits (ms ++ v.last ∷ [])) ≡ n =
@@ -231,7 +231,7 @@ varint_unique m n a b r s is also e =
 -- a varint has one byte more than its continuation bytes
 pub varint_bytes : (n : ℕ) (bytes : List ℕ) (v : IsVarint n bytes) → length bytes ≡ length v.front + 1
 varint_bytes n bytes v =
-    omega (arith, ap length v.spelled, length-append (continuation_bytes v.front) (v.last ∷ []), length-map v.front (λ digit. digit + 128))
+    omega (arith, ap length v.encoded, length-append (continuation_bytes v.front) (v.last ∷ []), length-map v.front (λ digit. digit + 128))
 
 -- a varint is not empty
 pub varint_some : (n : ℕ) (bytes : List ℕ) → IsVarint n bytes → 0 < length bytes

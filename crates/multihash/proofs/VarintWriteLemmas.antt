@@ -19,7 +19,7 @@ pub record Wrote (now : List ℕ) (len n rest : ℕ) : Type 0 where
   pub digits : All IsDigit front
   pub more : 0 < len → 0 < rest
   pub value : n ≡ place_value 128 front + rest * 128 ^ len
-  pub spelled : now ≡ continuation_bytes front
+  pub encoded : now ≡ continuation_bytes front
 
 pub none_wrote : (n : ℕ) → Wrote [] 0 n n
 none_wrote n = record {
@@ -28,7 +28,7 @@ none_wrote n = record {
   digits = All-nil IsDigit;
   more = λ some. absurd (omega (arith, some));
   value = rw place_value-nil (omega arith);
-  spelled = refl;
+  encoded = refl;
 }
 
 continuation_byte : (rest : ℕ) → bit_or (bit_and rest 127) 128 ≡ rest % 128 + 128
@@ -45,7 +45,7 @@ module _ {now : List ℕ} {len n rest : ℕ} (h : Wrote now len n rest) where
     value =
         rw (place_value_last 128 (rest % 128) h.front, h.long, add-one, pow-suc 128 len)
         (omega (arith, h.value, ap (λ (m : ℕ). m * 128 ^ len) (div-add-mod' rest 128)));
-    spelled = e ∙ rw (continuation_byte rest, h.spelled) (sym (map_push (λ d. d + 128) h.front (rest % 128)));
+    encoded = e ∙ rw (continuation_byte rest, h.encoded) (sym (map_push (λ d. d + 128) h.front (rest % 128)));
   }
 
   module _ (range : n < varint_limit) where
@@ -58,7 +58,7 @@ module _ {now : List ℕ} {len n rest : ℕ} (h : Wrote now len n rest) where
           (omega (arith, h.long, lt_of_not-le (λ (some : 1 ≤ len). omega (arith, h.more (omega arith), z))));
       value = rw h.long at (place_value_last 128 rest h.front) ∙ sym h.value;
       in_range = range;
-      spelled = ap (λ (z : List ℕ). z ++ rest ∷ []) h.spelled;
+      encoded = ap (λ (z : List ℕ). z ++ rest ∷ []) h.encoded;
     }
 
     -- fewer digits have been written than a varint may have

@@ -101,7 +101,7 @@ pub pair_begins : (size : ℕ) (x rest : List ℕ) (h : BeginsWithSize size x re
 pair_begins size x rest h digest after long split =
     let p : Pair = record { code = h.code; digest = digest } in
     let encodes : IsEncoding p (h.code_bytes ++ (h.size_bytes ++ digest)) =
-    record { code = h.code_bytes; size = h.size_bytes; is_code = h.is_code; is_size = rw long h.is_size; spelled = refl } in
+    record { code = h.code_bytes; size = h.size_bytes; is_code = h.is_code; is_size = rw long h.is_size; encoded = refl } in
     record {
       encoding = h.code_bytes ++ (h.size_bytes ++ digest);
       encodes = encodes;

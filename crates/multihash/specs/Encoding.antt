@@ -10,7 +10,7 @@ pub record IsEncoding (p : Pair) (bytes : List ℕ) : Type 0 where
   pub size : List ℕ
   pub is_code : IsVarint p.code code
   pub is_size : IsVarint (length p.digest) size
-  pub spelled : bytes ≡ code ++ (size ++ p.digest)
+  pub encoded : bytes ≡ code ++ (size ++ p.digest)
 
 -- At most `most` bytes come before the last.
 -- The base-128 digits of a number, lowest first, each but the last with 128 added

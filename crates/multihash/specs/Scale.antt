@@ -20,7 +20,7 @@ pub record IsScale (p : Pair) (bytes : List ℕ) : Type 0 where
   pub is_code : IsScaleCode p.code code
   pub in_range : p.code < varint_limit
   pub size : length p.digest < 256
-  pub spelled : bytes ≡ code ++ length p.digest ∷ p.digest
+  pub encoded : bytes ≡ code ++ length p.digest ∷ p.digest
 
 -- the input is the eight bytes of a code in range, the size, and the rest
 pub record HasScaleSize (size : ℕ) (input rest : List ℕ) : Type 0 where

@@ -31,7 +31,7 @@ pub record IsVarint (n : ℕ) (bytes : List ℕ) : Type 0 where
   pub minimal : last ≡ 0 → front ≡ []
   pub value : place_value 128 (front ++ last ∷ []) ≡ n
   pub in_range : n < varint_limit
-  pub spelled : bytes ≡ continuation_bytes front ++ last ∷ []
+  pub encoded : bytes ≡ continuation_bytes front ++ last ∷ []
 
 -- the ways in which the varint at the front of an input is malformed
 pub data VarintError : Type 0 where

@@ -85,11 +85,11 @@ reports_same input a b unexpected_eof h k = (errors_same a b 6 0 0 h k).0
 
 consumes_no_byte_after_form : ¬ (ConsumesForm (accepted (pair 0 [])) (zeros ++ 0 ∷ 7 ∷ []) 10)
 consumes_no_byte_after_form h =
-    omega (arith, ap (λ (z : List ℕ). length z) h.spelled, h.is_code.eight, length-append h.code (0 ∷ []))
+    omega (arith, ap (λ (z : List ℕ). length z) h.encoded, h.is_code.eight, length-append h.code (0 ∷ []))
 
 consumes_no_part_of_form : ¬ (ConsumesForm (accepted (pair 0 [])) (zeros ++ 0 ∷ []) 8)
 consumes_no_part_of_form h =
-    omega (arith, ap (λ (z : List ℕ). length z) h.spelled, h.is_code.eight, length-append h.code (0 ∷ []))
+    omega (arith, ap (λ (z : List ℕ). length z) h.encoded, h.is_code.eight, length-append h.code (0 ∷ []))
 
 -- ---- no size is rejected
 

@@ -59,7 +59,7 @@ writes_form IsForm p old new n e short small counted kept told (bytes, is_form, 
 pub more_follows : {now bytes : List ℕ} {len n rest : ℕ} → Wrote now len n rest → IsVarint n bytes → len < length bytes
 more_follows {now = now} {bytes = bytes} {len = len} {n = n} {rest = rest} h v =
     let long : length bytes ≡ length (v.front ++ v.last ∷ []) =
-    ap length v.spelled ∙ omega (
+    ap length v.encoded ∙ omega (
       arith,
       length_push (map (λ d. d + 128) v.front) v.last,
       length_push v.front v.last,

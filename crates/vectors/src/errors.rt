@@ -64,7 +64,7 @@ pub fn print_errors(page: &mut Page) {
         "from_bytes::<0>([80 00])" => Mh::from_bytes(&[128, 0]),
         "from_value::<0>(null)" => Mh::from_value(&Value::Null),
         "from_bytes::<1>([00 01])" => Multihash::<1>::from_bytes(&[0, 1]),
-        "default::<0>().write(0 places)" => Mh::default().write(&mut [].as_mut_slice()),
+        "default::<0>().write(a slice of 0)" => Mh::default().write(&mut [].as_mut_slice()),
         "a reader's out_of_memory()" => Mh::read(&mut reader),
         "a reader's other(\"link down\")" => Mh::read(&mut other),
         "from(no_std_io::Error::other(\"x\"))" => own,

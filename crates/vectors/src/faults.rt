@@ -63,20 +63,20 @@ fn put_failed_write(page: &mut Page, call: Call, len: usize, calls: usize) {
     }
 }
 
-fn put_short_write(page: &mut Page, call: Call, room: usize, most: usize)
+fn put_short_write(page: &mut Page, call: Call, capacity: usize, most: usize)
     requires { 0 < most }
 {
-    if let Ok(mut drip) = Drip::new(page.alloc, room, most) {
+    if let Ok(mut drip) = Drip::new(page.alloc, capacity, most) {
         put_write(page, call, &mut drip);
         page.put_written(&drip.held);
     }
     page.answer("; ");
 }
 
-fn put_slice_write(page: &mut Page, call: Call, room: usize) {
-    if let Ok(mut places) = vec![in page.alloc; 0u8; room] {
-        put_write(page, call, &mut places.as_mut_slice());
-        page.put_written(&places);
+fn put_slice_write(page: &mut Page, call: Call, capacity: usize) {
+    if let Ok(mut bytes) = vec![in page.alloc; 0u8; capacity] {
+        put_write(page, call, &mut bytes.as_mut_slice());
+        page.put_written(&bytes);
     }
 }
 
@@ -95,11 +95,11 @@ fn print_writes(page: &mut Page, call: Call, len: usize) {
         put_short_write(page, call, len, most);
     }
     page.end();
-    for room in 0..end {
-        page.put(format_args!("room for {room}, a slice of {room}"));
+    for capacity in 0..end {
+        page.put(format_args!("capacity {capacity}, a slice of {capacity}"));
         page.call("");
-        put_short_write(page, call, room, 1);
-        put_slice_write(page, call, room);
+        put_short_write(page, call, capacity, 1);
+        put_slice_write(page, call, capacity);
         page.end();
     }
 }
@@ -113,7 +113,7 @@ fn print_faults_of(page: &mut Page, call: Call, (reads, writes): (&str, &str), i
     page.put(writes);
     page.put(" of ");
     call.put(page, &mut { input });
-    page.heading(", to writers that fail once, or have room for so many bytes");
+    page.heading(", to writers that fail once, and to writers of each capacity");
     print_writes(page, call, input.len().saturating_sub(1));
 }
 

@@ -90,7 +90,7 @@ pub fn print_lists(page: &mut Page) {
     let none = Outcome(write_list::<4, _>(&[], &mut [].as_mut_slice()));
     rows!(page;
         written "write_list((0, \"A\"), (18, \"B\")) into a vector" => outcome, &held;
-        written "write_list(none) into 0 places" => none, &[];
+        written "write_list(none) into a slice of 0" => none, &[];
     );
 }
 
@@ -141,42 +141,42 @@ pub fn print_readers(page: &mut Page) {
     );
 }
 
-// Into a slice of that many places.
-fn print_places<const S: usize>(page: &mut Page, digest: &[u8], room: usize)
+// Into a slice of that many bytes.
+fn print_write_to_slice<const S: usize>(page: &mut Page, digest: &[u8], capacity: usize)
     requires { S < 2 ^ 16 }
 {
     page.put("wrap::<");
     page.put(S);
     page.put(">(0, ");
     page.put_bytes(digest);
-    page.put(").write(");
-    page.put(room);
-    page.call(" places)");
+    page.put(").write(a slice of ");
+    page.put(capacity);
+    page.call(")");
     let m = Multihash::<S>::wrap(0, digest).unwrap_or_default();
-    if let Ok(mut places) = vec![in page.alloc; 0; room] {
-        page.put(Outcome(m.write(&mut places.as_mut_slice())));
-        page.put_written(&places);
+    if let Ok(mut bytes) = vec![in page.alloc; 0; capacity] {
+        page.put(Outcome(m.write(&mut bytes.as_mut_slice())));
+        page.put_written(&bytes);
     }
     page.end();
 }
 
 fn print_slice_writes(page: &mut Page) {
-    let mut places = [0; 2];
-    let mut left = places.as_mut_slice();
+    let mut bytes = [0; 2];
+    let mut left = bytes.as_mut_slice();
     let short = Outcome(left.write_all(&[7, 8, 9]));
-    let room = left.len();
+    let bytes_left = left.len();
     let none = Outcome([].as_mut_slice().write_all(&[]));
     rows!(page;
-        written "2 places, write_all([07 08 09])" => short, &places;
-        row "  and the places left" => room;
-        written "0 places, write_all([])" => none, &[];
+        written "a slice of 2, write_all([07 08 09])" => short, &bytes;
+        row "  and the bytes left" => bytes_left;
+        written "a slice of 0, write_all([])" => none, &[];
     );
 }
 
 fn print_drip_writes(page: &mut Page) {
     if let Ok(mut drip) = Drip::new(page.alloc, 5, 2) {
         rows!(page;
-            row "room for 5 by 2 bytes a call, write([01 02 03])" => Outcome(drip.write(&[1, 2, 3]));
+            row "capacity 5, 2 bytes a call, write([01 02 03])" => Outcome(drip.write(&[1, 2, 3]));
             row "  then write_all([03 04 05 06])" => Outcome(drip.write_all(&[3, 4, 5, 6]));
             bytes "  and it has" => &drip.held;
         );
@@ -203,8 +203,8 @@ pub fn print_writers(page: &mut Page) {
         row "<&mut [u8] as Write>::ALLOCATES" => <&mut [u8] as Write>::ALLOCATES;
         row "<&mut &mut [u8] as Write>::ALLOCATES" => <&mut &mut [u8] as Write>::ALLOCATES;
     );
-    print_places::<4>(page, b"ABC", 4);
-    print_places::<4>(page, b"ABC", 5);
-    print_places::<4>(page, &[], 2);
-    print_places::<300>(page, &[0; 255], 258);
+    print_write_to_slice::<4>(page, b"ABC", 4);
+    print_write_to_slice::<4>(page, b"ABC", 5);
+    print_write_to_slice::<4>(page, &[], 2);
+    print_write_to_slice::<300>(page, &[0; 255], 258);
 }

@@ -7,7 +7,7 @@ use crate::no_std_io::{self, Read, Write};
 
 /// A number below 256^`N` in `N` bytes, the highest of them first. `N` is 1 to 8.
 ///
-/// `read` returns an unexpected end if fewer bytes remain.
+/// `read` returns an unexpected end if fewer bytes remain, or if `N` is not 1 to 8.
 #[derive(Clone, Copy, Debug, PartialEq, Eq, PartialOrd, Ord, Hash)]
 pub struct BigEndian<const N: usize> {
     /// The number.
@@ -34,7 +34,7 @@ impl<const N: usize> Form for BigEndian<N> {
 
 /// A number below 256^`N` in `N` bytes, the lowest of them first. `N` is 1 to 8.
 ///
-/// `read` returns an unexpected end if fewer bytes remain.
+/// `read` returns an unexpected end if fewer bytes remain, or if `N` is not 1 to 8.
 #[derive(Clone, Copy, Debug, PartialEq, Eq, PartialOrd, Ord, Hash)]
 pub struct LittleEndian<const N: usize> {
     /// The number.

@@ -19,7 +19,7 @@ form g c =
       is_code = is_code;
       in_range = c.args.self.now.in_range;
       size = omega (arith, c.digest-digest.ensures.fits);
-      spelled = rw (head, c.digest-digest.ensures.digest) (append_assoc code _ _);
+      encoded = rw (head, c.digest-digest.ensures.digest) (append_assoc code _ _);
     }
 
 pub returns-in_err-write_all-clause-err : goal.returns-in_err-write_all-clause-err
