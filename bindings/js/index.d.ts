@@ -32,8 +32,8 @@ export class MultihashError extends Error implements Details {
   readonly code?: Wide;
   readonly taken?: number;
   /**
-   * Whether the input is truncated: it ends before or inside a varint, or inside the digest. In `read`, `readMany`,
-   * `readVarint`, `head`, `scaleDecode` and `MultihashReader` more input can change the result only then.
+   * Whether the input is truncated: it ends before or inside a varint, or before the end of the digest. In `read`,
+   * `readMany`, `readVarint`, `head`, `scaleDecode` and `MultihashReader` more input can change the result only then.
    */
   readonly isIncomplete: boolean;
   /** The same fields as a plain object, which `structuredClone` and `postMessage` keep in most engines. */

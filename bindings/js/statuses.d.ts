@@ -14,7 +14,7 @@ export const STATUSES: readonly [
   'invalid_size',
   /* The code is 2^63 or more. A decoding returns it in `code`. */
   'invalid_code',
-  /* The input ends inside the digest or, in SCALE, before it. More input can change the result. */
+  /* The input ends before the end of the digest, after any varints. More input can change the result. */
   'unexpected_eof',
   /* `out` is too small. `length` is the size it needs. */
   'no_room',

@@ -65,8 +65,8 @@ static inline int mh_message_malformed(char *text, size_t text_size, const uint8
  * failed, `bytes` is what follows the items.
  *
  * Only the first MULTIHASH_HEAD_MAX bytes are accessed, or `bytes_length` if that is less. So a caller of
- * multihash_from_prefix may pass the length of the whole input, but then `bytes` has to contain that many bytes, even if
- * multihash_from_prefix needed fewer.
+ * multihash_from_prefix may pass the length of the whole input, but then `bytes` has to contain the first
+ * MULTIHASH_HEAD_MAX bytes of it, or all of it if it is shorter, even if multihash_from_prefix needed fewer.
  *
  * Call it only after an error: if `bytes` starts with a multihash and more bytes follow, the message reports these, even
  * if multihash_read accepted them.

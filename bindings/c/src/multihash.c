@@ -494,7 +494,7 @@ static inline multihash_decoded mh_accept(uint64_t code, size_t digest_length, s
         .digest_offset = taken - digest_length, .digest_length = digest_length, .taken = taken};
 }
 
-/* The result for an input that ends within the digest, or before it in the SCALE form. */
+/* The result for an input that ends before the end of the digest. */
 static inline multihash_decoded mh_rejected_end(size_t taken)
 {
     return mh_rejected(MULTIHASH_UNEXPECTED_EOF, 0, 0, taken);

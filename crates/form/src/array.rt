@@ -7,7 +7,7 @@ use std::alloc::Global;
 
 /// `N` bytes, with no length before them. `N` is at least 1, since no encoding is empty.
 ///
-/// `read` returns an unexpected end if fewer bytes remain.
+/// `read` returns an unexpected end if fewer bytes remain, or if `N` is 0.
 #[derive(Clone, Copy, Debug)]
 pub struct Bytes<const N: usize> {
     /// The bytes.

@@ -1,5 +1,5 @@
 //! A block of bytes with its length before it.
-ghost use Rattle.std.specs.Prelude.{◌≡◌, ◌<◌, ◌≤◌, ◌⊎◌, ℕ, length, vec_len, IfOk, IfErr};
+ghost use Rattle.std.specs.Prelude.{◌≡◌, ◌<◌, ◌≤◌, ◌⊎◌, ◌↔◌, ℕ, length, vec_len, IfOk, IfErr, IsErr};
 ghost use Rattle.multihash.specs.Varint.{varint_limit};
 ghost use Rattle.multihash.specs.Reading.{Consumes, CountsReaderFailures};
 ghost use Rattle.multihash.specs.Consuming.{ExactFails};
@@ -36,7 +36,8 @@ impl<const MAX: usize> Block<MAX> {
     /// [`FormError::TooLong`] if there are more than `MAX` bytes.
     pub fn new(bytes: Vec<u8>) -> Result<Self, FormError>
         ensures ok { IfOk result (λ x. x.bytes.items ≡ bytes.items) }
-        ensures err { IfErr result (λ e. (e ≡ TooLong (vec_len bytes)) × (MAX < vec_len bytes)) }
+        ensures exactly { IsErr result ↔ (MAX < vec_len bytes) }
+        ensures err { IfErr result (λ e. e ≡ TooLong (vec_len bytes)) }
     {
         if bytes.len() > MAX {
             return Err(FormError::TooLong(bytes.len() as u64));

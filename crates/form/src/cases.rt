@@ -17,7 +17,7 @@ use std::alloc::Global;
 /// A value that has a tag, which determines how the value is encoded: what a [`Choice`](crate::Choice) is made of.
 /// [`Case`](crate::Case) and [`Tagged`](crate::Tagged) implement it.
 ///
-/// The laws at the end are those of [`Form`](crate::Form), of values with one tag.
+/// The laws of [`Form`](crate::Form) hold of the values with one tag.
 pub trait Cases {
     // The tag of the value.
     ghost tag_of: { Self → ℕ };

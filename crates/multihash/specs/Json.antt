@@ -1,4 +1,4 @@
--- The JSON form: the encoding's bytes as an array of whole numbers.
+-- The JSON encoding: the bytes of the binary encoding as an array of whole numbers.
 use Rattle.std.specs.Prelude.{◌≡◌, ℕ, List, map}
 use Rattle.serde_json.specs.Data.{Data, number, unsigned, array}
 use Rattle.serde_json.specs.View.{items_of}

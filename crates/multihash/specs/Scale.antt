@@ -1,4 +1,4 @@
--- The SCALE form: the code as eight bytes, the digest's length as one byte, and the digest. What
+-- The SCALE encoding: the code as eight bytes, the digest's length as one byte, and the digest. What
 -- decoding it consumed from a reader, and its errors.
 use Rattle.std.specs.Prelude.{◌≡◌, ℕ, ◌<◌, ◌≤◌, ◌⊎◌, List, ◌∷◌, ◌++◌, length, Option}
 use Rattle.multihash.specs.Bytes.{IsBytes, place_value}
@@ -14,7 +14,7 @@ pub record IsScaleCode (code : ℕ) (bytes : List ℕ) : Type 0 where
   pub are_bytes : IsBytes bytes
   pub value : place_value 256 bytes ≡ code
 
--- the bytes are the SCALE form of the pair
+-- the bytes are the SCALE encoding of the pair
 pub record IsScale (p : Pair) (bytes : List ℕ) : Type 0 where
   pub code : List ℕ
   pub is_code : IsScaleCode p.code code
@@ -32,7 +32,7 @@ pub record HasScaleSize (size : ℕ) (input rest : List ℕ) : Type 0 where
 
 -- No varint is read. The capacity is `S`, not `digest_limit S`, since the size is one byte, so at
 -- most 255.
--- The verdict of decoding a SCALE form on the front of the input
+-- The verdict of decoding SCALE on the front of the input
 abbrev pub HasScaleVerdict : ℕ → List ℕ → Verdict → Type 0
 HasScaleVerdict S input (accepted p) =
     (bytes : List ℕ) × (rest : List ℕ) × IsScale p bytes × (length p.digest ≤ S)
@@ -56,7 +56,7 @@ ScaleMayFailWith S e = ((code : ℕ) × IsInvalidCode code e × (varint_limit �
 
 -- Eight bytes if the code is too large, nine if the size is; otherwise, also after a failure of the
 -- reader, bytes that by themselves are truncated.
--- What decoding a SCALE form consumed when it failed
+-- What decoding SCALE consumed when it failed
 pub record ConsumesAtScaleError (S : ℕ) (e : Refusal) (old new : Option (List ℕ)) : Type 0 where
   pub consumed : List ℕ
   pub consumes : Consumes old consumed new

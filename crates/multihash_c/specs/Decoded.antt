@@ -60,7 +60,7 @@ pub record ConsumesWholeParts (present taken : ℕ) : Type 0 where
   pub code : present ≡ 8 → taken ≡ 8
   pub size : 8 < present → taken ≡ 9
 
--- what decoding the SCALE form consumed: the form, the eight bytes of a code that is too large, or the
+-- what decoding SCALE consumed: the encoding, the eight bytes of a code that is too large, or the
 -- complete fixed-size parts of truncated input. No size is invalid, since it is one byte
 abbrev pub ConsumesForm : Verdict → List ℕ → ℕ → Type 0
 ConsumesForm (accepted p) input taken = IsScale p (take taken input)

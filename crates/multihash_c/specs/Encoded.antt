@@ -42,7 +42,7 @@ pub record IsPut (bytes : List ℕ) (e : Encoded) (old new : List ℕ) : Type 0 
 abbrev pub Puts : (List ℕ → Type 0) → Encoded → List ℕ → List ℕ → Type 0
 Puts IsForm e old new = (bytes : List ℕ) × IsForm bytes × IsPut bytes e old new
 
--- the form of a pair is written, unless its digest is too long, or else its code is out of range: then
+-- the encoding of a pair is written, unless its digest is too long, or else its code is out of range: then
 -- the buffer is unchanged
 pub record WritesForm (IsForm : Pair → List ℕ → Type 0) (p : Pair) (e : Encoded) (old new : List ℕ)
     : Type 0 where

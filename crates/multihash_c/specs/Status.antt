@@ -20,7 +20,7 @@ status_invalid_size = 4
 abbrev pub status_invalid_code : ℕ
 status_invalid_code = 5
 
--- the input ends within the digest, or within a fixed-size part of the SCALE form
+-- the input ends before the end of the digest, or within a fixed-size part of SCALE
 abbrev pub status_unexpected_eof : ℕ
 status_unexpected_eof = 6
 

@@ -264,7 +264,7 @@ fn rejected_code(code: u64, taken: usize) -> Decoded
     rejected(status::INVALID_CODE, 0, code, taken)
 }
 
-// The result for an input that ends within the digest, or before it in the SCALE form.
+// The result for an input that ends before the end of the digest.
 fn rejected_end(taken: usize) -> Decoded
     ensures reports { (input : List ℕ) → Reports input result unexpected_eof }
     ensures taken { result.taken ≡ taken }

@@ -22,7 +22,7 @@ pub const INVALID_SIZE: u32 = 4;
 /// A code is 2^63 or more.
 pub const INVALID_CODE: u32 = 5;
 
-/// The input ends inside the digest or, in SCALE, before it.
+/// The input ends before the end of the digest, after any varints.
 pub const UNEXPECTED_EOF: u32 = 6;
 
 /// The buffer is too small.

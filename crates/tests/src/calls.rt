@@ -222,7 +222,7 @@ fn a_borrowed_reader_is_called_once(rt: HostRuntime) {
     expect_one_call(&rt, &mut [0; 300]);
 }
 
-// Nor does a long list of empty digests make one for no bytes.
+// Each empty digest of a list is read by one call of `read_exact`, and none of `read`.
 #[test]
 fn no_items_make_no_call(rt: HostRuntime) {
     let alloc = rt.alloc();

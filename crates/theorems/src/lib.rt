@@ -136,9 +136,9 @@ pub fn list_through<const S: usize, const T: usize, W: Write, R: Read>(
         (IsWriterError W.allocates (W.failures w.old) (W.failures w.new) (W.full w.new))
         × ((part : List ℕ) × IsStrictPrefix part bytes × W.appended w.old part w.new))) }
 
-    // If the reader's input is the encodings and then `more`, and the digests fit the new capacity, the same
-    // pairs are read in order, and `more` is left. Otherwise the error is out of memory, one of the writer,
-    // or one of the reader itself.
+    // If the reader's input is the encodings and then `more`, and the digests fit the new capacity, then the
+    // same pairs are read in order and `more` is left, or the error is out of memory, one of the writer, or
+    // one of the reader itself.
     ensures back { (more : List ℕ) →
         ((bytes : List ℕ) → AreConcatenated (map pair_of items.now) bytes →
         R.rest r.old ≡ Some (bytes ++ more)) →

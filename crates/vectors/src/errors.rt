@@ -44,8 +44,10 @@ pub fn kind_of(e: &Error) -> &'static str {
         "invalid_code"
     } else if e.invalid_size().is_some() {
         "invalid_size"
-    } else {
+    } else if e.io().is_some_and(|io| io.is_unexpected_eof()) {
         "unexpected_eof"
+    } else {
+        "another error"
     }
 }
 

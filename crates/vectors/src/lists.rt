@@ -1,5 +1,6 @@
-//! The lists of test vectors: each line is made anew from its first columns. Input in parts, and as JSON, has to give
-//! the same result, and so has what a multihash is made to; a result that differs is printed after the others.
+//! The lists of test vectors: each line is made anew from its first columns. The same result has to come from input in
+//! parts and from JSON, and the same multihash after it was encoded and decoded, in each two encodings. A result that
+//! differs is printed after the others.
 ghost use Rattle.std.specs.Prelude.{◌<◌, ◌^◌};
 
 use crate::errors::kind_of;
@@ -202,7 +203,7 @@ fn put_through<const S: usize, const T: usize>(page: &mut Page, m: &Multihash<S>
                 Ok(again) => put_verdict(page, &last.through::<S, T>(page.alloc, &again)),
                 Err(e) => page.put(e),
             }
-            page.answer(" or by two forms ");
+            page.answer(" or by two encodings ");
         }
     }
 }

@@ -1,9 +1,9 @@
-//! Prints calls of the library with their results, and then the lines of `verdicts.tsv` and `values.tsv`, files in the
-//! current folder, whose results are not those of the library, as it makes them. `stdout` says what has to be printed:
-//! it was written from the rules of docs/FORMAT.md, and not by this program.
+//! Prints calls of the library with their results. Then, of `verdicts.tsv` and `values.tsv`, which are files in the
+//! current folder, it prints each line that differs from the library's results, with these results. `stdout` says what
+//! has to be printed: it was written from the rules of docs/FORMAT.md, and not by this program.
 //!
 //! Bytes are in hexadecimal, and `41*200` is 200 times 41; a few letters are text. A multihash is its code and
-//! its digest. What a reader has left, and all that a writer was given, follows the result.
+//! its digest. What a reader has left follows the result, unless nothing is left, and so do the bytes that were written.
 #![tactic(auto)]
 
 mod errors;

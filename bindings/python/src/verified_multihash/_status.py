@@ -12,7 +12,7 @@ class Status(enum.IntEnum):
     NOT_MINIMAL: A varint of more than one byte ends in a zero byte.
     INVALID_SIZE: `size` is the length of a digest that is too long, or the number of bytes that follow the multihash.
     INVALID_CODE: The code is 2^63 or more. A decoding returns it in `code`.
-    UNEXPECTED_EOF: The input ends inside the digest or, in SCALE, before it. More input can change the result.
+    UNEXPECTED_EOF: The input ends before the end of the digest, after any varints. More input can change the result.
     NO_ROOM: `out` is too small. `length` is the size it needs.
     """
 

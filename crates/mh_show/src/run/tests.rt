@@ -223,6 +223,13 @@ fn expect_cut_line(rt: &(impl Abort + AllocGlobal), end: End) {
 }
 
 #[test]
+fn a_write_that_fails_is_the_last(rt: HostRuntime) {
+    let end = End::Fails(ErrorKind::NotConnected);
+    expect_not_written(&rt, end);
+    expect_cut_line(&rt, end);
+}
+
+#[test]
 fn a_write_that_is_interrupted_is_the_last(rt: HostRuntime) {
     let end = End::Fails(ErrorKind::Interrupted);
     expect_not_written(&rt, end);

@@ -15,7 +15,7 @@ pub enum Case<A, const M: u64, C: Cases> {
     Other(Others<C, M>),
 }
 
-/// What follows the tag `M`, which is below 2^63. As cases it is the last one: no other tag is right.
+/// What follows the tag `M`, which is below 2^63. As the last case of a choice, it rejects each other tag.
 #[derive(Clone, Debug, PartialEq, Eq, PartialOrd, Ord, Hash)]
 #[non_exhaustive]
 pub struct Tagged<A, const M: u64> {

@@ -8,7 +8,7 @@ use crate::no_std_io::{Read, Write};
 /// A value that has a tag, which determines how the value is encoded: what a [`Choice`](crate::form::Choice) is made of.
 /// [`Case`](crate::form::Case) and [`Tagged`](crate::form::Tagged) implement it.
 ///
-/// The laws at the end are those of [`Form`](crate::form::Form), of values with one tag.
+/// The laws of [`Form`](crate::form::Form) hold of the values with one tag.
 pub trait Cases: super::values::Part {
     /// Returns the tag.
     fn tag(&self) -> Number;
