@@ -144,7 +144,8 @@ verify_example() {
     hex=
     for ((code = code; code > 127; code >>= 7)); do hex+=$(printf %02x $((code & 127 | 128))); done
     hex+=$(printf %02x%02x "$code" $((${#digest} / 2)))$digest
-    if [[ $name == @(identity|shake-*|keccak-256|dbl-*|md4|sm3-256|blake2b-8|blake2b-256|blake2s-8|blake2s-128) ]]; then
+    [ "$name" = keccak-256 ] && continue # OpenSSL 3.2 and later have it
+    if [[ $name == @(identity|shake-*|dbl-*|md4|blake2b-8|blake2b-256|blake2s-8|blake2s-128) ]]; then
       ends_with 2 "no hash function" "$work/verify" "$hex" <<< abc
     else
       prints "the same" "$work/verify" "$hex" < <(printf abc)

@@ -6,7 +6,8 @@
  *
  * A comment `Proved:` before a function or a statement says what the proof has shown for each call inside this file, so
  * that the code does not check it. The preconditions in multihash.h are not checked either. First come functions that
- * are written by hand, and tested only: those of Rust's library that the others call, by their names there. */
+ * are written by hand: those of Rust's library that the others call, by their names there. In the repository
+ * bindings/c/proof/check.py checks all functions for all inputs, as Clang compiles them for WebAssembly. */
 #include "multihash.h"
 
 #include <stdbool.h>

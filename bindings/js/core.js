@@ -24,7 +24,7 @@ const FIRST_WORD = 16; // the index in `words` of the first input
 // The words of the result, and the first of the input: a number of 64 bits has two.
 const words = new Uint32Array(memory.buffer, result, FIRST_WORD + 1);
 
-// The addresses of many results, of four words each, and of a long input, which has room for as many of the usual length.
+// The addresses of many results, of four words each, and of a long input, with the capacity for as many of the usual length.
 const items = output + 272;
 const ITEMS = 1024;
 const block = items + 16 * ITEMS;
@@ -122,14 +122,12 @@ export function read(bytes, limit = DIGEST_MAX) {
   return { multihash: found(), taken: words[8] };
 }
 
-/** The same for a plain Uint8Array from an index on; undefined if it ends inside the encoding, and more can follow. */
-export function readAt(bytes, at, limit, isLast) {
+/** Throws why the bytes from an index on start with no multihash within the limit, unless more can follow and change it. */
+export function rejectAt(bytes, at, limit, isLast) {
   const length = Math.min(bytes.length - at, PREFIX_MAX);
   memory.set(length === bytes.length ? bytes : bytes.subarray(at, at + length), first);
   library.multihash_read_limit(result, first, length, limit);
-  if (!isLast && INCOMPLETE.includes(STATUSES[words[0]])) return undefined;
-  if (words[0] !== 0) throw rejected(length, words[8], Math.min(limit, DIGEST_MAX));
-  return { multihash: found(), taken: words[8] };
+  if (isLast || !INCOMPLETE.includes(STATUSES[words[0]])) throw rejected(length, words[8], Math.min(limit, DIGEST_MAX));
 }
 
 /** Decodes the two varints before a digest. */

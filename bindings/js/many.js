@@ -2,7 +2,7 @@
 import { checkedLength } from './arguments.js';
 import { decodeBlock, errorOfBlock, putItems } from './core.js';
 
-// The columns have room for as many encodings of this length as the input can hold, but at first for at most MOST.
+// The capacity of the columns is the number of encodings of this length in the input, but at first at most MOST.
 const USUAL = 34;
 const MOST = 2 ** 20;
 

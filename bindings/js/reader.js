@@ -1,6 +1,6 @@
 // MultihashReader, which decodes the multihashes of a stream one after the other.
 import { checkedLength, checkedOptions, checkedWide } from './arguments.js';
-import { itemsAt, lengthOf, multihashOf, readAt } from './core.js';
+import { itemsAt, lengthOf, multihashOf, rejectAt } from './core.js';
 import { DIGEST_MAX } from './limits.js';
 import { sourceOf } from './sources.js';
 
@@ -76,7 +76,12 @@ export class MultihashReader {
     if (this.#isShort && !isLast) return undefined;
     if (this.#item === this.#items.length) this.#decode();
     const length = this.#items[this.#item + 3];
-    if (!(length <= this.#limit)) return this.#unusual(isLast);
+    if (!(length <= this.#limit)) {
+      // the block has no next multihash, or it exceeds the limit
+      rejectAt(this.#bytes, this.#at, this.#limit, isLast);
+      this.#isShort = true;
+      return undefined;
+    }
     const multihash = multihashOf(this.#items, this.#item, this.#bytes, this.#block);
     this.#advance(this.#block + this.#items[this.#item + 2] + length - this.#at);
     this.#item += 4;
@@ -88,14 +93,6 @@ export class MultihashReader {
     this.#items = itemsAt(this.#bytes, this.#at, this.#bytes.length);
     this.#block = this.#at;
     this.#item = 0;
-  }
-
-  /** The same as `#received` if the block has no next multihash, or that exceeds the limit. */
-  #unusual(isLast) {
-    const found = readAt(this.#bytes, this.#at, this.#limit, isLast);
-    this.#isShort = !found;
-    if (found) this.#advance(found.taken);
-    return found?.multihash;
   }
 
   #advance(taken) {

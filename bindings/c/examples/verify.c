@@ -9,7 +9,10 @@
 /* Returns the function of a code, which EVP_MD_free frees, or NULL. */
 static EVP_MD *function_of(uint64_t code)
 {
-    const char *name = code == 0x1014 ? "SHA2-512/224" : code == 0x1015 ? "SHA2-512/256" : multihash_name(code);
+    const char *name = multihash_name(code);
+    if (code == 0x1014) name = "SHA2-512/224";
+    if (code == 0x1015) name = "SHA2-512/256";
+    if (code == 0x534d) name = "SM3";
     EVP_MD *function = name == NULL ? NULL : EVP_MD_fetch(NULL, name, NULL);
     if (function == NULL || !(EVP_MD_get_flags(function) & EVP_MD_FLAG_XOF)) return function;
     EVP_MD_free(function); /* SHAKE, which has digests of any length */
@@ -37,7 +40,7 @@ static int verify(const uint8_t *bytes, size_t length)
     multihash_decoded found = multihash_from_bytes(bytes, length);
     if (found.status != MULTIHASH_OK) return multihash_print_message(stderr, bytes, length, MULTIHASH_DIGEST_MAX), 2;
     EVP_MD *function = function_of(found.code);
-    if (function == NULL) return fprintf(stderr, "no hash function has that code\n"), 2;
+    if (function == NULL) return fprintf(stderr, "OpenSSL has no hash function of that code\n"), 2;
     uint8_t digest[EVP_MAX_MD_SIZE];
     unsigned size = hash_stream(stdin, function, digest);
     EVP_MD_free(function);

@@ -55,7 +55,11 @@ def result(build: str, name: str) -> str:
 
 
 def main() -> int:
-    names = [name for name in sys.argv[1:] if name != "--all"] or list(Header(32).functions)
+    known = list(Header(32).functions)
+    names = [name for name in sys.argv[1:] if name != "--all"] or known
+    if not {*names} <= {*known}:
+        print(f"{__doc__}\nThe functions are {' '.join(known)}.", file=sys.stderr)
+        return 2
     refused = 0 if names else 1
     for build, pattern in (BUILD | OTHERS if "--all" in sys.argv else BUILD).items():
         print(f"{build}{'' if shutil.which(build.split()[0]) else ': not installed'}", flush=True)

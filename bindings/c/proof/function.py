@@ -107,7 +107,7 @@ def outside(machine: Machine, state: State) -> list[Any]:
     wrong = list(state.wrong)
     for (region, _), end in state.ends.items():
         size = machine.regions[region].size if region else TOP
-        wrong.append(z3.ULT(z3.ZeroExt(8, vector(size, machine.word)), end))  # an end may be behind the last address
+        wrong.append(z3.ULT(z3.ZeroExt(8, vector(size, machine.word)), end))  # an end may follow the last address
     return wrong + ([] if state.frames else [vector(state.pointer, machine.word) != TOP])
 
 

@@ -30,7 +30,7 @@ class Region:
 @dataclass
 class Frame:
     """A call: its local variables, the place of the next instruction, the operands, and for each open block the place
-    behind it, the number of operands below it, and the number of its results."""
+    after it, the number of operands below it, and the number of its results."""
 
     function: Function
     local: list[Value]
@@ -47,7 +47,7 @@ def rewritten(x: Value, rewrites: dict[str, tuple[Any, Any]]) -> Value:
 
 def is_valid(base: Any, size: Any) -> Any:
     """The header's precondition: bytes that are there, at any address but null, below 2^63. The last address is not one
-    of theirs: C needs a pointer behind them."""
+    of theirs: C needs a pointer to their end."""
     most = z3.ULT(size, 1 << 63) if size.size() == 64 else z3.BoolVal(True)
     return z3.Or(size == 0, z3.And(base != 0, z3.ULT(size, -base), most))
 

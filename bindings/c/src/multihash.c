@@ -6,7 +6,8 @@
  *
  * A comment `Proved:` before a function or a statement says what the proof has shown for each call inside this file, so
  * that the code does not check it. The preconditions in multihash.h are not checked either. First come functions that
- * are written by hand, and tested only: those of Rust's library that the others call, by their names there. */
+ * are written by hand: those of Rust's library that the others call, by their names there. In the repository
+ * bindings/c/proof/check.py checks all functions for all inputs, as Clang compiles them for WebAssembly. */
 #include "multihash.h"
 
 #include <stdbool.h>
@@ -645,7 +646,7 @@ MH_INLINE void mh_put_digest(const uint8_t *digest, size_t digest_length, uint8_
     }
 }
 
-/* The result for an encoding or a text of that length and a buffer that has room for that many bytes. */
+/* The result for an encoding or a text of that length and a buffer of that capacity. */
 static inline multihash_encoded mh_count(size_t length, size_t room)
 {
     const uint32_t status = length <= room ? MULTIHASH_OK : MULTIHASH_NO_ROOM;

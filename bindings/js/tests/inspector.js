@@ -10,7 +10,7 @@ const TEXTS = [
   ['1oui', 'base58', 'identity', '0x0', 'size in bytes 2', 'digest 6869'],
   ['5dqx43zNtUUbPj97vJhpHyUUPyrmXG', 'base58', 'sha1', '0x11', '0beec7b5ea3f0fdbc95d'],
   ['0000', 'identity', 'digest empty'],
-  ['ffffffffffffffff7f00', 'not in the table', '0x7fffffffffffffff'],
+  ['ffffffffffffffff7f00', 'none that this page knows', '0x7fffffffffffffff'],
   ['1220aabbcc', 'the input ends inside the digest (3 of 32 bytes)'],
   ['1202aabbcc', '1 byte follows the multihash'],
   ['122', 'an odd number of digits, 3'],

@@ -21,7 +21,7 @@ ROWS = [line.split("\t") for line in (DATA / "hashes.tsv").read_text("ascii").sp
 UNSUPPORTED = hashes.UnsupportedHashError
 # functions that some builds of hashlib lack, by the names that they have there
 OPTIONAL = {
-    "keccak-256": "keccak_256", "md4": "md4", "md5": "md5", "ripemd-160": "ripemd160", "sm3-256": "sm3",
+    "keccak-256": "keccak-256", "md4": "md4", "md5": "md5", "ripemd-160": "ripemd160", "sm3-256": "sm3",
     "sha2-512-224": "sha512_224", "sha2-512-256": "sha512_256",
 }  # fmt: skip
 

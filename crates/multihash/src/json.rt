@@ -139,7 +139,7 @@ fn byte_of(member: &Value) -> Option<u8>
     u8::try_from(member.as_u64()?).ok()
 }
 
-// Reads the members of an array of byte numbers as bytes, one byte a call.
+// Reads the members of an array of byte numbers as bytes. A call of `read` reads one.
 #[derive(Drop)]
 struct ByteMembers<'a> {
     left: &'a [Value],

@@ -201,7 +201,7 @@ fn rejected_code() -> Encoded
     }
 }
 
-// The result for an encoding or a text of that length and a buffer that has room for that many bytes.
+// The result for an encoding or a text of that length and a buffer of that capacity.
 fn count(length: usize, room: usize) -> Encoded
     ensures length { result.length ≡ length }
     ensures no_size { result.size ≡ 0 }

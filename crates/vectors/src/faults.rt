@@ -26,7 +26,7 @@ fn put_failed_read(page: &mut Page, call: Call, input: &[u8], calls: usize, why:
     let mut reader = FailAt::new(Cuts::new(input, 1), calls, why);
     call.put(page, &mut reader);
     page.put_left(reader.cuts.left);
-    page.answer("; ");
+    page.result("; ");
 }
 
 fn print_reads(page: &mut Page, call: Call, input: &[u8]) {
@@ -41,10 +41,10 @@ fn print_reads(page: &mut Page, call: Call, input: &[u8]) {
     let mut reader = FailAt::new(Cuts::new(input, 1), 0, "link down");
     page.call("at call 1, then again");
     call.put(page, &mut reader);
-    page.answer("");
+    page.result("");
     call.put(page, &mut reader);
     page.put_left(reader.cuts.left);
-    page.answer("; ");
+    page.result("; ");
     page.end();
     let mut silent = Silent(input);
     page.call("a reader of unknown input");
@@ -70,7 +70,7 @@ fn put_short_write(page: &mut Page, call: Call, capacity: usize, most: usize)
         put_write(page, call, &mut drip);
         page.put_written(&drip.held);
     }
-    page.answer("; ");
+    page.result("; ");
 }
 
 fn put_slice_write(page: &mut Page, call: Call, capacity: usize) {

@@ -100,12 +100,12 @@ fn put_readings<const S: usize>(page: &mut Page, encoding: Encoding, input: &[u8
     let found = encoding.read::<S, _>(&mut left);
     let taken = input.len().saturating_sub(left.len());
     put_reading(page, &found, taken);
-    page.answer("");
+    page.result("");
     for most in 1..8 {
         let mut cuts = Cuts::new(input, most);
         let found = encoding.read::<S, _>(&mut cuts);
         put_reading(page, &found, input.len().saturating_sub(cuts.left.len()));
-        page.answer(format_args!(" or by {most} bytes "));
+        page.result(format_args!(" or by {most} bytes "));
     }
     if !is_incomplete(&found) {
         put_determined::<S>(page, encoding, input.get(..taken).unwrap_or(&[]));
@@ -130,12 +130,12 @@ fn put_determined<const S: usize>(page: &mut Page, encoding: Encoding, front: &[
             let found = encoding.read::<S, _>(&mut left);
             put_reading(page, &found, bytes.len().saturating_sub(left.len()));
         }
-        page.answer(" or with more ");
+        page.result(" or with more ");
     }
     if let Some((_, fewer)) = front.split_last() {
         if !is_incomplete(&encoding.read::<S, _>(&mut { fewer })) {
             page.put("the same");
-            page.answer(" or with fewer ");
+            page.result(" or with fewer ");
         }
     }
 }
@@ -154,11 +154,11 @@ fn put_results<const S: usize>(page: &mut Page, input: &[u8])
     put_readings::<S>(page, Encoding::Binary, input);
     page.column();
     put_verdict(page, &Multihash::<S>::from_bytes(input));
-    page.answer("");
+    page.result("");
     if let Ok(value) = json_of(page.alloc, input) {
         put_verdict(page, &Multihash::<S>::from_value(&value));
     }
-    page.answer(" or from JSON ");
+    page.result(" or from JSON ");
     page.column();
     put_readings::<S>(page, Encoding::Scale, input);
 }
@@ -203,7 +203,7 @@ fn put_through<const S: usize, const T: usize>(page: &mut Page, m: &Multihash<S>
                 Ok(again) => put_verdict(page, &last.through::<S, T>(page.alloc, &again)),
                 Err(e) => page.put(e),
             }
-            page.answer(" or by two encodings ");
+            page.result(" or by two encodings ");
         }
     }
 }
@@ -233,7 +233,7 @@ fn put_value<const S: usize>(page: &mut Page, code: u64, digest: &[u8])
     match Multihash::<S>::wrap(code, digest) {
         Ok(m) => {
             put_forms(page, &m);
-            page.answer("");
+            page.result("");
             if digest.len() > 128 {
                 page.put(format_args!("invalid_size {}", digest.len()));
             } else {
@@ -294,12 +294,12 @@ fn put_order(page: &mut Page, left: (&str, &str), right: (&str, &str)) {
     page.put(format_args!("order\t{}\t{}\t{}\t{}", left.0, left.1, right.0, right.1));
     page.column();
     put_compared::<255>(page, left, right);
-    page.answer("");
+    page.result("");
     if left.1.len() < 9 && right.1.len() < 9 {
         put_compared::<4>(page, left, right);
-        page.answer(" or of capacity 4 ");
+        page.result(" or of capacity 4 ");
         put_compared::<12>(page, left, right);
-        page.answer(" or of capacity 12 ");
+        page.result(" or of capacity 12 ");
     }
 }
 

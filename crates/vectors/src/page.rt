@@ -6,8 +6,8 @@ use std::{fmt, io};
 
 /// Rows, each by this method of a page, with its arguments.
 macro_rules! rows {
-    ($page:expr; $($method:ident $call:expr => $($answer:expr),+;)+) => {
-        { $($page.$method($call, $($answer),+);)+ }
+    ($page:expr; $($method:ident $call:expr => $($outcome:expr),+;)+) => {
+        { $($page.$method($call, $($outcome),+);)+ }
     };
 }
 
@@ -48,7 +48,7 @@ fn count_equal(byte: u8, bytes: &[u8]) -> usize {
     bytes.len()
 }
 
-/// Rows of calls and their answers, each of which is put together of parts.
+/// Rows of calls and their results, each of which is put together of parts.
 ///
 /// No method returns an error, so that no proof has a case for one. Instead `finish` does.
 #[derive(Drop)]
@@ -57,9 +57,9 @@ pub struct Page {
     text: String,
     // The row at hand.
     line: String,
-    // The parts of the heading, the call or the answer at hand.
+    // The parts of the heading, the call or the result at hand.
     parts: String,
-    // The last answer of the row.
+    // The last result of the row.
     last: String,
     failed: bool,
 }
@@ -159,9 +159,9 @@ impl Page {
         self.parts.clear();
     }
 
-    /// The parts are an answer. If it differs from the one before, it is printed after the way in which that call
+    /// The parts are a result. If it differs from the one before, it is printed after the way in which that call
     /// was made.
-    pub fn answer(&mut self, way: impl Display + Drop) {
+    pub fn result(&mut self, way: impl Display + Drop) {
         if self.parts != self.last {
             if !self.last.is_empty() {
                 self.failed |= write!(self.line, "{way}").is_err();
@@ -172,27 +172,27 @@ impl Page {
         self.parts.clear();
     }
 
-    /// The parts are the answer that is expected next.
+    /// The parts are the result that is expected next.
     pub fn expect(&mut self) {
         std::mem::swap(&mut self.parts, &mut self.last);
         self.parts.clear();
     }
 
-    /// The parts are the last answer of a column.
+    /// The parts are the last result of a column.
     pub fn column(&mut self) {
-        self.answer("");
+        self.result("");
         self.failed |= self.line.push_str("\t").is_err();
         self.last.clear();
     }
 
-    /// The parts are the last answer of a row.
+    /// The parts are the last result of a row.
     pub fn end(&mut self) {
         self.end_if_other("");
     }
 
     /// The same; the row is printed only if it differs from this one.
     pub fn end_if_other(&mut self, row: &str) {
-        self.answer("");
+        self.result("");
         if self.line.as_str() != row {
             self.failed |= write!(self.text, "{}\n", self.line).is_err();
         }
@@ -200,9 +200,9 @@ impl Page {
         self.last.clear();
     }
 
-    pub fn row(&mut self, call: &str, answer: impl Display + Drop) {
+    pub fn row(&mut self, call: &str, outcome: impl Display + Drop) {
         self.call(call);
-        self.put(answer);
+        self.put(outcome);
         self.end();
     }
 
@@ -239,9 +239,9 @@ impl Page {
     }
 
     /// A call that writes, and all that it wrote.
-    pub fn written(&mut self, call: &str, answer: impl Display + Drop, bytes: &[u8]) {
+    pub fn written(&mut self, call: &str, outcome: impl Display + Drop, bytes: &[u8]) {
         self.call(call);
-        self.put(answer);
+        self.put(outcome);
         self.put_written(bytes);
         self.end();
     }

@@ -20,7 +20,7 @@ pub enum Call {
 }
 
 impl Call {
-    /// Makes the call; its answer is the next part.
+    /// Makes the call; its result is the next part.
     pub fn put<R: Read>(self, page: &mut Page, r: &mut R) {
         match self {
             Call::Read => page.put_found(Multihash::<4>::read(r)),
@@ -53,12 +53,12 @@ pub fn print_input(page: &mut Page, call: Call, input: &[u8]) {
     let mut left = input;
     call.put(page, &mut left);
     page.put_left(left);
-    page.answer("");
+    page.result("");
     for most in 1..8 {
         let mut cuts = Cuts::new(input, most);
         call.put(page, &mut cuts);
         page.put_left(cuts.left);
-        page.answer(format_args!("; from {most} byte a call: "));
+        page.result(format_args!("; from {most} byte a call: "));
     }
     page.end();
 }

@@ -97,7 +97,7 @@ fn is_same_resized<const R: usize>(m: Multihash<6>) -> bool
     }
 }
 
-// What was cut off is in no answer.
+// The bytes that `truncate` removed are in no result.
 pub fn print_tail(page: &mut Page) {
     page.heading("m = wrap::<6>(0, \"foobar\").truncate(3)");
     let m = value::<6>(0, "foobar").truncate(3);

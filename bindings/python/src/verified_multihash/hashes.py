@@ -28,7 +28,7 @@ __all__ = ["CODES", "NAMES", "Hasher", "UnsupportedHashError", "digest", "digest
 CODES: Mapping[str, int] = MappingProxyType(_codes.CODES)
 NAMES: Mapping[int, str] = MappingProxyType({code: name for name, code in CODES.items()})
 
-_IN_HASHLIB = {"dbl-sha2-256": "sha256", "ripemd-160": "ripemd160", "sm3-256": "sm3"}
+_IN_HASHLIB = {"dbl-sha2-256": "sha256", "keccak-256": "keccak-256", "ripemd-160": "ripemd160", "sm3-256": "sm3"}
 # How the digest is made, where it is not by `digest()`.
 _DIGESTS: Mapping[str, Callable[[Any], bytes]] = {
     "shake-128": methodcaller("digest", 32),

@@ -181,6 +181,9 @@ impl<R: BufRead, const S: usize> Reader<R, S> {
     ///
     /// The last two are made of a [`DecodeError`], which [`io::Error::get_ref`] returns.
     pub fn read_next(&mut self) -> io::Result<Option<Multihash<S>>> {
+        if !self.kept().is_empty() {
+            self.decoder.decode(&mut &[][..])?; // the error of an earlier call
+        }
         loop {
             let part = match self.source.fill_buf() {
                 Err(error) if error.kind() == ErrorKind::Interrupted => continue,

@@ -147,3 +147,13 @@ fn malformed() {
     let found: io::Result<Vec<Multihash<4>>> = Reader::new(&b"\0\0\x12\x01a"[..]).collect();
     assert_eq!(found.expect("they are whole").len(), 2);
 }
+
+/// After a malformed multihash the source is not read again, which could fail or wait.
+#[test]
+fn malformed_again() {
+    let source = Slow { bytes: &b"\x12\x05a"[..], at: 2, event: || Err(ErrorKind::TimedOut.into()) };
+    let mut reader = Reader::<_, 4>::new(BufReader::with_capacity(1, source));
+    for _ in 0..2 {
+        assert_eq!(reader.read_next().expect_err("it is too long").kind(), ErrorKind::InvalidData);
+    }
+}

@@ -63,9 +63,12 @@ fn inputs_are_accepted_as_by_multihash_0_11() {
     let mut accepted = 0;
     for input in inputs() {
         let found = Multihash::<255>::from_bytes(&input);
-        let Ok(theirs) = MultihashRefGeneric::<AnyCode>::from_slice(&input) else {
-            assert!(found.is_err(), "{input:02x?}");
-            continue;
+        let theirs = match MultihashRefGeneric::<AnyCode>::from_slice(&input) {
+            Ok(theirs) => theirs,
+            Err(_) => {
+                assert!(found.is_err(), "{input:02x?}");
+                continue;
+            }
         };
         let (code, digest) = (theirs.algorithm().0, theirs.digest());
         if code >> 63 != 0 || digest.len() > 255 || wrap(AnyCode(code), digest).as_bytes() != input {
