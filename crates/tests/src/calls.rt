@@ -2,7 +2,7 @@
 //! after it; and the bytes in a slice, of which no contract states more than their number.
 use crate::expect::{FULL, check, check_eq, expect_ok, is_passed_on};
 use fakes::{Counts, CountsWrites, Cuts, Drip, FailAt, FailWrite, OUT_OF_MEMORY, Silent};
-use form::{Block, Form, Stream};
+use form::{Block, Form, FormError, Stream};
 use multihash::list::{read_list, write_list};
 use multihash::no_std_io::{self, Read, Write};
 use multihash::{Error, Multihash};
@@ -170,6 +170,25 @@ fn nothing_is_read_after_an_error(rt: HostRuntime) {
         for at in 0..encoding.bytes().len() {
             expect_failed_read(&rt, rt.alloc(), encoding, at, "link down");
             expect_failed_read(&rt, rt.alloc(), encoding, at, OUT_OF_MEMORY);
+        }
+    }
+}
+
+fn is_failed<T>(outcome: &Result<T, FormError>, text: &str) -> bool {
+    match outcome {
+        Err(FormError::Failed(e)) => e.io().is_some_and(|io| io.text() == text),
+        _ => false,
+    }
+}
+
+// Also through a stream, which reads one byte to see whether the input has ended.
+#[test]
+fn a_stream_passes_an_error_on(rt: HostRuntime) {
+    for at in 0..4 {
+        for why in ["link down", OUT_OF_MEMORY] {
+            let mut stream = Stream::new(FailAt::new(Cuts::new(&[3, 7, 7, 7], 1), at, why));
+            let outcome = stream.read_next::<Block<3>>(rt.alloc());
+            check!(&rt; is_failed(&outcome, why), at);
         }
     }
 }
