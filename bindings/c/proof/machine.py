@@ -193,7 +193,7 @@ class Machine(Memory):
         kind, _, operation = name.partition(".")
         if operation not in BINARY and operation not in UNARY or kind not in ("i32", "i64"):
             return False
-        width = {"wrap_i64": 64, "extend_i32_u": 32}.get(operation, int(kind[1:]))
+        width = {"wrap_i64": 64, "extend_i32_s": 32, "extend_i32_u": 32}.get(operation, int(kind[1:]))
         count = 2 if operation in BINARY else 1
         frame.stack[-count:] = [apply(operation, width, *frame.stack[-count:])]
         frame.at += 1

@@ -113,6 +113,7 @@ UNARY: dict[str, Callable[[Any], Any]] = {
     "clz": lambda a: zeros(a, list(reversed(range(a.size())))),
     "ctz": lambda a: zeros(a, list(range(a.size()))),
     "wrap_i64": lambda a: z3.Extract(31, 0, a),
+    "extend_i32_s": lambda a: z3.SignExt(32, a),
     "extend_i32_u": lambda a: z3.ZeroExt(32, a),
 }
 
