@@ -14,14 +14,14 @@ from pathlib import Path
 from rt_source import Item, items
 
 TOP = Path(__file__).resolve().parents[1]
-CRATES = ("theorems", "multihash", "form", "multihash_c", "mh_show")
+CRATES = ("theorems", "multihash", "form", "mh_show")
 # attributes that no caller can see
 OF_BODIES = re.compile(r"#\[(cold|inline|tactic)\b")
 INTRODUCTION = """\
 # Contracts
 
-This page shows the public items of the crates [theorems](#theorems), [multihash](#multihash), [form](#form),
-[multihash_c](#multihash_c) and [mh_show](#mh_show) without their bodies, and the [words](#words) of
+This page shows the public items of the crates [theorems](#theorems), [multihash](#multihash), [form](#form)
+and [mh_show](#mh_show) without their bodies, and the [words](#words) of
 clauses. `tools/generate contracts` writes it, and CI compares it with the sources: a difference here is a changed
 promise. [What contracts see](../crates/multihash/CALLING.md#what-contracts-see) says how to read a clause.
 

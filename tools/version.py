@@ -28,12 +28,6 @@ LINES = (
     ("bindings/python/src/verified_multihash/__init__.py", '__version__ = "{version}"'),
     ("bindings/rust/verified-multihash/Cargo.toml", '\nversion = "{version}"\n'),
     ("bindings/rust/multihash/Cargo.toml", '\nverified-multihash = {{ version = "{version}", '),
-    ("crates/multihash_c/specs/Version.antt", "\nmajor = {major}\n"),
-    ("crates/multihash_c/specs/Version.antt", "\nminor = {minor}\n"),
-    ("crates/multihash_c/specs/Version.antt", "\npatch = {patch}\n"),
-    ("crates/multihash_c/src/version.rt", "const MAJOR: u32 = {major};"),
-    ("crates/multihash_c/src/version.rt", "const MINOR: u32 = {minor};"),
-    ("crates/multihash_c/src/version.rt", "const PATCH: u32 = {patch};"),
 )
 # The headings of CHANGES, of which the first is of the version.
 HEADING = re.compile(r"^(\d+\.\d+\.\d+)(?:, not released.*| \((\d{4}-\d\d-\d\d)\))$", re.M)

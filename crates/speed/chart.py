@@ -11,7 +11,6 @@ from xml.sax.saxutils import escape
 PAGE = Path(__file__).resolve().parents[2] / "docs/SPEED.md"
 # a row of the chart: its language, what it is compared with, and the heading over its table
 ROWS = (
-    ("C", "plain C", "From C"),
     ("Rust", "the Rust crate", "From Rust"),
     ("Rattle", "the Rust crate", "From Rattle"),
     ("JavaScript", "plain JavaScript", "The package for JavaScript"),

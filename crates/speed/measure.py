@@ -1,8 +1,8 @@
 #!/usr/bin/env python3
 """Measures this library beside what a user would write: docs/SPEED.md has the counts.
 
-    crates/speed/measure.py                        compares the page's counts of this library from Rattle and from C with
-                                                   new ones, each of which may differ by 1, or by 2 %
+    crates/speed/measure.py                        compares the page's counts of this library from Rattle with new ones, each
+                                                   of which may differ by 1, or by 2 %
     crates/speed/measure.py --write [UPSTREAM]     writes the tables of instructions: with the folder of the Rust crate
                                                    also that of calls from Rust, which needs Cargo
     crates/speed/measure.py --rust UPSTREAM        prints the nanoseconds of comparisons by the package for Rust and by
@@ -29,12 +29,10 @@ ROOT = HOME.parents[1]
 sys.path.append(str(ROOT / "checks" / "lib"))
 import tap
 
-C, PAGE = ROOT / "bindings/c", ROOT / "docs/SPEED.md"
-C_BUILDS = [C / "src/multihash.c", HOME / "from_c/plain.c"]
+PAGE = ROOT / "docs/SPEED.md"
 # the heads of the tables: the counts of this library, of what a user would write, and the share of the first in it
 RATTLE = "| Call | instructions | Rust crate | share |"
 RUST = "| Call from Rust | instructions | Rust crate | share |"
-FROM_C = "| Call from C | instructions | plain C | share |"
 # what a row of a call from Rust ends with, and the bytes of its code's varint and of its digest
 LENGTHS = {", 20 bytes": "1 20", ", 3-byte code": "3 32", "": "1 32"}
 CALLS_COUNTED = 64  # by rust/package.rs
@@ -73,16 +71,6 @@ def count(program: str, names: Iterable[str]) -> dict[str, int]:
     names = [*names]
     with ThreadPoolExecutor(JOBS) as pool:
         return dict(zip(names, pool.map(of_call, names)))
-
-
-def count_c(builds: list[Path]) -> Counts:
-    """Returns the instructions of each call from C: of each of these builds."""
-    counts = []
-    with tempfile.TemporaryDirectory() as work:
-        for build in builds:
-            run(["cc", "-std=c11", "-O2", f"-I{C}/include", HOME / "from_c/count.c", build, "-o", f"{work}/count"])
-            counts.append(count(f"{work}/count", run([f"{work}/count"]).split()))
-    return {name: [found[name] for found in counts] for name in counts[0]}
 
 
 def print_least(heads: list[str], programs: list[tuple[int, Iterable[str | Path]]], turns: int = TURNS) -> None:
@@ -180,7 +168,7 @@ def text_errors(page: str, names: list[str]) -> Iterator[str]:
     """Compares the page's rows with those of the program, and its shares with its counts."""
     if [*rows_of(page, RATTLE)] != names:
         yield "the page has other rows than crates/speed/args"
-    if with_tables(page, {head: rows_of(page, head) for head in (RATTLE, RUST, FROM_C)}) != page:
+    if with_tables(page, {head: rows_of(page, head) for head in (RATTLE, RUST)}) != page:
         yield "its tables are not what --write makes of their counts"
 
 
@@ -193,9 +181,9 @@ def results(program: str, names: list[str]) -> Iterator[tap.Result]:
     if gone := tap.missing(["valgrind", "cpu:avx2", f"cc={compiler}", f"ldd={library}"]):
         yield tap.left_out("the calls", gone)
         return
-    stored = {name: counts[:1] for head in (RATTLE, FROM_C) for name, counts in rows_of(page, head).items()}
+    stored = {name: counts[:1] for name, counts in rows_of(page, RATTLE).items()}
     counted = {name: [number] for name, number in count(program, names).items()}
-    yield "the calls", differences(counted | count_c(C_BUILDS[:1]), stored)
+    yield "the calls", differences(counted, stored)
 
 
 def write(program: str, upstream: list[str]) -> None:
@@ -204,7 +192,6 @@ def write(program: str, upstream: list[str]) -> None:
     rattle = rows_of(page, RATTLE)
     counted = count(program, rattle)
     tables = {RATTLE: {name: [counted[name], *other] for name, (_, *other) in rattle.items()}}
-    tables[FROM_C] = count_c(C_BUILDS)
     if upstream:
         tables[RUST] = count_rust(rows_of(page, RUST), Path(upstream[0]))
     PAGE.write_text(with_tables(page, tables), "utf-8")
