@@ -5,8 +5,6 @@
 . "$(dirname "$0")/lib/tap.sh"
 # shellcheck source=checks/lib/c.sh
 . checks/lib/c.sh
-# shellcheck source=tools/tool_versions
-. tools/tool_versions
 
 # The tests over the archive in place of the source.
 archive_passes() {
@@ -16,6 +14,5 @@ archive_passes() {
 
 for what in c rust contracts vectors tables chart; do try "tools/generate $what" tools/generate "$what" --check; done
 try "the version that files state" tools/version.py --check
-needs="clang=$clang wasm-ld=$lld wasm-opt=$binaryen wasm2js" try "tools/generate js" tools/generate js --check
 needs="rt cc /lib64/ld-linux-x86-64.so.2" try "the tests for C, over the compiled proved functions" archive_passes
 finish
