@@ -3,10 +3,7 @@
 # multihash.h. A result has the command that makes the files anew.
 # shellcheck source=checks/lib/tap.sh
 . "$(dirname "$0")/lib/tap.sh"
-# shellcheck source=tools/tool_versions
-. tools/tool_versions
 
 for what in rust contracts vectors tables chart; do try "tools/generate $what" tools/generate "$what" --check; done
 try "the version that files state" tools/version.py --check
-needs="clang=$clang wasm-ld=$lld wasm-opt=$binaryen wasm2js" try "tools/generate js" tools/generate js --check
 finish

@@ -48,7 +48,7 @@ packed_script() {
     paste -sd ' ' | grep -x '1 true true'
 }
 
-# A bundle with decode alone works, and has at most 8 kB when it is compressed.
+# A bundle with decode alone works, and has at most 4 kB when it is compressed.
 bundle() {
   local size
   cd "$work/elsewhere"
@@ -57,7 +57,7 @@ bundle() {
   node bundle/one.mjs | grep -x 1
   size=$(gzip -9 < bundle/one.mjs | wc -c)
   echo "$size bytes"
-  [ "$size" -le 8000 ]
+  [ "$size" -le 4000 ]
 }
 
 # The types of what is packed, which need none of pages.

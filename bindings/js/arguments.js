@@ -43,7 +43,7 @@ const getter = (prototype, name) => Object.getOwnPropertyDescriptor(prototype, n
 const typedArray = Object.getPrototypeOf(Uint8Array.prototype);
 // The getters themselves, since a subclass may define others.
 const tagOf = getter(typedArray, Symbol.toStringTag);
-export const lengthOf = getter(typedArray, 'length');
+const lengthOf = getter(typedArray, 'length');
 const offsetOf = getter(typedArray, 'byteOffset');
 export const bufferOf = getter(typedArray, 'buffer');
 
@@ -69,21 +69,27 @@ function emptyLength(data, name) {
 /** A plain Uint8Array over `length` bytes of another one, from an index on. */
 export const viewOf = (data, at, length) => new Uint8Array(bufferOf.call(data), offsetOf.call(data) + at, length);
 
+/** A copy of `length` bytes from an index on: a plain Uint8Array, whatever class the other one has. */
+export function copyOf(data, at, length) {
+  if (Object.getPrototypeOf(data) === Uint8Array.prototype) return data.slice(at, at + length);
+  return new Uint8Array(viewOf(data, at, length));
+}
+
 /** The options of a call, which are an object. */
 export function checkedOptions(options) {
   if (typeof options !== 'object' || options === null) throw wrongType('options', 'an object', options);
   return options;
 }
 
-/** A whole number of 64 bits, not negative: a safe integer or a bigint. */
+/** A whole number of 64 bits, not negative: a safe integer or a bigint. Returns a number if that is exact. */
 export function checkedWide(number, name) {
   if (typeof number === 'number') {
     if (!Number.isSafeInteger(number) || number < 0)
       throw new RangeError(`${name} must be a whole number from 0 to 2^53 - 1, or a bigint, got ${number}`);
-    return number;
+    return number + 0; // -0 is 0
   }
   if (typeof number !== 'bigint') throw wrongType(name, 'a number or a bigint', number);
   if (BigInt.asUintN(64, number) !== number)
     throw new RangeError(`${name} must be from 0 to 2^${name === 'code' ? 63 : 64} - 1, got ${shown(number)}`);
-  return number;
+  return number > Number.MAX_SAFE_INTEGER ? number : Number(number);
 }

@@ -1,4 +1,5 @@
 // MultihashError, the error of invalid input, and its texts.
+import { headAt, varintAt } from './format.js';
 import { INCOMPLETE, STATUSES } from './statuses.js';
 
 const ALL = [...STATUSES.slice(1), 'not_hexadecimal'];
@@ -45,19 +46,18 @@ const truncated = (part, count, length) =>
 const malformed = (name, status) =>
   `the ${name} ${status === 'overflow' ? 'has more than nine bytes' : 'is not minimal: it ends in a zero byte'}`;
 
-/** Why an input of that length is rejected. The last argument is what `multihash_head` returns for it. */
-export function reasonOf(status, limit, input, length, { taken, digestLength }) {
-  const rest = length - taken;
-  if (status === 'unexpected_eof') return truncated('digest', rest, digestLength);
-  if (status === 'invalid_size' && digestLength > limit) return tooLong(digestLength, limit);
-  if (status === 'invalid_size')
-    return `${counted(rest - digestLength)} follow${rest - digestLength === 1 ? 's' : ''} the multihash`;
-  const codeEnd = input.subarray(0, Math.min(length, 9)).findIndex((byte) => byte < 128) + 1;
-  const isCode = codeEnd === 0 || (status === 'not_minimal' && codeEnd > 1 && input[codeEnd - 1] === 0);
-  const name = isCode ? 'code' : "digest's length";
+/** Why the bytes from an index on are no multihash with a digest of at most `limit` bytes. */
+export function reasonOf(status, bytes, at, end, limit) {
+  const { size, next } = headAt(bytes, at, end);
+  const rest = end - next;
+  if (status === 'unexpected_eof') return truncated('digest', rest, size);
+  if (status === 'invalid_size' && size > limit) return tooLong(size, limit);
+  if (status === 'invalid_size') return `${counted(rest - size)} follow${rest - size === 1 ? 's' : ''} the multihash`;
+  const code = varintAt(bytes, at, end);
+  const name = code.status === 'ok' ? "digest's length" : 'code';
   if (status !== 'insufficient') return malformed(`varint of the ${name}`, status);
-  if (length === 0) return 'the input is empty';
-  return `the input ends ${length === codeEnd ? 'before' : 'inside'} the ${name}`;
+  if (at === end) return 'the input is empty';
+  return `the input ends ${code.status === 'ok' && code.next === end ? 'before' : 'inside'} the ${name}`;
 }
 
 /** Why the varint at the start of an input of that length is rejected. */

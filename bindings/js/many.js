@@ -1,6 +1,8 @@
 // Many multihashes at once.
-import { checkedLength } from './arguments.js';
-import { decodeBlock, errorOfBlock, putItems } from './core.js';
+import { checkedLength, viewOf } from './arguments.js';
+import { errorOf } from './core.js';
+import { multihashAt } from './format.js';
+import { DIGEST_MAX } from './limits.js';
 
 // The capacity of the columns is the number of encodings of this length in the input, but at first at most MOST.
 const USUAL = 34;
@@ -17,14 +19,23 @@ function columnsOf(capacity, others = {}) {
 /** Decodes the multihashes at the start of the bytes, one after the other, into columns. */
 export function readMany(bytes) {
   const length = checkedLength(bytes, 'bytes');
-  let columns = columnsOf(Math.min(Math.ceil(length / USUAL), MOST));
+  const view = viewOf(bytes, 0, length);
+  let { codes, offsets, lengths } = columnsOf(Math.min(Math.ceil(length / USUAL), MOST));
   let [taken, count] = [0, 0];
-  for (let found; taken < length && (found = decodeBlock(bytes, taken, length)) > 0; count += found) {
-    if (count + found > columns.lengths.length) columns = columnsOf(2 * (count + found), columns);
-    putItems(found, taken, columns, count);
-    const last = count + found - 1;
-    taken = columns.offsets[last] + columns.lengths[last];
+  let error;
+  while (taken < length) {
+    const found = multihashAt(view, taken, length, DIGEST_MAX);
+    if (found.status !== 'ok') {
+      error = errorOf(found, view, taken, length, DIGEST_MAX);
+      break;
+    }
+    if (count === lengths.length) ({ codes, offsets, lengths } = columnsOf(2 * count, { codes, offsets, lengths }));
+    codes[count] = BigInt(found.code);
+    offsets[count] = found.start;
+    lengths[count] = found.size;
+    taken = found.next;
+    count++;
   }
-  const error = taken < length ? errorOfBlock(length - taken) : undefined;
-  return { ...(count < columns.lengths.length ? columnsOf(count, columns) : columns), taken, error };
+  if (count < lengths.length) ({ codes, offsets, lengths } = columnsOf(count, { codes, offsets, lengths }));
+  return { codes, offsets, lengths, taken, error };
 }

@@ -1,9 +1,9 @@
 // The class Multihash, and how multihashes compare.
-import { checkedLength, isBytes, shown, wrongType } from './arguments.js';
-import { decode, encode, encodedLength, resultOf } from './core.js';
+import { checkedLength, checkedWide, copyOf, isBytes, shown, wrongType } from './arguments.js';
+import { checkPair, decode, encode } from './core.js';
 import { forJSON } from './errors.js';
+import { order, orderOfBytes } from './format.js';
 import { hex, unhex } from './hex.js';
-import { DIGEST_MAX } from './limits.js';
 
 /** What only this package has, to make a multihash that was checked. */
 export const MAKING = Symbol('making');
@@ -24,10 +24,9 @@ export class Multihash {
   /** Makes the multihash of a code and a digest, which is copied. */
   static of(code, digest) {
     const length = checkedLength(digest, 'digest');
-    if (length > DIGEST_MAX) encodedLength(code, length); // throws, before a copy
-    const copy = new Uint8Array(digest); // once: its memory may grow meanwhile
-    encodedLength(code, copy.length);
-    return new Multihash(MAKING, resultOf(code), copy);
+    const number = checkedWide(code, 'code');
+    checkPair(number, length);
+    return new Multihash(MAKING, number, copyOf(digest, 0, length));
   }
 
   /** Decodes a multihash from hexadecimal. */
@@ -72,15 +71,13 @@ export class Multihash {
 
   /** Whether the other value has the same code and the same digest. */
   equals(other) {
-    if (other instanceof Multihash) return order(this, other) === 0;
+    if (other instanceof Multihash) return orderOf(this, other) === 0;
     const [left, right, code] = [this.digest, other?.digest, other?.code];
     if (!isBytes(right)) return false;
     // a number and a bigint of the same value are the same code
     if ((typeof code !== 'number' && typeof code !== 'bigint') || code != this.code) return false;
     const length = checkedLength(left, 'the digest');
-    if (checkedLength(right, 'the other digest') !== length) return false;
-    for (let index = 0; index < length; index++) if (left[index] !== right[index]) return false;
-    return true;
+    return checkedLength(right, 'the other digest') === length && orderOfBytes(left, right, length) === 0;
   }
 
   /** This multihash, whose code is a number: a RangeError if it is a bigint. */
@@ -96,21 +93,12 @@ function digestOf({ digest, size }, name) {
   return digest;
 }
 
-/** How two multihashes compare. A call of the library takes several times as long, since it copies both digests. */
-function order(left, right) {
-  const leftDigest = digestOf(left, 'left');
-  const rightDigest = digestOf(right, 'right');
-  if (left.code !== right.code) return left.code < right.code ? -1 : 1;
-  const length = leftDigest.length;
-  if (length !== rightDigest.length) return length < rightDigest.length ? -1 : 1;
-  for (let index = 0; index < length; index++)
-    if (leftDigest[index] !== rightDigest[index]) return leftDigest[index] < rightDigest[index] ? -1 : 1;
-  return 0;
-}
+const orderOf = (left, right) =>
+  order(left.code, digestOf(left, 'left'), left.size, right.code, digestOf(right, 'right'), right.size);
 
 /** Compares by code, then by digest length, then by the first digest byte that differs: -1, 0 or 1. */
 export function compare(left, right) {
   if (!(left instanceof Multihash)) throw wrongType('left', 'a Multihash', left);
   if (!(right instanceof Multihash)) throw wrongType('right', 'a Multihash', right);
-  return order(left, right);
+  return orderOf(left, right);
 }

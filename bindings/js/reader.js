@@ -1,10 +1,10 @@
 // MultihashReader, which decodes the multihashes of a stream one after the other.
-import { checkedLength, checkedOptions, checkedWide } from './arguments.js';
-import { itemsAt, lengthOf, multihashOf, rejectAt } from './core.js';
+import { checkedLength, checkedOptions } from './arguments.js';
+import { checkedLimit, errorOf, multihashOf } from './core.js';
+import { multihashAt } from './format.js';
 import { DIGEST_MAX } from './limits.js';
 import { sourceOf } from './sources.js';
-
-const NONE = new Int32Array();
+import { INCOMPLETE } from './statuses.js';
 
 /** Reads concatenated encodings from a `ReadableStream` or an async iterable of `Uint8Array`. */
 export class MultihashReader {
@@ -12,9 +12,6 @@ export class MultihashReader {
   #limit;
   #bytes; // what was received
   #at = 0; // the index in it after the last multihash that was returned
-  #items = NONE; // of a block of `#bytes`, which starts at this index
-  #block = 0;
-  #item = 0; // the index in `#items` of the next one
   #isShort = false; // whether the bytes end inside the next multihash
   #taken = 0; // bytes of all that were returned
   #calls = 0; // pending calls
@@ -26,7 +23,7 @@ export class MultihashReader {
   /** `limit` is the maximum length of a digest; `rest` holds bytes that precede those of the source. */
   constructor(source, options = {}) {
     const { limit = DIGEST_MAX, rest = new Uint8Array() } = checkedOptions(options);
-    this.#limit = lengthOf(checkedWide(limit, 'limit'));
+    this.#limit = checkedLimit(limit);
     this.#bytes = joined(new Uint8Array(), 0, rest, 'rest');
     this.#source = sourceOf(source, 'source');
   }
@@ -74,30 +71,16 @@ export class MultihashReader {
   /** The next multihash, if all of it was received. Throws if the rest of it does not follow. */
   #received(isLast = false) {
     if (this.#isShort && !isLast) return undefined;
-    if (this.#item === this.#items.length) this.#decode();
-    const length = this.#items[this.#item + 3];
-    if (!(length <= this.#limit)) {
-      // the block has no next multihash, or it exceeds the limit
-      rejectAt(this.#bytes, this.#at, this.#limit, isLast);
-      this.#isShort = true;
-      return undefined;
+    const end = this.#bytes.length;
+    const found = multihashAt(this.#bytes, this.#at, end, this.#limit);
+    if (found.status !== 'ok') {
+      this.#isShort = INCOMPLETE.includes(found.status);
+      if (this.#isShort && !isLast) return undefined;
+      throw errorOf(found, this.#bytes, this.#at, end, this.#limit);
     }
-    const multihash = multihashOf(this.#items, this.#item, this.#bytes, this.#block);
-    this.#advance(this.#block + this.#items[this.#item + 2] + length - this.#at);
-    this.#item += 4;
-    return multihash;
-  }
-
-  /** Decodes the next block, which copies it once for all multihashes in it. */
-  #decode() {
-    this.#items = itemsAt(this.#bytes, this.#at, this.#bytes.length);
-    this.#block = this.#at;
-    this.#item = 0;
-  }
-
-  #advance(taken) {
-    this.#at += taken;
-    this.#taken += taken;
+    this.#taken += found.next - this.#at;
+    this.#at = found.next;
+    return multihashOf(this.#bytes, found);
   }
 
   /** The next multihash of the source, or null after the last one. */
@@ -121,8 +104,6 @@ export class MultihashReader {
     if (!done) {
       this.#bytes = joined(this.#bytes, this.#at, value, 'a chunk of the source');
       this.#at = 0;
-      this.#items = NONE;
-      this.#item = 0;
       this.#isShort = false;
     }
     return done;

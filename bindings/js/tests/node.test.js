@@ -9,7 +9,6 @@ import { clearImmediate, setImmediate } from 'node:timers';
 import { fileURLToPath } from 'node:url';
 import { SourceTextModule, createContext } from 'node:vm';
 import * as index from '../index.js';
-import { multihash_version } from '../library.js';
 import { hex, same, says, told } from './check.js';
 import { hashStreams, hashes } from './hashes.js';
 import { endedAnywhere } from './stream.js';
@@ -44,14 +43,6 @@ async function webCrypto(text) {
   same(`${await theirs}`, `${await ours}`, 'more than Node.js hashes at once');
 }
 
-/** A machine that stores the high byte of a number first gets an error, not wrong results. */
-async function bigEndian() {
-  class Words extends Uint32Array {
-    static of = (...words) => Uint32Array.of(...words.map((word) => word * 2 ** 24));
-  }
-  says(await told(inContext({ Uint32Array: Words })), 'Error big-endian', 'the order of bytes');
-}
-
 /** What `decode` imports, and so what a bundle with it alone holds. */
 function imports() {
   const found = new Set();
@@ -61,7 +52,7 @@ function imports() {
     for (const [, other] of bytesOf(file).toString().matchAll(/ from '\.\/(.*)';/g)) add(other);
   };
   add('core.js');
-  same(`${[...found].sort()}`, 'arguments.js,core.js,errors.js,hex.js,library.js,limits.js,multihash.js,statuses.js', 'imports');
+  same(`${[...found].sort()}`, 'arguments.js,core.js,errors.js,format.js,hex.js,limits.js,multihash.js,statuses.js', 'imports');
 }
 
 /** Large content leaves time for other work, and identity does not copy or compare it. */
@@ -157,11 +148,10 @@ function declared(module) {
   for (const { types, default: code } of Object.values(exports))
     same(types, code?.replace(/js$/, 'd.ts'), 'types in package.json');
   same(`${type} ${module.version}`, `module ${version}`, 'the type and version');
-  same(multihash_version(), version.split('.').reduce((sum, part) => 100 * sum + Number(part), 0), 'that of library.js');
 }
 
 const beside = ['hashes.tsv', 'values.tsv', 'messages.tsv'].map((name) => join(dirname(vectors), name));
 const texts = [vectors, ...beside].map((path) => readFileSync(path, 'utf8'));
 test(webCrypto.name, () => webCrypto(texts[1]));
-for (const check of [bigEndian, declared, imports, largeContent, nodeStreams, unreadStreams]) test(check.name, () => check(index));
+for (const check of [declared, imports, largeContent, nodeStreams, unreadStreams]) test(check.name, () => check(index));
 for (const [name, check] of Object.entries(tests)) test(name, () => check(index, ...texts));
