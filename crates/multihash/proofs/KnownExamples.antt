@@ -1,17 +1,23 @@
--- Lists of numbers, pairs and verdicts on known inputs, for the other examples, and what is none. A weaker part
--- of a varint or a verdict fails `front_unique`, `one_verdict` or `settles`.
-use Rattle.std.proofs.Common.{◌≡◌, ℕ, ◌<◌, ltb, true, List, [], ◌∷◌, refl, arith, ◌+◌}
+-- Known inputs and values with their verdicts, texts and order. A weaker part of a definition fails a proof that uses it,
+-- such as `front_unique`, `one_verdict`, `settles`, `json_unique` or `scale_verdict_unique`.
+use Rattle.std.proofs.Common.{◌≡◌, ℕ, ◌<◌, ltb, true, List, [], ◌∷◌, ◌++◌, refl, sym, subst, arith, ◌+◌}
 use Rattle.std.specs.List.{All, list_all}
 use Rattle.std.proofs.lemmas.Bool.{ltb-true, and_parts}
 use Rattle.std.proofs.lemmas.List.Elements.{All-nil, All-cons, All-head}
 use Rattle.multihash.specs.Bytes.{place_value, ExactlyOne}
-use Rattle.multihash.specs.Varint.{IsContinuation, insufficient}
+use Rattle.multihash.specs.Varint.{insufficient}
 use Rattle.multihash.specs.Pair.{Pair, IsPair}
 use Rattle.multihash.specs.Verdict.{Verdict, accepted, invalid_size, invalid_code, malformed, unexpected_eof, BeginsWithSize, HasVerdict}
 use Rattle.std.specs.Prelude.{codes}
 use Rattle.std.specs.declared.cmp.Ordering.{Ordering}
 use Rattle.std.specs.declared.cmp.Ordering.TheVariants.{Less, Equal, Greater}
 use Rattle.std.specs.Hash.{le_bytes}
+use Rattle.std.specs.Fmt.{digits}
+use Rattle.multihash.specs.Refusal.{of_size, of_code, of_not_bytes, refusal_text}
+use Rattle.multihash.specs.Json.{IsByteArray, number_array}
+use Rattle.multihash.specs.Scale.{IsScaleCode, HasScaleVerdict}
+use Rattle.multihash.proofs.JsonLemmas.{array_unique}
+use Rattle.multihash.proofs.ScaleLemmas.{scale_found, has_scale_found}
 use Rattle.multihash.specs.Comparing.{compare_pairs, hashed_pair}
 use Rattle.multihash.proofs.VarintWriteLemmas.{one_byte}
 use Rattle.multihash.proofs.VerdictLemmas.{found, has_found}
@@ -35,13 +41,6 @@ none_is_not_one : ¬ (ExactlyOne (λ (n : ℕ). n < 0))
 none_is_not_one h = omega (arith, h.holds)
 
 -- ---- varints
-
--- every number in a literal list has 128 added
-pub all_continuation : (xs : List ℕ) → list_all (λ x. ltb 127 x) xs ≡ true → All IsContinuation xs
-all_continuation [] e = All-nil IsContinuation
-all_continuation (x ∷ xs) e =
-    let parts = and_parts (ltb 127 x) (list_all (λ y. ltb 127 y) xs) e in
-    All-cons IsContinuation x xs (ltb-true 127 x parts.0) (all_continuation xs parts.1)
 
 -- the largest number that has a varint, and the first that has none
 abbrev pub largest : ℕ
@@ -109,6 +108,49 @@ shortest_of_size = record {
   settles = size_settles;
   shortest = λ shorter before. (shortest_size 4 5 (0 ∷ 5 ∷ 9 ∷ []) (9 ∷ []) (size_5 (9 ∷ [])) (omega arith)).shortest shorter before;
 }
+
+-- ---- SCALE
+
+abbrev pub zeros : List ℕ
+zeros = 0 ∷ 0 ∷ 0 ∷ 0 ∷ 0 ∷ 0 ∷ 0 ∷ 0 ∷ []
+
+abbrev pub all_255 : List ℕ
+all_255 = 255 ∷ 255 ∷ 255 ∷ 255 ∷ 255 ∷ 255 ∷ 255 ∷ 255 ∷ []
+
+scale_known : (S : ℕ) (x : List ℕ) → list_all (λ b. ltb b 256) x ≡ true → HasScaleVerdict S x (scale_found S x)
+scale_known S x bytes = has_scale_found S x (all_below 256 x bytes)
+
+pub scale_empty_digest_of_4 : HasScaleVerdict 4 (zeros ++ 0 ∷ []) (accepted (pair 0 []))
+unfolding place_value
+scale_empty_digest_of_4 = scale_known 4 (zeros ++ 0 ∷ []) refl
+
+pub scale_size_first : HasScaleVerdict 4 (zeros ++ 5 ∷ []) (invalid_size 5)
+unfolding place_value
+scale_size_first = scale_known 4 (zeros ++ 5 ∷ []) refl
+
+code_of_255 : IsScaleCode 18446744073709551615 all_255
+unfolding place_value
+code_of_255 = record { eight = refl; are_bytes = all_below 256 all_255 refl; value = refl }
+
+-- whatever follows
+pub scale_code_above : (rest : List ℕ) → HasScaleVerdict 4 (all_255 ++ rest) (invalid_code 18446744073709551615)
+scale_code_above rest = (all_255, rest, code_of_255, omega arith, refl)
+
+-- ---- JSON
+
+array_0_256 : (bytes : List ℕ) → ¬ (IsByteArray (number_array (0 ∷ 256 ∷ [])) bytes)
+array_0_256 bytes h =
+    let all = subst (All (λ byte. byte < 256)) (sym (array_unique (0 ∷ 256 ∷ []) bytes h.array)) h.are_bytes in
+    omega (arith, all 1 0 (omega arith))
+
+-- ---- texts
+
+-- the texts that multihash_c does not have, or not with a number
+texts : (refusal_text (of_size 256) ≡ codes "Invalid multihash size 256.")
+    × (refusal_text (of_code 18446744073709551615) ≡ codes "Invalid multihash code 18446744073709551615.")
+    × (refusal_text of_not_bytes ≡ codes "Failed to deserialize Multihash")
+unfolding digits
+texts = (refl, refl, refl)
 
 -- ---- order and hash
 
