@@ -78,19 +78,6 @@ last_digit h range = omega (arith, h.value, range)
 pub one_byte : (n : ℕ) → n < 128 → IsVarint n (n ∷ [])
 one_byte n small = wrote_last (none_wrote n) (omega (arith, small)) small
 
--- the varint of a number that has two bytes
-pub two_byte : (n : ℕ) → 128 ≤ n → n < 2 ^ 14 → IsVarint n (bit_or (bit_and n 127) 128 ∷ n / 128 ∷ [])
-two_byte n least most =
-    wrote_last (wrote_more (none_wrote n) least refl) (omega (arith, most)) (omega (arith, most))
-
--- the varint of a number that has three bytes
-pub three_byte : (n : ℕ) → 2 ^ 14 ≤ n → n < 2 ^ 21
-    → IsVarint n (bit_or (bit_and n 127) 128 ∷ bit_or (bit_and (n / 128) 127) 128 ∷ n / 128 / 128 ∷ [])
-three_byte n least most =
-    let first = wrote_more (none_wrote n) (omega (arith, least)) refl in
-    wrote_last (wrote_more first (omega (arith, least)) refl)
-    (omega (arith, most)) (omega (arith, most))
-
 -- the bytes written and those of `varint_within` are the varint
 written_within : (most : ℕ) {now : List ℕ} {len n rest : ℕ} → Wrote now len n rest → n < varint_limit → rest < 128 ^ suc most
     → IsVarint n (now ++ varint_within most rest)

@@ -8,12 +8,11 @@ ghost use Rattle.multihash.specs.Verdict.{Verdict, HasVerdict, IsIncomplete, Has
 ghost use Rattle.multihash.specs.Refusal.{IsInvalidSize, IsOutOfMemory, IsIo, IsReaderError};
 ghost use Rattle.multihash.specs.Reading.{Consumes, EndsInNone, CountsReaderFailures, HasFewerThan, ConsumesFewerThan};
 ghost use Rattle.multihash.specs.Fault.{IsUnexpectedEof, IsOwnFault};
-ghost use Rattle.multihash.specs.Writing.{AppendsPrefix, CountsWriterFailures, WriteAllLaws};
+ghost use Rattle.multihash.specs.Writing.{AppendsPrefix, CountsWriterFailures};
 ghost use Rattle.multihash.specs.Consuming.{ReadMayFailWith, ConsumesAtError, ConsumesShortestSettling, ConsumesNothingSettling, none_is_insufficient, ReadMeets};
 ghost use Rattle.multihash.specs.Outcome.{IsResultOf};
 ghost use Rattle.multihash.specs.Multihash.{pair_of};
 
-use crate::multihash::whole;
 use crate::no_std_io::{self, Read, Write};
 use crate::{Error, Head, Multihash, varint};
 use std::alloc::Global;
@@ -148,7 +147,7 @@ impl<const S: usize> Multihash<S> {
         let digest = self.digest();
         let code = varint::write_in_range(self.code(), w)?;
         let size = varint::write_in_range(u64::from(self.size()), w)?;
-        write_digest(digest, w)?;
+        w.write_all(digest)?;
         Ok(code + size + digest.len())
     }
 
@@ -192,10 +191,6 @@ impl<const S: usize> Multihash<S> {
         ensures eof { IfErr result (λ e. IsUnexpectedEof e → HasFewerThan size (R.rest r.old)) }
         ensures err { OnErr result (ConsumesFewerThan size (R.rest r.old) (R.rest r.new)) }
     {
-        // A read whose size is known at compile time is no call.
-        if size == 32 {
-            return r.read_exact(&mut buffer[..32]);
-        }
         r.read_exact(&mut buffer[..usize::from(size)])
     }
 
@@ -213,15 +208,4 @@ impl<const S: usize> Multihash<S> {
             Err(Error::from_size(size))
         }
     }
-}
-
-// Writes a digest. A write whose size is known at compile time needs no call for its copy.
-#[inline(always)]
-pub(crate) fn write_digest<W: Write>(digest: &[u8], w: &mut W) -> Result<(), no_std_io::Error>
-    ensures laws { WriteAllLaws W.appended W.full W.failures W.allocates w.old digest.now w.new result }
-{
-    if let Some(array) = whole::<32>(digest) {
-        return w.write_all(array);
-    }
-    w.write_all(digest)
 }

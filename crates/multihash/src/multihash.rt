@@ -1,5 +1,5 @@
 //! The type: its fields, their limits, and the functions that make a value or return a part of it.
-ghost use Rattle.std.specs.Prelude.{◌≡◌, ◌<◌, ◌≤◌, ◌-◌, ◌+◌, ◌⊎◌, ◌↔◌, [], ◌++◌, length, take, drop, replicate, Some, IfSome, IfOk, IfErr, IsErr, IsTrue, false};
+ghost use Rattle.std.specs.Prelude.{◌≡◌, ◌<◌, ◌≤◌, ◌-◌, ◌+◌, ◌⊎◌, ◌↔◌, [], ◌++◌, length, take, replicate, IfOk, IfErr, IsErr, IsTrue, false};
 ghost use Rattle.multihash.specs.Bytes.{IsBytes};
 ghost use Rattle.multihash.specs.Varint.{varint_limit};
 ghost use Rattle.multihash.specs.Pair.{IsPair, digest_limit, truncated, FitsBuffer};
@@ -178,33 +178,15 @@ impl<const S: usize> Multihash<S> {
         }
     }
 
-    // The digest followed by zeros. A length known at compile time is moved as a whole, without a call.
+    // The digest followed by zeros.
     #[inline(always)]
     #[tactic(auto, using(crate::proofs::EncodingLemmas::zeros_after))]
     fn array_of(digest: &[u8]) -> [u8; S]
         requires { length digest.now ≤ S }
         ensures { result ≡ digest.now ++ replicate (S - length digest.now) 0 }
     {
-        if let Some(whole) = whole::<32>(digest) {
-            return Self::padded(whole);
-        }
-        if let Some(whole) = whole::<S>(digest) {
-            return *whole;
-        }
         let mut array = [0; S];
-        copy_to_front(digest, &mut array[..]);
-        array
-    }
-
-    // The bytes followed by zeros.
-    #[inline(always)]
-    #[tactic(auto, using(crate::proofs::EncodingLemmas::zeros_after))]
-    pub(crate) fn padded<const N: usize>(bytes: &[u8; N]) -> [u8; S]
-        requires { N ≤ S }
-        ensures { result ≡ bytes.now ++ replicate (S - N) 0 }
-    {
-        let mut array = [0; S];
-        array[..N].copy_from_slice(bytes);
+        array[..digest.len()].copy_from_slice(digest);
         array
     }
 }
@@ -241,59 +223,4 @@ fn prefix(bytes: &[u8], len: usize) -> &[u8]
     ensures bytes { IsBytes result.now }
 {
     &bytes[..len]
-}
-
-// The bytes as an array, if their number is `N`.
-#[inline(always)]
-pub(crate) fn whole<const N: usize>(bytes: &[u8]) -> Option<&[u8; N]>
-    ensures some { IfSome result (λ all. (all.now ≡ bytes.now) × (length bytes.now ≡ N)) }
-{
-    if bytes.len() == N {
-        bytes.first_chunk::<N>()
-    } else {
-        None
-    }
-}
-
-// Copies the digest to the front of the buffer. 16 to 64 bytes are copied as words, without a call.
-#[inline(always)]
-fn copy_to_front(digest: &[u8], buffer: &mut [u8])
-    requires { length digest.now ≤ length buffer.old }
-    ensures { buffer.new ≡ digest.now ++ drop (length digest.now) buffer.old }
-{
-    let len = digest.len();
-    if len > 64 || len < 16 {
-        if len > 0 {
-            buffer[..len].copy_from_slice(digest);
-        }
-    } else if len > 32 {
-        copy_ends::<32>(digest, buffer);
-    } else {
-        copy_ends::<16>(digest, buffer);
-    }
-}
-
-// Copies the first `N` bytes and the last `N`, which may overlap and together are all.
-#[inline(always)]
-fn copy_ends<const N: usize>(digest: &[u8], buffer: &mut [u8])
-    requires least { N ≤ length digest.now }
-    requires most { length digest.now ≤ N + N }
-    requires room { length digest.now ≤ length buffer.old }
-    ensures { buffer.new ≡ digest.now ++ drop (length digest.now) buffer.old }
-{
-    copy_word::<N>(digest, 0, buffer);
-    copy_word::<N>(digest, digest.len() - N, buffer);
-}
-
-// Copies the `N` bytes from that index on to the same index.
-#[inline(always)]
-fn copy_word<const N: usize>(digest: &[u8], at: usize, buffer: &mut [u8])
-    requires inside { at + N ≤ length digest.now }
-    requires room { length digest.now ≤ length buffer.old }
-    ensures word { buffer.new ≡ take at buffer.old
-        ++ (take N (drop at digest.now) ++ drop (at + N) buffer.old) }
-    ensures len { length buffer.new ≡ length buffer.old }
-{
-    let end = at + N;
-    buffer[at..end].copy_from_slice(&digest[at..end]);
 }

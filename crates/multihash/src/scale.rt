@@ -4,12 +4,11 @@ ghost use Rattle.multihash.specs.Scale.{IsScale, IsScaleCode, HasScaleVerdict, S
 ghost use Rattle.multihash.specs.Verdict.{Verdict};
 ghost use Rattle.multihash.specs.Fault.{IsUnexpectedEof, IsOwnFault};
 ghost use Rattle.multihash.specs.Reading.{Consumes, HasFewerThan, ConsumesFewerThan, CountsReaderFailures};
-ghost use Rattle.multihash.specs.Writing.{AppendsPrefix, CountsWriterFailures, WriteAllLaws};
+ghost use Rattle.multihash.specs.Writing.{AppendsPrefix, CountsWriterFailures};
 ghost use Rattle.multihash.specs.Refusal.{IsIo, IsReaderError};
 ghost use Rattle.multihash.specs.Outcome.{IsResultOf};
 ghost use Rattle.multihash.specs.Multihash.{pair_of};
 
-use crate::binary::write_digest;
 use crate::no_std_io::{self, Read, Write};
 use crate::{Error, Multihash, varint};
 
@@ -31,7 +30,7 @@ impl<const S: usize> Multihash<S> {
     {
         let digest = self.digest();
         w.write_all(&self.scale_head())?;
-        write_scale_digest(digest, w)?;
+        w.write_all(digest)?;
         Ok(9 + digest.len())
     }
 
@@ -82,18 +81,6 @@ impl<const S: usize> Multihash<S> {
         Self::read_digest(r, size_byte[0], &mut digest)?;
         Ok(Self::in_buffer(code, size, digest))
     }
-}
-
-// Writes a digest, as `write_digest` does, but leaves the test of its length to a writer that does not
-// allocate: a slice makes it itself.
-#[inline(always)]
-fn write_scale_digest<W: Write>(digest: &[u8], w: &mut W) -> Result<(), no_std_io::Error>
-    ensures laws { WriteAllLaws W.appended W.full W.failures W.allocates w.old digest.now w.new result }
-{
-    if W::ALLOCATES {
-        return write_digest(digest, w);
-    }
-    w.write_all(digest)
 }
 
 // The next `N` bytes.

@@ -2,7 +2,6 @@
 // Made by tools/generate rust.
 use crate::rattle::{std, *};
 
-use crate::multihash::whole;
 use crate::no_std_io::{self, Read, Write};
 use crate::{Error, Head, Multihash, varint};
 
@@ -98,7 +97,7 @@ impl<const S: usize> Multihash<S> {
         let digest = self.digest();
         let code = varint::write_in_range(self.code(), w)?;
         let size = varint::write_in_range(u64::from(self.size()), w)?;
-        write_digest(digest, w)?;
+        w.write_all(digest)?;
         Ok(code + size + digest.len())
     }
 
@@ -129,10 +128,6 @@ impl<const S: usize> Multihash<S> {
         size: u8,
         buffer: &mut [u8; S],
     ) -> Result<(), no_std_io::Error> {
-        // A read whose size is known at compile time is no call.
-        if size == 32 {
-            return r.read_exact(&mut buffer[..32]);
-        }
         r.read_exact(&mut buffer[..usize::from(size)])
     }
 
@@ -145,13 +140,4 @@ impl<const S: usize> Multihash<S> {
             Err(Error::from_size(size))
         }
     }
-}
-
-// Writes a digest. A write whose size is known at compile time needs no call for its copy.
-#[inline(always)]
-pub(crate) fn write_digest<W: Write>(digest: &[u8], w: &mut W) -> Result<(), no_std_io::Error> {
-    if let Some(array) = whole::<32>(digest) {
-        return w.write_all(array);
-    }
-    w.write_all(digest)
 }

@@ -98,25 +98,11 @@ impl<const S: usize> Multihash<S> {
         }
     }
 
-    // The digest followed by zeros. A length known at compile time is moved as a whole, without a call.
+    // The digest followed by zeros.
     #[inline(always)]
     fn array_of(digest: &[u8]) -> [u8; S] {
-        if let Some(whole) = whole::<32>(digest) {
-            return Self::padded(whole);
-        }
-        if let Some(whole) = whole::<S>(digest) {
-            return *whole;
-        }
         let mut array = [0; S];
-        copy_to_front(digest, &mut array[..]);
-        array
-    }
-
-    // The bytes followed by zeros.
-    #[inline(always)]
-    pub(crate) fn padded<const N: usize>(bytes: &[u8; N]) -> [u8; S] {
-        let mut array = [0; S];
-        array[..N].copy_from_slice(bytes);
+        array[..digest.len()].copy_from_slice(digest);
         array
     }
 }
@@ -147,43 +133,4 @@ impl<const S: usize> Default for Multihash<S> {
 #[inline(always)]
 fn prefix(bytes: &[u8], len: usize) -> &[u8] {
     &bytes[..len]
-}
-
-// The bytes as an array, if their number is `N`.
-#[inline(always)]
-pub(crate) fn whole<const N: usize>(bytes: &[u8]) -> Option<&[u8; N]> {
-    if bytes.len() == N {
-        bytes.first_chunk::<N>()
-    } else {
-        None
-    }
-}
-
-// Copies the digest to the front of the buffer. 16 to 64 bytes are copied as words, without a call.
-#[inline(always)]
-fn copy_to_front(digest: &[u8], buffer: &mut [u8]) {
-    let len = digest.len();
-    if len > 64 || len < 16 {
-        if len > 0 {
-            buffer[..len].copy_from_slice(digest);
-        }
-    } else if len > 32 {
-        copy_ends::<32>(digest, buffer);
-    } else {
-        copy_ends::<16>(digest, buffer);
-    }
-}
-
-// Copies the first `N` bytes and the last `N`, which may overlap and together are all.
-#[inline(always)]
-fn copy_ends<const N: usize>(digest: &[u8], buffer: &mut [u8]) {
-    copy_word::<N>(digest, 0, buffer);
-    copy_word::<N>(digest, digest.len() - N, buffer);
-}
-
-// Copies the `N` bytes from that index on to the same index.
-#[inline(always)]
-fn copy_word<const N: usize>(digest: &[u8], at: usize, buffer: &mut [u8]) {
-    let end = at + N;
-    buffer[at..end].copy_from_slice(&digest[at..end]);
 }

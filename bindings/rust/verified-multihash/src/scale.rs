@@ -2,7 +2,6 @@
 // Made by tools/generate rust.
 use crate::rattle::{std, *};
 
-use crate::binary::write_digest;
 use crate::no_std_io::{self, Read, Write};
 use crate::{Error, Multihash, varint};
 
@@ -16,7 +15,7 @@ impl<const S: usize> Multihash<S> {
     pub fn scale_encode<W: Write>(&self, w: &mut W) -> Result<usize, Error> {
         let digest = self.digest();
         w.write_all(&self.scale_head())?;
-        write_scale_digest(digest, w)?;
+        w.write_all(digest)?;
         Ok(9 + digest.len())
     }
 
@@ -56,16 +55,6 @@ impl<const S: usize> Multihash<S> {
         Self::read_digest(r, size_byte[0], &mut digest)?;
         Ok(Self::in_buffer(code, size, digest))
     }
-}
-
-// Writes a digest, as `write_digest` does, but leaves the test of its length to a writer that does not
-// allocate: a slice makes it itself.
-#[inline(always)]
-fn write_scale_digest<W: Write>(digest: &[u8], w: &mut W) -> Result<(), no_std_io::Error> {
-    if W::ALLOCATES {
-        return write_digest(digest, w);
-    }
-    w.write_all(digest)
 }
 
 // The next `N` bytes.

@@ -96,12 +96,6 @@ pub(crate) fn len_in_range(n: u64) -> usize {
     if n < 128 {
         return 1;
     }
-    if n < 1 << 14 {
-        return 2;
-    }
-    if n < 1 << 21 {
-        return 3;
-    }
     // As many bytes as its bits need, seven in each.
     (70 - n.leading_zeros() as usize) / 7
 }
@@ -109,40 +103,10 @@ pub(crate) fn len_in_range(n: u64) -> usize {
 // Appends the varint of a number that is known to be in range, as `write` does.
 #[inline(always)]
 pub(crate) fn write_in_range<W: Write>(n: u64, w: &mut W) -> Result<usize, no_std_io::Error> {
-    if n < 128 {
-        w.write_all(&[n as u8])?;
-        return Ok(1);
-    }
-    // The longer codes in use have two bytes or three.
-    if n < 1 << 14 {
-        w.write_all(&two_bytes(n))?;
-        return Ok(2);
-    }
-    if n < 1 << 21 {
-        w.write_all(&three_bytes(n))?;
-        return Ok(3);
-    }
     let mut buffer = [0; ROOM];
     let varint = encode(n, &mut buffer);
     w.write_all(varint)?;
     Ok(varint.len())
-}
-
-// The varint of a number that has two bytes.
-#[inline(always)]
-fn two_bytes(n: u64) -> [u8; 2] {
-    [(n & 0x7f) as u8 | 0x80, (n >> 7) as u8]
-}
-
-// The varint of a number that has three bytes.
-#[inline(always)]
-fn three_bytes(n: u64) -> [u8; 3] {
-    let rest = n >> 7;
-    [
-        (n & 0x7f) as u8 | 0x80,
-        (rest & 0x7f) as u8 | 0x80,
-        (rest >> 7) as u8,
-    ]
 }
 
 /// Reads the varint that comes next, one byte at a time. Returns its number and leaves what follows in

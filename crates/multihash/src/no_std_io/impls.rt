@@ -1,5 +1,5 @@
 //! Slices, vectors and references as readers and writers.
-ghost use Rattle.std.specs.Prelude.{◌≡◌, ◌<◌, ◌≤◌, ◌+◌, ◌%◌, ◌^◌, vec_len, vec_capacity, Some, Ok, [], ◌++◌, min, length, take, drop, true, false, IfOk, IfErr, OnErr, IsOk, IsErr, ◌↔◌};
+ghost use Rattle.std.specs.Prelude.{◌≡◌, ◌<◌, ◌≤◌, ◌+◌, vec_len, vec_capacity, Some, Ok, [], ◌++◌, min, length, take, drop, true, false, IfOk, IfErr, OnErr, IsOk, IsErr, ◌↔◌};
 ghost use Rattle.multihash.specs.Fault.{IsOutOfMemoryFault};
 ghost use Rattle.multihash.specs.Reading.{ReadLaws, ReadExactLaws};
 ghost use Rattle.multihash.specs.Writing.{WriteLaws, WriteAllLaws, AdvancesPast, AdvancesPast-none, AdvancesPast-concatenated, AppendsAtEnd, AppendsAtEnd-none, AppendsAtEnd-concatenated};
@@ -12,18 +12,9 @@ pub(super) fn copy_front(from: &[u8], to: &mut [u8]) -> usize
     ensures count { result ≡ min (length from.now) (length to.old) }
     ensures copied { to.new ≡ take result from.now ++ drop result to.old }
 {
-    // A copy whose length is known at compile time is no call: here the compiler may know either.
-    if from.len() < to.len() {
-        if from.len() == 1 {
-            to[0] = from[0];
-        } else {
-            to[..from.len()].copy_from_slice(from);
-        }
-        from.len()
-    } else {
-        to.copy_from_slice(&from[..to.len()]);
-        to.len()
-    }
+    let n = from.len().min(to.len());
+    to[..n].copy_from_slice(&from[..n]);
+    n
 }
 
 /// Reads from the front of the slice, and never fails. If fewer bytes remain than `read_exact` needs,
@@ -116,59 +107,12 @@ impl Write for &mut [u8] {
         ensures fits { IsOk result ↔ (length buf.now ≤ length self.old.now) }
         ensures filled { OnErr result (self.new.now ≡ []) }
     {
-        let all = std::mem::take(self);
-        // Used on both paths, so that it is one instruction with the comparison.
-        let left = all.len().wrapping_sub(buf.len());
-        if buf.len() > all.len() {
-            fill(buf, all, left);
-            return Err(Error::write_zero());
+        if self.write(buf)? == buf.len() {
+            Ok(())
+        } else {
+            Err(Error::write_zero())
         }
-        put_front(buf, all);
-        *self = &mut all[buf.len()..];
-        Ok(())
     }
-}
-
-// Copies all bytes to the front. The usual digest is copied as a whole.
-#[inline(always)]
-fn put_front(from: &[u8], to: &mut [u8])
-    requires { length from.now ≤ length to.old }
-    ensures { to.new ≡ from.now ++ drop (length from.now) to.old }
-{
-    match from.as_array::<32>() {
-        Some(whole) => *to.first_chunk_mut().unwrap() = *whole,
-        None => to[..from.len()].copy_from_slice(from),
-    }
-}
-
-// Fills a slice with the first bytes. An array of one byte or nine, a short varint or the head of a SCALE
-// form, is copied first: so the usual write of it needs no memory.
-#[inline(always)]
-fn fill(from: &[u8], to: &mut [u8], left: usize)
-    requires short { length to.old ≤ length from.now }
-    requires left { (left + length from.now) % 2 ^ 64 ≡ length to.old }
-    ensures { to.new ≡ take (length to.old) from.now }
-{
-    if let Some(array) = from.as_array::<1>() {
-        let copy = *array;
-        fill_apart(&copy, to, left);
-    } else if let Some(array) = from.as_array::<9>() {
-        let copy = *array;
-        fill_apart(&copy, to, left);
-    } else {
-        fill_apart(from, to, left);
-    }
-}
-
-// Fills a slice, as `fill` does: apart, so that the usual write keeps no registers for it.
-#[cold]
-#[inline(never)]
-fn fill_apart(from: &[u8], to: &mut [u8], left: usize)
-    requires short { length to.old ≤ length from.now }
-    requires left { (left + length from.now) % 2 ^ 64 ≡ length to.old }
-    ensures { to.new ≡ take (length to.old) from.now }
-{
-    to.copy_from_slice(&from[..left.wrapping_add(from.len())]);
 }
 
 /// Appends to the vector. If out of memory, the vector is unchanged.
@@ -211,14 +155,9 @@ impl Write for Vec<u8> {
         ensures unchanged { OnErr result (self.new.items ≡ self.old.items) }
         ensures kind { IfErr result IsOutOfMemoryFault }
     {
-        let extended = match buf {
-            [byte] => self.push(*byte).is_ok(),
-            _ => self.extend_from_slice(buf).is_ok(),
-        };
-        if extended {
-            Ok(())
-        } else {
-            Err(Error::out_of_memory())
+        match self.extend_from_slice(buf) {
+            Ok(()) => Ok(()),
+            Err(_) => Err(Error::out_of_memory()),
         }
     }
 }

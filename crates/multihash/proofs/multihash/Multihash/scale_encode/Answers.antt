@@ -28,17 +28,17 @@ returns-in_err-write_all-clause-err g c =
     stops_in_first g.W.Write.appended g.met.W.Write.appends_concatenated (IsScale (pair_of c.args.self.now)) _ []
     c.digest-digest.result.now written _ c.in_err-write_all.ensures.laws.err
 
-pub returns-in_err-write_scale_digest-clause-err : goal.returns-in_err-write_scale_digest-clause-err
-returns-in_err-write_scale_digest-clause-err g c =
-    let written = form g (goal.at.returns-in_err-write_scale_digest-clause-err g c).After-scale_head in
+pub returns-in_err-write_all-2-clause-err : goal.returns-in_err-write_all-2-clause-err
+returns-in_err-write_all-2-clause-err g c =
+    let written = form g (goal.at.returns-in_err-write_all-2-clause-err g c).After-scale_head in
     stops_in_third g.W.Write.appended g.met.W.Write.appends_concatenated (IsScale (pair_of c.args.self.now)) _ []
     c.digest-digest.result.now written _ c.in_ok-write_all.ensures.laws.ok
-    (g.met.W.Write.appends_nothing _) c.in_err-write_scale_digest.ensures.laws.err
+    (g.met.W.Write.appends_nothing _) c.in_err-write_all-2.ensures.laws.err
 
-pub returns-in_err-write_scale_digest-clause-faults : goal.returns-in_err-write_scale_digest-clause-faults
-returns-in_err-write_scale_digest-clause-faults g c =
-    rw (passed_error c.from_residual-in_err-write_scale_digest.result _ c.from_residual-in_err-write_scale_digest.ensures.1)
-    (_, refl, rw c.in_ok-write_all.ensures.laws.faults at c.in_err-write_scale_digest.ensures.laws.faults)
+pub returns-in_err-write_all-2-clause-faults : goal.returns-in_err-write_all-2-clause-faults
+returns-in_err-write_all-2-clause-faults g c =
+    rw (passed_error c.from_residual-in_err-write_all-2.result _ c.from_residual-in_err-write_all-2.ensures.1)
+    (_, refl, rw c.in_ok-write_all.ensures.laws.faults at c.in_err-write_all-2.ensures.laws.faults)
 
 pub returns-clause-ok : goal.returns-clause-ok
 returns-clause-ok g c =
@@ -47,5 +47,5 @@ returns-clause-ok g c =
       written,
       omega (arith, scale_length (pair_of c.args.self.now) _ written, ap length c.digest-digest.ensures.digest),
       appends_both g.W.Write.appended g.met.W.Write.appends_concatenated c.in_ok-write_all.ensures.laws.ok
-          c.in_ok-write_scale_digest.ensures.laws.ok,
+          c.in_ok-write_all-2.ensures.laws.ok,
     )

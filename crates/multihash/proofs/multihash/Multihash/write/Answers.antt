@@ -31,14 +31,14 @@ returns-in_err-size-clause-faults g c =
     rw (passed_error c.from_residual-in_err-size.result _ c.from_residual-in_err-size.ensures.1)
     (_, refl, rw c.in_ok-code.ensures.faults at c.in_err-size.ensures.faults)
 
-pub returns-in_err-write_digest-clause-err : goal.returns-in_err-write_digest-clause-err
-returns-in_err-write_digest-clause-err g c =
+pub returns-in_err-write_all-clause-err : goal.returns-in_err-write_all-clause-err
+returns-in_err-write_all-clause-err g c =
     let a = c.in_ok-code.ensures.ok in
     let b = c.in_ok-size.ensures.ok in
     let form = encoding_of_parts (pair_of c.args.self.now) a.0 b.0 c.code.ensures.code
     (c.from.ensures ∙ c.size.ensures.size) c.digest-digest.ensures.digest a.1 b.1 in
     stops_in_third g.W.Write.appended g.met.W.Write.appends_concatenated (IsEncoding (pair_of c.args.self.now)) a.0 b.0
-    c.digest-digest.result.now form _ a.3 b.3 c.in_err-write_digest.ensures.laws.err
+    c.digest-digest.result.now form _ a.3 b.3 c.in_err-write_all.ensures.laws.err
 
 pub returns-clause-ok : goal.returns-clause-ok
 returns-clause-ok g c =
@@ -50,5 +50,5 @@ returns-clause-ok g c =
       form,
       omega (arith, a.2, b.2, length-parts a.0 b.0 c.digest-digest.result.now),
       appends_both g.W.Write.appended g.met.W.Write.appends_concatenated a.3
-          (appends_both g.W.Write.appended g.met.W.Write.appends_concatenated b.3 c.in_ok-write_digest.ensures.laws.ok),
+          (appends_both g.W.Write.appended g.met.W.Write.appends_concatenated b.3 c.in_ok-write_all.ensures.laws.ok),
     )
