@@ -43,6 +43,7 @@ class Number:
     low: int
     high: int
     is_big: bool = False  # a bigint
+    zeros: int = 0  # the number of lowest bits that are zero
 
 
 @dataclass(frozen=True)
@@ -147,10 +148,10 @@ class Run:
 
     # ---- numbers
 
-    def made(self, x: Any, low: int, high: int, big: bool, most: int | None = None) -> Value:
+    def made(self, x: Any, low: int, high: int, big: bool, zeros: int = 0) -> Value:
         """A result with these bounds, which has to be exact."""
         x = z3.simplify(x)
-        most = (BIG if big else SAFE) if most is None else most
+        most = BIG if big else SAFE
         if z3.is_bv_value(x):
             value = x.as_signed_long()
             if abs(value) > most:
@@ -159,7 +160,15 @@ class Run:
         if low < -most or high > most:
             self.must(z3.And(x <= most, x >= -most), "a number is not exact")
             low, high = max(low, -most), min(high, most)
-        return Number(x, low, high, big)
+        return Number(x, low, high, big, zeros)
+
+    def sum(self, a: Value, b: Value, big: bool) -> Value:
+        (al, ah), (bl, bh) = bounds(a), bounds(b)
+        for lower, upper in ((a, b), (b, a)):  # numbers without a bit in common, whose sum stays simple
+            zeros = upper.zeros if isinstance(upper, Number) else 0
+            if min(al, bl) >= 0 and bounds(lower)[1] < 1 << zeros:
+                return self.made(vector(a) | vector(b), al + bl, ah + bh, big)
+        return self.made(vector(a) + vector(b), al + bl, ah + bh, big)
 
     def binary(self, name: str, a: Value, b: Value) -> Value:
         if name in ("===", "!=="):
@@ -176,13 +185,14 @@ class Run:
         if name in ("*", "**", "/") and isinstance(a, int) and isinstance(b, int):
             return self.of_constants(name, a, b)
         if name == "+":
-            return self.made(x + y, al + bl, ah + bh, big)
+            return self.sum(a, b, big)
         if name == "-":
             return self.made(x - y, al - bh, ah - bl, big)
         if min(al, bl) < 0:
             raise Refused(f"{name} of a negative number")
-        if name == "*" and ah * bh <= BIG:
-            return self.made(x * y, al * bl, ah * bh, big)
+        if name == "*" and bl == bh and bl.bit_count() == 1 and ah * bh <= BIG:
+            bits = bl.bit_length() - 1
+            return self.made(x << bits, al << bits, ah << bits, big, bits)
         if name in ("/", "%") and bl == bh and bl.bit_count() == 1:
             bits = bl.bit_length() - 1
             if name == "%":
@@ -193,7 +203,7 @@ class Run:
             return self.made(x & y, 0, min(ah, bh), big)
         if name in (">>", ">>>", "<<") and bl == bh and (big or bh < 32 and ah < 2**32):
             if name == "<<" and big and ah << bl <= BIG:
-                return self.made(x << bl, al << bl, ah << bl, big)
+                return self.made(x << bl, al << bl, ah << bl, big, bl)
             if (name, big) in ((">>", True), (">>>", False)):
                 return self.made(z3.LShR(x, bl), al >> bl, ah >> bl, big)
         raise Refused(f"{name} of {a} and {b}")

@@ -14,6 +14,8 @@ WRONG = (
     ("wholeMultihash", "if (found.next < length)", "if (found.next + 1 < length)"),
     ("scaleMultihash", "if (length === 8)", "if (length === 9)"),
     ("scaleMultihash", "if (high >= 2 ** 31)", "if (high > 2 ** 31)"),
+    # returns the same, but reads a byte that may not be there
+    ("scaleMultihash", "if (length < 8)", "if (length < 8 || bytes[8] > 255)"),
     ("statusOf", "code < 2 ** 63", "code <= 2 ** 63"),
     ("varintLength", "value >= limit;", "value > limit;"),
     ("putVarint", "(index < next - 1 ? 128 : 0)", "(index < next ? 128 : 0)"),
