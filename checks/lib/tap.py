@@ -1,4 +1,4 @@
-"""For checks in Python, verdicts.py of crates/vectors and measure.py of crates/speed: prints results as TAP, for prove,
+"""For checks in Python and verdicts.py of crates/vectors: prints results as TAP, for prove,
 and builds the programs that checks run."""
 
 import os

@@ -11,10 +11,9 @@ from xml.sax.saxutils import escape
 PAGE = Path(__file__).resolve().parents[2] / "docs/SPEED.md"
 # a row of the chart: its language, what it is compared with, and the heading over its table
 ROWS = (
-    ("Rust", "the Rust crate", "From Rust"),
-    ("Rattle", "the Rust crate", "From Rattle"),
-    ("JavaScript", "plain JavaScript", "The package for JavaScript"),
-    ("Python", "plain Python", "The package for Python"),
+    ("Rust", "the Rust crate", "Rust"),
+    ("JavaScript", "plain JavaScript", "JavaScript"),
+    ("Python", "plain Python", "Python"),
 )
 LEFT, WIDTH, HEIGHT, TOP = 200, 560, 58, 64
 LEAST, MOST = 1 / 32, 8.0
