@@ -1,7 +1,8 @@
 #!/usr/bin/env python3
 """Compares the results of the stored test vectors with those that it computes.
 
-It computes them from the rules of docs/FORMAT.md by itself and calls nothing of the library.
+It computes them from the rules of docs/FORMAT.md and the bound on numbers in specs/Varint, and calls nothing of the
+library.
 
     crates/vectors/verdicts.py            checks each line
     crates/vectors/verdicts.py --write    writes the results of the stored inputs and values, and of the lines that
