@@ -121,10 +121,10 @@ overflow_is_not_truncated : ¬ (IsTruncated (of_varint overflow))
 overflow_is_not_truncated (inl is) = cc
 overflow_is_not_truncated (inr (error, is, _)) = cc
 
-texts : (form_error_text (TooMany 12) ≡ codes "12 items are too many")
-    × (form_error_text (TooLong 77) ≡ codes "a block of 77 bytes is too long")
-    × (form_error_text (OtherTag 2) ≡ codes "no tag 2 may come here")
-    × (form_error_text (Trailing 3) ≡ codes "3 bytes follow")
+texts : (form_error_text (TooMany 12) ≡ codes "too many items: 12")
+    × (form_error_text (TooLong 77) ≡ codes "a block is too long, in bytes: 77")
+    × (form_error_text (OtherTag 2) ≡ codes "unexpected tag: 2")
+    × (form_error_text (Trailing 3) ≡ codes "trailing bytes: 3")
 unfolding digits
 texts = (refl, refl, refl, refl)
 

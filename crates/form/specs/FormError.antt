@@ -17,7 +17,7 @@ IsTruncated e = IsVarintError insufficient e ⊎ IsEof e
 -- the text of an error
 abbrev pub form_error_text : FormError → List ℕ
 form_error_text (Failed error) = refusal_text error
-form_error_text (TooMany n) = decimal n ++ codes " items are too many"
-form_error_text (TooLong n) = codes "a block of " ++ decimal n ++ codes " bytes is too long"
-form_error_text (OtherTag n) = codes "no tag " ++ decimal n ++ codes " may come here"
-form_error_text (Trailing n) = decimal n ++ codes " bytes follow"
+form_error_text (TooMany n) = codes "too many items: " ++ decimal n
+form_error_text (TooLong n) = codes "a block is too long, in bytes: " ++ decimal n
+form_error_text (OtherTag n) = codes "unexpected tag: " ++ decimal n
+form_error_text (Trailing n) = codes "trailing bytes: " ++ decimal n

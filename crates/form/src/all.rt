@@ -2,7 +2,7 @@
 ghost use Rattle.std.specs.Prelude.{◌≡◌, ◌++◌, ℕ, List, MatchResult, IfOk, IfErr};
 ghost use Rattle.multihash.specs.Streams.{AreParts};
 ghost use Rattle.multihash.specs.Refusal.{IsOutOfMemory};
-ghost use Rattle.form.specs.Form.{AreSame};
+ghost use Rattle.form.specs.Form.{AreSame, Then};
 ghost use Rattle.form.specs.FormError.{IsFailed};
 ghost use Rattle.form.specs.Rejecting.{IsReadError};
 
@@ -30,4 +30,22 @@ pub fn all_from_bytes<T: Form + Drop>(alloc: Global, bytes: &[u8]) -> Result<Vec
         rest = left;
     }
     Ok(items)
+}
+
+/// Reads a head, and then the values that fill the rest of `bytes`, one after another: an archive, such as a CAR file.
+///
+/// # Errors
+///
+/// Out of memory, or the first error of [`Form::read`].
+pub fn head_and_all_from_bytes<H: Form + Drop, T: Form + Drop>(
+    alloc: Global,
+    bytes: &[u8],
+) -> Result<(H, Vec<T>), FormError>
+    ensures ok { IfOk result (λ x. Then (H.is_form x.0) (AreParts T.is_form x.1.items) bytes.now) }
+    ensures found { (head : H) (xs : List T) → Then (H.is_form head) (AreParts T.is_form xs) bytes.now →
+        MatchResult result (λ x. H.same x.0 head × AreSame T.same x.1.items xs) (IsFailed IsOutOfMemory) }
+{
+    let (head, rest) = read_front::<H>(alloc, bytes)?;
+    let items = all_from_bytes::<T>(alloc, rest)?;
+    Ok((head, items))
 }

@@ -42,10 +42,10 @@ impl fmt::Display for FormError {
     fn fmt<W: fmt::Write>(&self, f: &mut fmt::Formatter<W>) -> fmt::Result {
         match self {
             FormError::Failed(e) => fmt::Display::fmt(e, f),
-            FormError::TooMany(n) => write!(f, "{n} items are too many"),
-            FormError::TooLong(n) => write!(f, "a block of {n} bytes is too long"),
-            FormError::OtherTag(n) => write!(f, "no tag {n} may come here"),
-            FormError::Trailing(n) => write!(f, "{n} bytes follow"),
+            FormError::TooMany(n) => write!(f, "too many items: {n}"),
+            FormError::TooLong(n) => write!(f, "a block is too long, in bytes: {n}"),
+            FormError::OtherTag(n) => write!(f, "unexpected tag: {n}"),
+            FormError::Trailing(n) => write!(f, "trailing bytes: {n}"),
         }
     }
 }

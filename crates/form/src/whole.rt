@@ -96,7 +96,7 @@ pub fn to_bytes<T: Form>(alloc: Global, value: &T) -> Result<Vec<u8>, FormError>
     ensures ok { IfOk result (λ bytes. T.is_form value.now bytes.items) }
     ensures err { IfErr result (IsFailed IsOutOfMemory) }
 {
-    let mut bytes = Vec::new(alloc);
+    let mut bytes = Vec::with_capacity(alloc, encoded_len(value) as usize)?;
     value.write(&mut bytes)?;
     Ok(bytes)
 }

@@ -25,7 +25,7 @@ mod stream;
 mod tag;
 mod whole;
 
-pub use all::all_from_bytes;
+pub use all::{all_from_bytes, head_and_all_from_bytes};
 pub use array::Bytes;
 pub use block::Block;
 pub use both::{Both, write_three, write_two};

@@ -20,3 +20,17 @@ pub fn all_from_bytes<T: Form>(bytes: &[u8]) -> Result<Vec<T>, FormError> {
     }
     Ok(items)
 }
+
+/// Reads a head, and then the values that fill the rest of `bytes`, one after another: an archive, such as a CAR file.
+///
+/// # Errors
+///
+/// Out of memory, or the first error of [`Form::read`].
+pub fn head_and_all_from_bytes<H: Form, T: Form>(
+    bytes: &[u8],
+) -> Result<(H, Vec<T>), FormError> {
+    use crate::rattle::fallible::Vec;
+    let (head, rest) = read_front::<H>(bytes)?;
+    let items = all_from_bytes::<T>(rest)?;
+    Ok((head, items))
+}

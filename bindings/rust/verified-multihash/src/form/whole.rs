@@ -49,7 +49,7 @@ pub fn read_front<T: Form>(bytes: &[u8]) -> Result<(T, &[u8]), FormError> {
 /// Out of memory.
 pub fn to_bytes<T: Form>(value: &T) -> Result<Vec<u8>, FormError> {
     use crate::rattle::fallible::Vec;
-    let mut bytes = Vec::new();
+    let mut bytes = Vec::with_capacity(encoded_len(value) as usize)?;
     value.write(&mut bytes)?;
     Ok(bytes)
 }
