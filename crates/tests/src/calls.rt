@@ -333,12 +333,15 @@ fn a_slice_has_the_bytes(rt: HostRuntime) {
     for encoding in ALL {
         let wanted = encoding.bytes();
         for room in 0..wanted.len().saturating_add(2).min(13) {
-            let mut buffer = [0u8; 13];
-            let mut left = &mut buffer[..room];
-            let _outcome = encoding.write(&mut left);
-            let len = room.min(wanted.len());
-            check_eq!(&rt; &buffer[..len], &wanted[..len], encoding);
-            check!(&rt; buffer[len..].iter().all(|byte| *byte == 0), encoding);
+            // By `write_all` of the slice, or, as the default `write_all` does, by its `write`.
+            for borrowed in [false, true] {
+                let mut buffer = [0u8; 13];
+                let mut left = &mut buffer[..room];
+                let _outcome = encoding.write_by(&mut left, borrowed);
+                let len = room.min(wanted.len());
+                check_eq!(&rt; &buffer[..len], &wanted[..len], encoding);
+                check!(&rt; buffer[len..].iter().all(|byte| *byte == 0), encoding);
+            }
         }
     }
 }
