@@ -1,7 +1,6 @@
--- The contract of `read` for each way to end: in the code, the size or the digest; the error of a head.
-use Rattle.std.proofs.Common.{◌∙◌, ◌≡◌, ◌+◌, ◌<◌, ◌⊎◌, ℕ, List, [], ◌++◌, Option, Some, Result, Ok, Err, IfSome, refl, sym, ap, subst}
-use Rattle.std.proofs.Common.{inl, inr, arith, append-nil, ◌≤◌, length, append_assoc, drop, length-drop}
-use Rattle.std.proofs.lemmas.List.{drop-drop}
+-- The contract of `read` for each way to end: in the code, the size or the digest.
+use Rattle.std.proofs.Common.{◌∙◌, ◌≡◌, ◌<◌, ◌⊎◌, ℕ, List, [], ◌++◌, Option, Some, Result, Ok, Err, IfSome, refl, sym, ap, subst}
+use Rattle.std.proofs.Common.{inl, inr, arith, append-nil, ◌≤◌, length, append_assoc}
 use Rattle.multihash.specs.Bytes.{IsStrictPrefix}
 use Rattle.multihash.specs.Pair.{digest_limit}
 use Rattle.multihash.specs.Varint.{insufficient, VarintError, overflow, not_minimal, IsVarint, BeginsMalformed}
@@ -14,11 +13,11 @@ use Rattle.multihash.specs.Fault.{Fault, IsUnexpectedEof, IsOwnFault}
 use Rattle.multihash.specs.Refusal.{Refusal, of_io, of_size, of_code, of_varint, IsReaderError, IsEof, IsInvalidSize, IsVarintError}
 use Rattle.multihash.specs.Refusal.{IsAnyVarintError}
 use Rattle.multihash.specs.Consuming.{ReadMayFailWith, ConsumesShortestSettling, ConsumesNothingSettling, EndsOrFails, ReadMeets}
-use Rattle.multihash.specs.Consuming.{ConsumesAtVarintError, ConsumesVarint, IsFrontErrorAt, IsHeadError}
+use Rattle.multihash.specs.Consuming.{ConsumesAtVarintError}
 use Rattle.multihash.specs.Outcome.{IsErrorOf, IsResultOf}
 use Rattle.multihash.specs.Multihash.{Fields, pair_of}
 use Rattle.multihash.proofs.EncodingLemmas.{digest_fits}
-use Rattle.multihash.proofs.ReadingLemmas.{IfSome-consumed, Consumes-concatenated, Consumes-cut}
+use Rattle.multihash.proofs.ReadingLemmas.{IfSome-consumed, Consumes-concatenated}
 use Rattle.multihash.proofs.VerdictLemmas.{verdict_unique, coded, sized}
 use Rattle.multihash.proofs.SettlingLemmas.{verdict_kept, none_settles, IsIncompleteInput, before_digest, shortest_from, before_second}
 use Rattle.multihash.proofs.SettlingLemmas.{before_both}
@@ -253,32 +252,3 @@ module _ (S : ℕ) {code size : ℕ} {a b : List ℕ} (is_code : IsVarint code a
               (λ no. cc) (λ left is. rw (append_assoc a (b ++ front) left, append_assoc b front left)
               (cut_digest (front ++ left) (subst (HasFewerThan size) (last ∙ ap (prepend_known front) is) (few ended))))
         ]
-
--- ---- the error of a head
-
-module _ {e : Refusal} (input : List ℕ) where
-  head_error : (f : VarintError) (taken : ℕ) → IsVarintError f e → taken ≤ length input → ((S : ℕ) → HasVerdict S input (malformed f))
-      → ((S : ℕ) → ReadMeets S (Some input) (Some (drop taken input)) 0 0 (Err e)) → IsHeadError input e taken
-  head_error f taken named within has meets = record {
-    error = f;
-    named = named;
-    verdict = has;
-    within = within;
-    settled = λ S late. (meets S).settled refl (malformed f) (has S) late;
-    insufficient = λ same.
-        let ends : drop taken input ≡ [] = ((meets 0).err.insufficient (subst (λ g. IsVarintError g e) same named)).1 in
-        omega (arith, within, ap length ends, length-drop taken input);
-  }
-
-  pub code_error : {taken : ℕ} → IsFrontErrorAt input e taken → IsHeadError input e taken
-  code_error {taken = taken} ((f, named, shows), within, t) =
-      head_error f taken named within (λ S. inl shows)
-      (λ S. stops_in_code S (Some input) t (inr (refl, (f, named))) t.consumes)
-
-  pub size_error : {code : ℕ} (k taken : ℕ) → k ≤ length input → ConsumesVarint code (Some input) (Some (drop k input))
-      → IsFrontErrorAt (drop k input) e taken → IsHeadError input e (k + taken)
-  size_error {code = code} k taken inside (a, is_code, first) ((f, named, shows), within, t) =
-      let begins = coded code a input (drop k input) is_code (Consumes-cut input a (drop k input) first) in
-      head_error f (k + taken) named (omega (arith, inside, within, length-drop k input)) (λ S. inr (drop k input, begins, shows))
-      (λ S. subst (λ left. ReadMeets S (Some input) (Some left) 0 0 (Err e)) (drop-drop taken k input)
-      (stops_in_size S (Some input) t (inr (refl, (f, named))) a is_code first))

@@ -1,5 +1,4 @@
--- Reading a varint byte by byte: the invariant of the loop, and what has been consumed at its end. `WordFrontLemmas`,
--- for a varint in a word, cites the ends.
+-- Reading a varint byte by byte: the invariant of the loop, and what has been consumed at its end.
 use Rattle.std.proofs.Common.{◌≡◌, ℕ, ◌+◌, ◌*◌, ◌%◌, ◌^◌, ◌<◌, ◌≤◌, ◌⊎◌, List, [], ◌∷◌, ◌++◌, length, Option, refl, sym, ap, ◌∙◌, subst}
 use Rattle.std.proofs.Common.{inl, inr, arith, append_assoc, bit_and, bit_or}
 use Rattle.std.specs.List.{All}

@@ -64,10 +64,10 @@ module _ {now : List ℕ} {len n rest : ℕ} (h : Wrote now len n rest) where
     -- fewer digits have been written than a varint may have
     pub wrote_few : len ≤ max_continuation
     wrote_few =
-        let base : 0 < 128 = omega arith in
-        let few : len < suc max_continuation = lt_of_not-le (λ long.
-        let high : 128 ^ suc max_continuation ≤ 128 ^ len = pow-le-pow_right base long in
-        omega (arith, high, h.value, range, mul-le-mul_right (128 ^ len) (h.more (omega arith)))) in
+        let positive : 0 < 128 = omega arith in
+        let few : len < suc max_continuation = lt_of_not-le (λ (more : suc max_continuation ≤ len).
+        let power : 128 ^ suc max_continuation ≤ 128 ^ len = pow-le-pow_right positive more in
+        omega (arith, power, h.value, range, mul-le-mul_right (128 ^ len) (h.more (omega arith)))) in
         omega arith
 
 -- after eight digits of a number in range one is left

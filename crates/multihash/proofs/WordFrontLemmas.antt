@@ -1,7 +1,7 @@
 -- The word of a slice's first bytes, and what it shows of the varint at their front. All for speed: no loop
 -- over the bytes of a varint.
 use Rattle.std.proofs.Common.{◌≡◌, ℕ, zero, suc, ◌-◌, ◌<◌, ◌≤◌, List, [], ◌++◌, length, get_or, take, drop, replicate, refl, sym, ap, ◌∙◌}
-use Rattle.std.proofs.Common.{arith, length-append, length-drop, add-one, ◌+◌, ◌*◌, ◌/◌, ◌%◌, ◌^◌, ◌∷◌, bit_and, bit_or, Some}
+use Rattle.std.proofs.Common.{arith, length-append, add-one, ◌+◌, ◌*◌, ◌/◌, ◌%◌, ◌^◌, ◌∷◌, bit_and, bit_or}
 use Rattle.std.specs.Int.{byte_worth, sum_through, from_le_bytes, w128}
 use Rattle.std.proofs.Math.Seq.{take-suc}
 use Rattle.std.proofs.lemmas.List.{drop-replicate, length-replicate, length-take, length-take-le, take_all, get_or_past, get_or-take}
@@ -12,12 +12,9 @@ use Rattle.multihash.specs.Private.{IsFrontWord, BeginsWithContinuation, digits_
 use Rattle.multihash.proofs.DigitLemmas.{place_value-nil, place_value-cons, place_value_append, place_value_last, low_digits, or_digits}
 use Rattle.std.proofs.Math.Nat.{lt_of_not-le}
 use Rattle.std.proofs.lemmas.Nat.{and_le_r, and_mask}
-use Rattle.multihash.specs.Varint.{max_continuation, last_byte_limit, IsContinuation, IsVarint, insufficient, overflow, not_minimal}
+use Rattle.multihash.specs.Varint.{max_continuation, last_byte_limit, IsContinuation, IsVarint}
 use Rattle.multihash.specs.Varint.{IsInsufficient, IsOverflow, IsNotMinimal}
-use Rattle.multihash.specs.Refusal.{Refusal, IsVarintError}
-use Rattle.multihash.specs.Consuming.{IsFrontErrorAt}
 use Rattle.multihash.proofs.VarintLemmas.{varint_from_bytes, overflow_after, zero_after}
-use Rattle.multihash.proofs.VarintReadLemmas.{ReadsContinuation, input_ended, read_overflow, ends_in_zero}
 use Rattle.multihash.proofs.WordLemmas.{byte_at, byte_of, low_bytes, digits_low_of, stops, stop_at, varint_bits, StopsAt, first_unmarked}
 use Rattle.multihash.proofs.WordLemmas.{kept_last}
 
@@ -74,32 +71,12 @@ begins xs (suc m) each =
 cut_at_byte : (xs : List ℕ) (k : ℕ) → k < length xs → xs ≡ take k xs ++ get_or xs k 0 ∷ drop (k + 1) xs
 cut_at_byte xs k below = sym (take-append-drop k xs) ∙ ap (λ (back : List ℕ). take k xs ++ back) (drop_more xs k 0 below)
 
--- as many continuation bytes as are at the front of the input were read
-front_read : (xs : List ℕ) (k : ℕ) → IsBytes xs → BeginsWithContinuation k xs → k ≤ max_continuation
-    → ReadsContinuation (Some xs) (Some (drop k xs)) (place_value 128 (low_digits (take k xs))) k
-front_read xs k bytes begins few = record {
-  front = take k xs;
-  consumes = ap Some (sym (take-append-drop k xs));
-  bytes = All-take (λ b. b < 256) k xs bytes;
-  continuation_bytes = begins.all_continuation;
-  long = length-take-le k xs begins.enough;
-  few = few;
-  value = refl;
-}
-
-overflow_at : (xs : List ℕ) → IsBytes xs → BeginsWithContinuation max_continuation xs → last_byte_limit ≤ get_or xs max_continuation 0
-    → (e : Refusal) → IsVarintError overflow e → IsFrontErrorAt xs e (max_continuation + 1)
-overflow_at xs bytes begins large e named =
+overflow_at : (xs : List ℕ) → BeginsWithContinuation max_continuation xs → last_byte_limit ≤ get_or xs max_continuation 0 → IsOverflow xs
+overflow_at xs begins large =
     let below : max_continuation < length xs = lt_of_not-le (λ past. omega (arith, large, get_or_past xs max_continuation 0 past)) in
-    let shows : IsOverflow xs =
     rw (cut_at_byte xs max_continuation below)
     (overflow_after (take max_continuation xs) (get_or xs max_continuation 0) (drop (max_continuation + 1) xs) begins.all_continuation
-    (length-take-le max_continuation xs begins.enough) large) in (
-      (overflow, named, shows),
-      omega (arith, below),
-      read_overflow (front_read xs max_continuation bytes begins (omega arith)) _ _ (ap Some (drop_more xs max_continuation 0 below)) refl
-          large named,
-    )
+    (length-take-le max_continuation xs begins.enough) large)
 
 -- that many continuation bytes are at the front of the input, and the last byte, or zero at the end of the
 -- input, is not one
@@ -112,17 +89,10 @@ pub record EndsAt (xs : List ℕ) (k last : ℕ) : Type 0 where
   pub small : k ≡ max_continuation → last < last_byte_limit
 
 module _ {xs : List ℕ} {word present k last : ℕ} (f : IsFrontWord xs word present) (end : EndsAt xs k last) where
-  read_there : ReadsContinuation (Some xs) (Some (drop k xs)) (place_value 128 (low_digits (take k xs))) k
-  read_there = front_read xs k end.bytes end.begins end.few
-
-  pub ends_short : present ≤ k → (e : Refusal) → IsVarintError insufficient e → IsFrontErrorAt xs e present
-  ends_short past e named =
+  pub ends_short : present ≤ k → IsInsufficient xs
+  ends_short past =
       let all : take k xs ≡ xs = take_all k xs (omega (arith, f.present_is, end.few)) in
-      let whole : present ≡ k = omega (arith, past, f.present_is, end.few, end.begins.enough) in
-      let none : drop k xs ≡ [] = nil_from_length (drop k xs) (omega (arith, length-drop k xs, f.present_is, past, end.few)) in
-      let shows : IsInsufficient xs =
-      record { few = omega (arith, f.present_is, end.few); all_continuation = rw all at end.begins.all_continuation } in
-      ((insufficient, named, shows), omega (arith, whole, end.begins.enough), rw whole (input_ended read_there none named))
+      record { few = omega (arith, f.present_is, end.few); all_continuation = rw all at end.begins.all_continuation }
 
   module _ (within : k < present) where
     below : k < length xs
@@ -131,15 +101,10 @@ module _ {xs : List ℕ} {word present k last : ℕ} (f : IsFrontWord xs word pr
     long : length (take k xs) ≡ k
     long = length-take-le k xs end.begins.enough
 
-    pub stops_at_zero : last ≡ 0 → 0 < k → (e : Refusal) → IsVarintError not_minimal e → IsFrontErrorAt xs e (k + 1)
-    stops_at_zero null some e named =
-        let shows : IsNotMinimal xs =
+    pub stops_at_zero : last ≡ 0 → 0 < k → IsNotMinimal xs
+    stops_at_zero null some =
         rw (cut_at_byte xs k below, ← end.last_is, null)
-        (zero_after (take k xs) (drop (k + 1) xs) end.begins.all_continuation (omega (arith, long)) (omega (arith, long, end.few))) in (
-          (not_minimal, named, shows),
-          omega (arith, below),
-          ends_in_zero read_there _ _ (ap Some (drop_more xs k 0 below)) (sym end.last_is ∙ null) some named,
-        )
+        (zero_after (take k xs) (drop (k + 1) xs) end.begins.all_continuation (omega (arith, long)) (omega (arith, long, end.few)))
 
     pub stops_at_number : (last ≡ 0 → k ≡ 0) → IsVarint (place_value 128 (low_digits (take (k + 1) xs))) (take (k + 1) xs)
     stops_at_number minimal =
@@ -150,13 +115,17 @@ module _ {xs : List ℕ} {word present k last : ℕ} (f : IsFrontWord xs word pr
 
 -- ---- what a word shows of the bytes whose first it holds
 
+-- the bits of a word's low half
+abbrev pub low_half : ℕ
+low_half = 2 ^ 64 - 1
+
 module _ {xs : List ℕ} {word present : ℕ} (bytes : IsBytes xs) (f : IsFrontWord xs word present) where
   first_bytes : (n : ℕ) → IsBytes (take n xs)
   first_bytes n = All-take (λ b. b < 256) n xs bytes
 
   -- the low half
   abbrev pub lower : ℕ
-  lower = bit_and word 18446744073709551615
+  lower = bit_and word low_half
 
   low_is : lower ≡ place_value 256 (take 8 xs)
   low_is =
@@ -164,7 +133,7 @@ module _ {xs : List ℕ} {word present : ℕ} (bytes : IsBytes xs) (f : IsFrontW
       ∙ ap (place_value 256) (take-take 8 16 xs (omega arith))
 
   low_stop : StopsAt lower (stop_at lower)
-  low_stop = first_unmarked lower (omega (arith, and_le_r word 18446744073709551615))
+  low_stop = first_unmarked lower (omega (arith, and_le_r word low_half))
 
   low_byte : (i : ℕ) → i < 8 → byte_at lower i ≡ get_or xs i 0
   low_byte i few = ap (λ (n : ℕ). byte_at n i) low_is ∙ byte_of (take 8 xs) i (first_bytes 8) ∙ get_or-take 8 xs i 0 few
@@ -212,8 +181,8 @@ module _ {xs : List ℕ} {word present : ℕ} (bytes : IsBytes xs) (f : IsFrontW
         and_mask (word / 2 ^ 64) 8 ∙ ap (λ (n : ℕ). byte_at n 8) f.word_is ∙ byte_of (take 16 xs) 8 (first_bytes 16)
         ∙ get_or-take 16 xs 8 0 (omega arith)
 
-    pub high_over : last_byte_limit ≤ ninth → (e : Refusal) → IsVarintError overflow e → IsFrontErrorAt xs e (max_continuation + 1)
-    high_over large = overflow_at xs bytes begins (omega (arith, ninth_is, large))
+    pub high_over : last_byte_limit ≤ ninth → IsOverflow xs
+    high_over large = overflow_at xs begins (omega (arith, ninth_is, large))
 
     module _ (small : ninth < last_byte_limit) where
       pub high_end : EndsAt xs max_continuation ninth

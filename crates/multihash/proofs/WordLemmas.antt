@@ -1,9 +1,9 @@
 -- The bytes of a word, the number of its digits, and the first byte of a half that is no continuation byte.
 use Rattle.std.proofs.Common.{◌≡◌, ℕ, zero, suc, ◌+◌, ◌-◌, ◌*◌, ◌/◌, ◌%◌, ◌^◌, ◌<◌, ◌≤◌, List, [], ◌∷◌, length, get_or, take, drop, sym}
 use Rattle.std.proofs.Common.{ap, ◌∙◌, arith, bit_and, replicate, refl, add-one, inl, inr}
-use Rattle.std.proofs.Math.Nat.{add-zero, mul-suc, mul_assoc, lt_of_not-le, pow-le-pow_right}
-use Rattle.std.proofs.lemmas.Nat.{and_block, shr-shr, shr_high, mod_low, pow-add, pow_pos, and_assoc, and-not, and_comm, and_le_l}
-use Rattle.std.proofs.lemmas.Nat.{and_le_r, and_mask, and_mod, and_shr, field_of, mod_below, mod-pow-add, shr_le, shr_split}
+use Rattle.std.proofs.Math.Nat.{add-zero, mul-suc, mul_assoc, lt_of_not-le}
+use Rattle.std.proofs.lemmas.Nat.{shr-shr, shr_high, mod_low, pow-add, pow_pos, and_assoc, and-not, and_comm, and_le_l}
+use Rattle.std.proofs.lemmas.Nat.{and_le_r, and_mask, and_mod, and_shr, field_of, mod-pow-add, shr_le, shr_split}
 use Rattle.std.proofs.lemmas.Nat.Bits.{bit_at-suc, bit_at-zero, bit_at_and, bit_at_cat_low, bit_at_not, bit_at-pow_other}
 use Rattle.std.proofs.lemmas.Nat.Bits.{bit_at-trailing_zeros}
 use Rattle.std.proofs.lemmas.List.{get_or-drop, get_or-replicate}
@@ -57,49 +57,21 @@ byte_of ys i all =
 
 -- ---- the number of the digits
 
--- the low j bits of each of n parts of w bits
-abbrev low_parts : ℕ → ℕ → ℕ → ℕ → ℕ
-low_parts w j zero x = 0
-low_parts w j (suc n) x = low_parts w j n (x / 2 ^ w) * 2 ^ w + x % 2 ^ w % 2 ^ j
+-- the bits of a byte that are its digit
+abbrev pub digit_mask : ℕ
+digit_mask = 127
 
--- the mask of these bits
-abbrev mask : ℕ → ℕ → ℕ → ℕ
-mask w j zero = 0
-mask w j (suc n) = mask w j n * 2 ^ w + (2 ^ j - 1)
-
-and_parts : (w j n x : ℕ) → j ≤ w → bit_and x (mask w j n) ≡ low_parts w j n x
-and_parts w j zero x few = omega (arith, and_le_r x 0)
-and_parts w j (suc n) x few =
-    let base : 0 < 2 = omega arith in
-    let small : 2 ^ j - 1 < 2 ^ w = omega (arith, pow-le-pow_right base few, pow_pos j) in
-    ap (λ (v : ℕ). bit_and v (mask w j (suc n))) (sym (shr_split x w))
-    ∙ and_block w (x / 2 ^ w) (mask w j n) (x % 2 ^ w) (2 ^ j - 1) (mod_below x (2 ^ w) (pow_pos w)) small
-    ∙ rw (and_parts w j n (x / 2 ^ w) few, and_mask (x % 2 ^ w) j) refl
-
--- the digits of each two bytes
-twos_of : (half : ℕ) → half < 2 ^ 64 → bit_and half 35747867511423103 + bit_and (half / 2 ^ 8) 35747867511423103 * 2 ^ 7 % 2 ^ 64
-    ≡ half % 128 + 2 ^ 7 * (half / 2 ^ 8 % 128) + 2 ^ 16 * (half / 2 ^ 16 % 128 + 2 ^ 7 * (half / 2 ^ 24 % 128))
-    + 2 ^ 32 * (half / 2 ^ 32 % 128 + 2 ^ 7 * (half / 2 ^ 40 % 128)) + 2 ^ 48 * (half / 2 ^ 48 % 128 + 2 ^ 7 * (half / 2 ^ 56 % 128))
-twos_of half fits =
-    let low = rw (shr-shr half 16 16, shr-shr half 32 16) at (and_parts 16 7 4 half (omega arith)) in
-    let high = rw (shr-shr half 8 16, shr-shr half 24 16, shr-shr half 40 16) at (and_parts 16 7 4 (half / 2 ^ 8) (omega arith)) in
-    rw (low, high) (omega arith)
-
--- those of each four, from a number for each two
-fours_of : {a b c d : ℕ} (twos : ℕ) → a < 2 ^ 14 → b < 2 ^ 14 → c < 2 ^ 14 → d < 2 ^ 14 → twos ≡ a + 2 ^ 16 * b + 2 ^ 32 * c + 2 ^ 48 * d
-    → bit_and twos 70364449226751 + bit_and (twos / 2 ^ 16) 70364449226751 * 2 ^ 14 % 2 ^ 64 ≡ a + 2 ^ 14 * b + 2 ^ 32 * (c + 2 ^ 14 * d)
-fours_of twos p q r s is =
-    rw (and_parts 32 14 2 twos (omega arith), and_parts 32 14 2 (twos / 2 ^ 16) (omega arith)) (omega arith)
-
--- those of all eight, as the code joins them
+-- those of all eight, as the code adds them
 pub digits_joined : (half : ℕ) → half < 2 ^ 64
-    → (twos : ℕ) → twos ≡ bit_and half 35747867511423103 + bit_and (half / 2 ^ 8) 35747867511423103 * 2 ^ 7 % 2 ^ 64
-    → (fours : ℕ) → fours ≡ bit_and twos 70364449226751 + bit_and (twos / 2 ^ 16) 70364449226751 * 2 ^ 14 % 2 ^ 64
-    → bit_and fours 4294967295 + fours / 2 ^ 32 * 2 ^ 28 % 2 ^ 64 ≡ digits_low 8 half
+    → bit_and half digit_mask + bit_and (half / 2 ^ 8) digit_mask * 2 ^ 7 % 2 ^ 64
+    + bit_and (half / 2 ^ 16) digit_mask * 2 ^ 14 % 2 ^ 64 + bit_and (half / 2 ^ 24) digit_mask * 2 ^ 21 % 2 ^ 64
+    + bit_and (half / 2 ^ 32) digit_mask * 2 ^ 28 % 2 ^ 64 + bit_and (half / 2 ^ 40) digit_mask * 2 ^ 35 % 2 ^ 64
+    + bit_and (half / 2 ^ 48) digit_mask * 2 ^ 42 % 2 ^ 64 + bit_and (half / 2 ^ 56) digit_mask * 2 ^ 49 % 2 ^ 64
+    ≡ digits_low 8 half
 unfolding digits_low
-digits_joined half fits twos two fours four =
-    let parts = fours_of twos (omega arith) (omega arith) (omega arith) (omega arith) (two ∙ twos_of half fits) in
-    rw (and_mask fours 32) (omega (arith, four ∙ parts))
+digits_joined half fits =
+    let each : (i : ℕ) → bit_and (half / 2 ^ i) digit_mask ≡ half / 2 ^ i % 2 ^ 7 = λ i. and_mask (half / 2 ^ i) 7 in
+    rw (and_mask half 7, each 8, each 16, each 24, each 32, each 40, each 48, each 56) (omega arith)
 
 -- the lowest digit first
 digits_low-cons : (i word : ℕ) → digits_low (suc i) word ≡ word % 128 + 128 * digits_low i (word / 256)

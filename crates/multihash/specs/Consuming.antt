@@ -1,5 +1,5 @@
 -- What the library's calls consumed from a reader.
-use Rattle.std.specs.Prelude.{◌≡◌, ◌<◌, ◌≤◌, ℕ, List, length, drop, ◌⊎◌, Option, Some, None, Result, Ok, Err, IfSome, IfOk, IfErr}
+use Rattle.std.specs.Prelude.{◌≡◌, ◌<◌, ℕ, List, ◌⊎◌, Option, Some, None, Result, Ok, Err, IfSome, IfOk, IfErr}
 use Rattle.multihash.specs.Bytes.{IsPrefix, IsStrictPrefix}
 use Rattle.multihash.specs.Pair.{digest_limit, FitsBuffer}
 use Rattle.multihash.specs.Varint.{VarintError, insufficient, IsVarint, IsInsufficient, BeginsMalformed}
@@ -47,11 +47,6 @@ pub record ConsumesAtVarintError (e : Refusal) (old new : Option (List ℕ)) : T
   pub all : IsVarintError insufficient e → IsAtEnd new
   pub failed : IsReaderError e → IsInsufficient consumed
 
--- why the varint at the front of the input is malformed, and how many bytes reading it consumes
-abbrev pub IsFrontErrorAt : List ℕ → Refusal → ℕ → Type 0
-IsFrontErrorAt input e taken = IsFrontError input e × (taken ≤ length input)
-    × ConsumesAtVarintError e (Some input) (Some (drop taken input))
-
 -- All of an insufficient input, or at least both varints of a truncated digest; after a failure of
 -- the reader, bytes whose own verdict is incomplete.
 -- What `read` consumed when the input ended or the reader failed
@@ -68,18 +63,6 @@ pub record ConsumesShortestSettling (S : ℕ) (rest : List ℕ) (new : Option (L
   pub front : List ℕ
   pub shortest : IsShortestSettling S rest front
   pub consumes : Consumes (Some rest) front new
-
--- One of the two varints at the front of the input is malformed; reading consumes the shortest prefix
--- that settles it, or all of an insufficient input.
--- The error of that varint, the same for each capacity, and the number of bytes consumed
-pub record IsHeadError (input : List ℕ) (e : Refusal) (taken : ℕ) : Type 0 where
-  pub error : VarintError
-  pub named : IsVarintError error e
-  pub verdict : (S : ℕ) → HasVerdict S input (malformed error)
-  pub within : taken ≤ length input
-  pub settled : (S : ℕ) → ¬ (IsIncomplete (malformed error)) →
-      ConsumesShortestSettling S input (Some (drop taken input))
-  pub insufficient : error ≡ insufficient → taken ≡ length input
 
 -- no prefix of what a call consumed settles a verdict
 pub record ConsumesNothingSettling (S : ℕ) (rest : List ℕ) (new : Option (List ℕ)) : Type 0 where

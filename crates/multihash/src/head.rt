@@ -3,7 +3,6 @@ ghost use Rattle.std.specs.Prelude.{ℕ, IfOk, IfErr};
 ghost use Rattle.multihash.specs.Varint.{VarintError};
 ghost use Rattle.multihash.specs.Verdict.{malformed, HasVerdict, HasHead};
 ghost use Rattle.multihash.specs.Refusal.{IsVarintError};
-ghost use Rattle.multihash.specs.Consuming.{IsHeadError};
 
 use crate::Error;
 use crate::varint::word;
@@ -37,20 +36,6 @@ impl Head {
         ensures err { IfErr result (λ e. (error : VarintError) × IsVarintError error e
             × ((S : ℕ) → HasVerdict S bytes.now (malformed error))) }
     {
-        match Self::read_counted(bytes) {
-            Ok(head) => Ok(head),
-            Err((error, _)) => Err(error),
-        }
-    }
-
-    /// Reads the two varints at the front of `bytes`. An error comes with the number of bytes that reading
-    /// consumes: all of an insufficient input, otherwise those up to and including the byte that determines
-    /// the error.
-    #[inline(always)]
-    pub fn read_counted(bytes: &[u8]) -> Result<Self, (Error, usize)>
-        ensures ok { IfOk result (λ h. HasHead h.code h.digest_len h.digest_offset bytes.now) }
-        ensures err { IfErr result (λ e. IsHeadError bytes.now e.0 e.1) }
-    {
         // Mostly each varint has one byte.
         if bytes.len() >= 2 && bytes[0] < 128 && bytes[1] < 128 {
             return Ok(Head {
@@ -62,22 +47,20 @@ impl Head {
         Self::read_longer(bytes)
     }
 
-    // Does all of `read_counted`. It is out of line, since `read_counted` is in line in many functions.
+    // Does what `read_front` does. It is out of line, since `read_front` is in line in many functions.
     #[inline(never)]
-    fn read_longer(bytes: &[u8]) -> Result<Self, (Error, usize)>
+    fn read_longer(bytes: &[u8]) -> Result<Self, Error>
         ensures ok { IfOk result (λ h. HasHead h.code h.digest_len h.digest_offset bytes.now) }
-        ensures err { IfErr result (λ e. IsHeadError bytes.now e.0 e.1) }
+        ensures err { IfErr result (λ e. (error : VarintError) × IsVarintError error e
+            × ((S : ℕ) → HasVerdict S bytes.now (malformed error))) }
     {
         let (code, code_len) = word::read_front(bytes)?;
-        match word::read_front(&bytes[code_len..]) {
-            // The sum is at most the number of bytes.
-            Ok((digest_len, size_len)) => Ok(Head {
-                code,
-                digest_len,
-                digest_offset: code_len + size_len,
-            }),
-            // The sum is at most the number of bytes.
-            Err((error, taken)) => Err((error, code_len + taken)),
-        }
+        let (digest_len, size_len) = word::read_front(&bytes[code_len..])?;
+        Ok(Head {
+            code,
+            digest_len,
+            // At most the number of bytes.
+            digest_offset: code_len + size_len,
+        })
     }
 }

@@ -3,7 +3,8 @@ ghost use Rattle.std.specs.Prelude.{◌≡◌, ◌<◌, ◌≤◌, ◌+◌, ℕ,
 ghost use Rattle.multihash.specs.Bytes.{IsBytes, place_value};
 ghost use Rattle.multihash.specs.Varint.{IsVarint};
 ghost use Rattle.multihash.specs.Private.{IsFrontWord, BeginsWithContinuation, digits_low};
-ghost use Rattle.multihash.specs.Consuming.{IsFrontErrorAt, ConsumesVarint};
+ghost use Rattle.multihash.specs.Refusal.{IsFrontError};
+ghost use Rattle.multihash.specs.Consuming.{ConsumesVarint};
 
 use super::{LAST_BYTE_LIMIT, MAX_CONTINUATION, MAX_LEN};
 use crate::Error;
@@ -14,20 +15,16 @@ const WORD_LEN: usize = 16;
 // The high bit of each byte of half a word.
 const HIGH_BITS: u64 = 0x8080_8080_8080_8080;
 
-// The low seven bits of the first byte of each two.
-const FIRST_OF_TWO: u64 = 0x007f_007f_007f_007f;
+// The bits of a byte that are its digit.
+const DIGIT: u64 = 0x7f;
 
-// The low fourteen bits of the first two bytes of each four.
-const FIRST_OF_FOUR: u64 = 0x3fff_0000_3fff;
-
-// Reads the varint at the front of the bytes: its number and its length. An error comes with the number of bytes
-// up to and including the one that determines it: all, if they are insufficient.
+// Reads the varint at the front of the bytes: its number and its length.
 #[inline(always)]
-pub(crate) fn read_front(bytes: &[u8]) -> Result<(u64, usize), (Error, usize)>
+pub(crate) fn read_front(bytes: &[u8]) -> Result<(u64, usize), Error>
     ensures ok { IfOk result (λ found.
         ConsumesVarint found.0 (Some bytes.now) (Some (drop found.1 bytes.now))) }
     ensures within { IfOk result (λ found. found.1 ≤ length bytes.now) }
-    ensures err { IfErr result (λ e. IsFrontErrorAt bytes.now e.0 e.1) }
+    ensures err { IfErr result (IsFrontError bytes.now) }
 {
     // Most varints have one byte.
     if bytes.len() >= 1 && bytes[0] < 128 {
@@ -54,14 +51,14 @@ fn padded_word(bytes: &[u8]) -> u128
 
 // Does what `read_front` does, of bytes whose first are in the word.
 #[inline(always)]
-fn read_word(word: u128, present: usize) -> Result<(u64, usize), (Error, usize)>
+fn read_word(word: u128, present: usize) -> Result<(u64, usize), Error>
     ensures ok { IfOk result (λ found. (bytes : List ℕ) → IsBytes bytes →
         IsFrontWord bytes word present →
         IsVarint found.0 (take found.1 bytes)) }
     ensures within { IfOk result (λ found. (0 < found.1) × (found.1 ≤ present)) }
     ensures err { IfErr result (λ e. (bytes : List ℕ) → IsBytes bytes →
         IsFrontWord bytes word present →
-        IsFrontErrorAt bytes e.0 e.1) }
+        IsFrontError bytes e) }
 {
     let low = (word & 0xffff_ffff_ffff_ffff) as u64;
     // The highest bit of each byte that is no continuation byte.
@@ -73,12 +70,11 @@ fn read_word(word: u128, present: usize) -> Result<(u64, usize), (Error, usize)>
     let varint = low & stops.wrapping_sub(1);
     let continuation_bytes = (stops.trailing_zeros() / 8) as usize;
     if continuation_bytes >= present {
-        return Err((Error::insufficient(), present));
+        return Err(Error::insufficient());
     }
     // At most 56 bits are shifted out.
     if varint >> (8 * continuation_bytes) == 0 && continuation_bytes > 0 {
-        // With the last byte they are at most eight.
-        return Err((Error::not_minimal(), continuation_bytes + 1));
+        return Err(Error::not_minimal());
     }
     // With the last byte they are at most eight.
     Ok((join_digits(varint), continuation_bytes + 1))
@@ -87,36 +83,41 @@ fn read_word(word: u128, present: usize) -> Result<(u64, usize), (Error, usize)>
 // Does what `read_word` does, if all bytes of the low half are continuation bytes. That is rare, so it is out of
 // line.
 #[inline(never)]
-fn read_high(word: u128, present: usize) -> Result<(u64, usize), (Error, usize)>
+fn read_high(word: u128, present: usize) -> Result<(u64, usize), Error>
     ensures ok { IfOk result (λ found. (bytes : List ℕ) → IsBytes bytes →
         IsFrontWord bytes word present → BeginsWithContinuation 8 bytes →
         IsVarint found.0 (take found.1 bytes)) }
     ensures within { IfOk result (λ found. (0 < found.1) × (found.1 ≤ present)) }
     ensures err { IfErr result (λ e. (bytes : List ℕ) → IsBytes bytes →
         IsFrontWord bytes word present → BeginsWithContinuation 8 bytes →
-        IsFrontErrorAt bytes e.0 e.1) }
+        IsFrontError bytes e) }
 {
     let low = (word & 0xffff_ffff_ffff_ffff) as u64;
     let last = (word >> 64) as u64 & 0xff;
     if last >= LAST_BYTE_LIMIT as u64 {
-        return Err((Error::overflow(), MAX_LEN));
+        return Err(Error::overflow());
     }
     if present <= MAX_CONTINUATION {
-        return Err((Error::insufficient(), present));
+        return Err(Error::insufficient());
     }
     if last == 0 {
-        return Err((Error::not_minimal(), MAX_LEN));
+        return Err(Error::not_minimal());
     }
     Ok((join_digits(low) | last << (7 * MAX_CONTINUATION), MAX_LEN))
 }
 
-// The number of the low seven bits of each byte of a half: first of each two bytes, then of each four.
+// The number of the low seven bits of each byte of half a word.
 #[inline(always)]
 #[tactic(auto, using(crate::proofs::WordLemmas::digits_joined, std::proofs::lemmas::Nat::and_le_r))]
 fn join_digits(half: u64) -> u64
     ensures { result ≡ digits_low 8 half }
 {
-    let twos = (half & FIRST_OF_TWO) + (((half >> 8) & FIRST_OF_TWO) << 7);
-    let fours = (twos & FIRST_OF_FOUR) + (((twos >> 16) & FIRST_OF_FOUR) << 14);
-    (fours & 0xffff_ffff) + ((fours >> 32) << 28)
+    (half & DIGIT)
+        + (((half >> 8) & DIGIT) << 7)
+        + (((half >> 16) & DIGIT) << 14)
+        + (((half >> 24) & DIGIT) << 21)
+        + (((half >> 32) & DIGIT) << 28)
+        + (((half >> 40) & DIGIT) << 35)
+        + (((half >> 48) & DIGIT) << 42)
+        + (((half >> 56) & DIGIT) << 49)
 }

@@ -17,8 +17,5 @@ returns-in-Ok-clause-found c n varint rest is cut =
 
 pub returns-in-Err-clause-found : goal.returns-in-Err-clause-found
 returns-in-Err-clause-found c n varint rest is cut =
-    let (error, named, malformed) = c.in-Err.ensures.err.0 in
+    let (error, named, malformed) = c.in-Err.ensures.err in
     absurd (number_no_error c.args.bytes.now n rest error (varint, is, cut) malformed)
-
-pub returns-in-Err-clause-err : goal.returns-in-Err-clause-err
-returns-in-Err-clause-err c = c.in-Err.ensures.err.0

@@ -1,4 +1,7 @@
+use Rattle.multihash.proofs.VerdictLemmas.{short_head}
 use Rattle.multihash.proofs.head.Head.read_front.Goals as goal
 
-pub returns-in-Err-clause-err : goal.returns-in-Err-clause-err
-returns-in-Err-clause-err c = let met = c.in-Err.ensures.err in (met.error, met.named, met.verdict)
+pub returns-then-bytes-lt128-2-clause-ok : goal.returns-then-bytes-lt128-2-clause-ok
+returns-then-bytes-lt128-2-clause-ok c =
+    rw (c.from.ensures, c.from-then-bytes-lt128-2.ensures)
+    (short_head c.args.bytes.now c.if-bytes-ge2.true c.if-bytes-lt128.true c.if-bytes-lt128-2.true)

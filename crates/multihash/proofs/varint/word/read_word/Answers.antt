@@ -1,9 +1,10 @@
 -- If one of the word's first eight bytes is below 128, it shows where the varint ends, and every outcome is read off there
 -- (`low_end`); if none is, the ninth byte decides, in `read_high`.
-use Rattle.std.proofs.Common.{◌-◌, ◌^◌, arith, bit_and}
+use Rattle.std.proofs.Common.{arith, bit_and}
 use Rattle.std.proofs.lemmas.Nat.{and_le_r}
 use Rattle.std.proofs.lemmas.Result.{IfOk-weaker, IfErr-weaker}
-use Rattle.multihash.proofs.WordFrontLemmas.{low_continuation, low_end, low_number, ends_short, stops_at_zero}
+use Rattle.multihash.specs.Varint.{insufficient, not_minimal}
+use Rattle.multihash.proofs.WordFrontLemmas.{low_half, low_continuation, low_end, low_number, ends_short, stops_at_zero}
 use Rattle.multihash.proofs.WordLemmas.{first_unmarked}
 use Rattle.multihash.proofs.varint.word.read_word.Goals as goal
 use Rattle.multihash.proofs.varint.word.read_word.Goals.{
@@ -23,17 +24,20 @@ returns-then-stops-eq0-clause-err c =
 
 pub returns-then-continuation_bytes-present-clause-err : goal.returns-then-continuation_bytes-present-clause-err
 returns-then-continuation_bytes-present-clause-err c = λ xs bytes f.
-    ends_short f (low_end bytes f c.if-stops-eq0.false) c.if-continuation_bytes-present.true _ c.insufficient.ensures
+    (insufficient, c.insufficient.ensures, ends_short f (low_end bytes f c.if-stops-eq0.false) c.if-continuation_bytes-present.true)
 
 pub overflow_shr-varint : goal.overflow_shr-varint
 overflow_shr-varint c =
-    let low = bit_and c.args.word (2 ^ 64 - 1) in
-    omega (arith, (first_unmarked low (omega (arith, and_le_r c.args.word (2 ^ 64 - 1)))).some c.if-stops-eq0.false)
+    let low = bit_and c.args.word low_half in
+    omega (arith, (first_unmarked low (omega (arith, and_le_r c.args.word low_half))).some c.if-stops-eq0.false)
 
 pub returns-then-continuation_bytes-gt0-clause-err : goal.returns-then-continuation_bytes-gt0-clause-err
-returns-then-continuation_bytes-gt0-clause-err c = λ xs bytes f.
-    stops_at_zero f (low_end bytes f c.if-stops-eq0.false) c.if-continuation_bytes-present.false c.if-varint-continuation_bytes-eq0.true
-    c.if-continuation_bytes-gt0.true _ c.not_minimal.ensures
+returns-then-continuation_bytes-gt0-clause-err c = λ xs bytes f. (
+  not_minimal,
+  c.not_minimal.ensures,
+  stops_at_zero f (low_end bytes f c.if-stops-eq0.false) c.if-continuation_bytes-present.false c.if-varint-continuation_bytes-eq0.true
+      c.if-continuation_bytes-gt0.true,
+)
 
 pub returns-clause-ok : goal.returns-clause-ok
 returns-clause-ok c = λ xs bytes f.
