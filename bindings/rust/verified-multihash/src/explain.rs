@@ -1,6 +1,6 @@
 //! Why an input is no multihash, in a sentence with the numbers that the texts of [`Error`] lack. It is written by hand.
 use crate::rattle::std;
-use crate::{Error, Head, Multihash};
+use crate::{Error, Head, Multihash, varint};
 use core::fmt;
 
 /// The error of a decoding that has seen the input: its text says what is wrong with that.
@@ -52,13 +52,8 @@ impl<const S: usize> Multihash<S> {
     /// assert_eq!(Multihash::<32>::explain(input, error).to_string(), "1 byte follows the multihash");
     /// ```
     pub fn explain(input: &[u8], error: Error) -> DecodeError {
-        let (head, taken) = match Head::read_counted(input) {
-            Ok(head) => (Some(head), head.digest_offset),
-            Err((_, taken)) => (None, taken),
-        };
-        let length = head.map_or(0, |head| head.digest_len);
-        let ended = input[..taken].iter().filter(|byte| **byte < 128).count();
-        let number = if ended == usize::from(error.is_not_minimal()) { "code" } else { LENGTH };
+        let (length, offset) = Head::read_front(input).map_or((0, 0), |head| (head.digest_len, head.digest_offset));
+        let number = if varint::read_front(input).is_err() { "code" } else { LENGTH };
         let reason = match (error.invalid_size(), error.invalid_code()) {
             (Some(_), _) if length > Self::LIMIT => Reason::TooLong(length, Self::LIMIT),
             (Some(size), _) => Reason::Trailing(size),
@@ -70,7 +65,7 @@ impl<const S: usize> Multihash<S> {
                 Some(0..=127) => Reason::EndsBefore(number),
                 Some(_) => Reason::EndsInside(number),
             },
-            _ if error.is_incomplete() => Reason::Truncated("digest", (input.len() - taken) as u64, length),
+            _ if error.is_incomplete() => Reason::Truncated("digest", (input.len() - offset) as u64, length),
             _ => Reason::Other,
         };
         DecodeError { error, reason }

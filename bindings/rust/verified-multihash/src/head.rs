@@ -30,17 +30,6 @@ impl Head {
     /// `from_bytes` and `read` return the same error for every capacity.
     #[inline(always)]
     pub fn read_front(bytes: &[u8]) -> Result<Self, Error> {
-        match Self::read_counted(bytes) {
-            Ok(head) => Ok(head),
-            Err((error, _)) => Err(error),
-        }
-    }
-
-    /// Reads the two varints at the front of `bytes`. An error comes with the number of bytes that reading
-    /// consumes: all of an insufficient input, otherwise those up to and including the byte that determines
-    /// the error.
-    #[inline(always)]
-    pub fn read_counted(bytes: &[u8]) -> Result<Self, (Error, usize)> {
         // Mostly each varint has one byte.
         if bytes.len() >= 2 && bytes[0] < 128 && bytes[1] < 128 {
             return Ok(Head {
@@ -52,19 +41,16 @@ impl Head {
         Self::read_longer(bytes)
     }
 
-    // Does all of `read_counted`. It is out of line, since `read_counted` is in line in many functions.
+    // Does what `read_front` does. It is out of line, since `read_front` is in line in many functions.
     #[inline(never)]
-    fn read_longer(bytes: &[u8]) -> Result<Self, (Error, usize)> {
+    fn read_longer(bytes: &[u8]) -> Result<Self, Error> {
         let (code, code_len) = word::read_front(bytes)?;
-        match word::read_front(&bytes[code_len..]) {
-            // The sum is at most the number of bytes.
-            Ok((digest_len, size_len)) => Ok(Head {
-                code,
-                digest_len,
-                digest_offset: code_len + size_len,
-            }),
-            // The sum is at most the number of bytes.
-            Err((error, taken)) => Err((error, code_len + taken)),
-        }
+        let (digest_len, size_len) = word::read_front(&bytes[code_len..])?;
+        Ok(Head {
+            code,
+            digest_len,
+            // At most the number of bytes.
+            digest_offset: code_len + size_len,
+        })
     }
 }

@@ -86,7 +86,7 @@ pub fn write<W: Write>(n: u64, w: &mut W) -> Result<usize, Error> {
 pub fn read_front(bytes: &[u8]) -> Result<(u64, &[u8]), Error> {
     match word::read_front(bytes) {
         Ok((n, len)) => Ok((n, &bytes[len..])),
-        Err((error, _)) => Err(error),
+        Err(error) => Err(error),
     }
 }
 

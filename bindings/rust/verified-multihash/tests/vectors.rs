@@ -126,22 +126,21 @@ fn check_heads(input: &[u8], column: &str, count: usize) {
     let code = varint::read(&mut bytes);
     let both = code.and_then(|code| varint::read(&mut bytes).map(|length| (code, length)));
     let offset = input.len() - bytes.len();
-    match (Head::read_front(input), Head::read_counted(input)) {
-        (Ok(head), Ok(counted)) => {
-            assert_eq!((head, head.digest_offset), (counted, offset));
+    match Head::read_front(input) {
+        Ok(head) => {
+            assert_eq!(head.digest_offset, offset);
             assert_eq!(both.ok(), Some((head.code, head.digest_len)));
             let is_read = column.starts_with("pair");
             assert!(is_read || column == "unexpected_eof" || count == offset);
             assert!(!is_read || count as u64 == offset as u64 + head.digest_len);
             check_varint(head.code, input);
         }
-        (Err(error), Err((counted, at))) => {
-            assert_eq!((at, offset), (count, count));
-            for error in [error, counted, both.expect_err("an error")] {
+        Err(error) => {
+            assert_eq!(offset, count);
+            for error in [error, both.expect_err("an error")] {
                 check_error(&error, column);
             }
         }
-        _ => panic!("one of them fails"),
     }
 }
 

@@ -11,16 +11,12 @@ const WORD_LEN: usize = 16;
 // The high bit of each byte of half a word.
 const HIGH_BITS: u64 = 0x8080_8080_8080_8080;
 
-// The low seven bits of the first byte of each two.
-const FIRST_OF_TWO: u64 = 0x007f_007f_007f_007f;
+// The bits of a byte that are its digit.
+const DIGIT: u64 = 0x7f;
 
-// The low fourteen bits of the first two bytes of each four.
-const FIRST_OF_FOUR: u64 = 0x3fff_0000_3fff;
-
-// Reads the varint at the front of the bytes: its number and its length. An error comes with the number of bytes
-// up to and including the one that determines it: all, if they are insufficient.
+// Reads the varint at the front of the bytes: its number and its length.
 #[inline(always)]
-pub(crate) fn read_front(bytes: &[u8]) -> Result<(u64, usize), (Error, usize)> {
+pub(crate) fn read_front(bytes: &[u8]) -> Result<(u64, usize), Error> {
     // Most varints have one byte.
     if bytes.len() >= 1 && bytes[0] < 128 {
         return Ok((u64::from(bytes[0]), 1));
@@ -43,7 +39,7 @@ fn padded_word(bytes: &[u8]) -> u128 {
 
 // Does what `read_front` does, of bytes whose first are in the word.
 #[inline(always)]
-fn read_word(word: u128, present: usize) -> Result<(u64, usize), (Error, usize)> {
+fn read_word(word: u128, present: usize) -> Result<(u64, usize), Error> {
     let low = (word & 0xffff_ffff_ffff_ffff) as u64;
     // The highest bit of each byte that is no continuation byte.
     let stops = !low & HIGH_BITS;
@@ -54,12 +50,11 @@ fn read_word(word: u128, present: usize) -> Result<(u64, usize), (Error, usize)>
     let varint = low & stops.wrapping_sub(1);
     let continuation_bytes = (stops.trailing_zeros() / 8) as usize;
     if continuation_bytes >= present {
-        return Err((Error::insufficient(), present));
+        return Err(Error::insufficient());
     }
     // At most 56 bits are shifted out.
     if varint >> (8 * continuation_bytes) == 0 && continuation_bytes > 0 {
-        // With the last byte they are at most eight.
-        return Err((Error::not_minimal(), continuation_bytes + 1));
+        return Err(Error::not_minimal());
     }
     // With the last byte they are at most eight.
     Ok((join_digits(varint), continuation_bytes + 1))
@@ -68,25 +63,30 @@ fn read_word(word: u128, present: usize) -> Result<(u64, usize), (Error, usize)>
 // Does what `read_word` does, if all bytes of the low half are continuation bytes. That is rare, so it is out of
 // line.
 #[inline(never)]
-fn read_high(word: u128, present: usize) -> Result<(u64, usize), (Error, usize)> {
+fn read_high(word: u128, present: usize) -> Result<(u64, usize), Error> {
     let low = (word & 0xffff_ffff_ffff_ffff) as u64;
     let last = (word >> 64) as u64 & 0xff;
     if last >= LAST_BYTE_LIMIT as u64 {
-        return Err((Error::overflow(), MAX_LEN));
+        return Err(Error::overflow());
     }
     if present <= MAX_CONTINUATION {
-        return Err((Error::insufficient(), present));
+        return Err(Error::insufficient());
     }
     if last == 0 {
-        return Err((Error::not_minimal(), MAX_LEN));
+        return Err(Error::not_minimal());
     }
     Ok((join_digits(low) | last << (7 * MAX_CONTINUATION), MAX_LEN))
 }
 
-// The number of the low seven bits of each byte of a half: first of each two bytes, then of each four.
+// The number of the low seven bits of each byte of half a word.
 #[inline(always)]
 fn join_digits(half: u64) -> u64 {
-    let twos = (half & FIRST_OF_TWO) + (((half >> 8) & FIRST_OF_TWO) << 7);
-    let fours = (twos & FIRST_OF_FOUR) + (((twos >> 16) & FIRST_OF_FOUR) << 14);
-    (fours & 0xffff_ffff) + ((fours >> 32) << 28)
+    (half & DIGIT)
+        + (((half >> 8) & DIGIT) << 7)
+        + (((half >> 16) & DIGIT) << 14)
+        + (((half >> 24) & DIGIT) << 21)
+        + (((half >> 32) & DIGIT) << 28)
+        + (((half >> 40) & DIGIT) << 35)
+        + (((half >> 48) & DIGIT) << 42)
+        + (((half >> 56) & DIGIT) << 49)
 }
