@@ -103,6 +103,11 @@ pub(crate) fn len_in_range(n: u64) -> usize {
 // Appends the varint of a number that is known to be in range, as `write` does.
 #[inline(always)]
 pub(crate) fn write_in_range<W: Write>(n: u64, w: &mut W) -> Result<usize, no_std_io::Error> {
+    // Most numbers have one byte.
+    if n < 128 {
+        w.write_all(&[n as u8])?;
+        return Ok(1);
+    }
     let mut buffer = [0; ROOM];
     let varint = encode(n, &mut buffer);
     w.write_all(varint)?;

@@ -1,6 +1,7 @@
-use Rattle.std.proofs.Common.{◌≡◌, ◌<◌, take, length, ◌∙◌, arith, rules, subst}
-use Rattle.std.proofs.lemmas.List.{take_more_set}
+use Rattle.std.proofs.Common.{◌≡◌, ◌<◌, take, length, ◌∙◌, arith, rules, subst, sym}
+use Rattle.std.proofs.lemmas.List.{take_all, take_more_set}
 use Rattle.std.proofs.Math.ListN.{length-set}
+use Rattle.multihash.specs.Varint.{IsVarint}
 use Rattle.multihash.proofs.VarintWriteLemmas.{Wrote, none_wrote, wrote_more, wrote_last, last_digit}
 use Rattle.multihash.proofs.varint.encode.Goals as goal
 
@@ -28,5 +29,6 @@ returns c =
     let all : c.loop-len.len ≡ 8 = omega (arith, c.loop-len-test.false, c.loop-len.auto.len-end) in
     let wrote : Wrote (take 8 c.loop-len.buffer) 8 c.args.n c.loop-len.rest =
     subst (λ k. Wrote (take k c.loop-len.buffer) k c.args.n c.loop-len.rest) all before.wrote in
-    rw (take_more_set c.loop-len.buffer 8 c.loop-len.rest (omega (arith, before.buffer)))
+    let whole = take_all 9 _ (omega (arith, length-set c.loop-len.buffer 8 c.loop-len.rest, before.buffer)) in
+    subst (IsVarint c.args.n) (sym (take_more_set c.loop-len.buffer 8 c.loop-len.rest (omega (arith, before.buffer))) ∙ whole)
     (wrote_last wrote c.requires (last_digit wrote c.requires))
