@@ -24,11 +24,9 @@ pub const MAX: u64 = (((LAST_BYTE_LIMIT as u128) << (7 * MAX_CONTINUATION)) - 1)
 // The most bytes of a varint.
 const MAX_LEN: usize = MAX_CONTINUATION + 1;
 
-// The size of a buffer for a varint: at least its length, and as many bytes as are zeroed at once.
-const ROOM: usize = 16;
-
 // Writes the varint of a number to the front of the buffer, and returns its bytes, one to nine.
-fn encode(n: u64, buffer: &mut [u8; ROOM]) -> &[u8] {
+#[inline]
+fn encode(n: u64, buffer: &mut [u8; MAX_LEN]) -> &[u8] {
     let mut rest = n;
     // That many turns at most, so that the compiler unrolls the loop and tests no index.
     for len in 0..MAX_CONTINUATION {
@@ -40,7 +38,7 @@ fn encode(n: u64, buffer: &mut [u8; ROOM]) -> &[u8] {
         rest >>= 7;
     }
     buffer[MAX_CONTINUATION] = rest as u8;
-    &buffer[..MAX_LEN]
+    buffer
 }
 
 /// Returns the length of a number's varint in bytes: one to nine.
@@ -108,7 +106,7 @@ pub(crate) fn write_in_range<W: Write>(n: u64, w: &mut W) -> Result<usize, no_st
         w.write_all(&[n as u8])?;
         return Ok(1);
     }
-    let mut buffer = [0; ROOM];
+    let mut buffer = [0; MAX_LEN];
     let varint = encode(n, &mut buffer);
     w.write_all(varint)?;
     Ok(varint.len())
