@@ -117,7 +117,7 @@ zeros = 0 ∷ 0 ∷ 0 ∷ 0 ∷ 0 ∷ 0 ∷ 0 ∷ 0 ∷ []
 abbrev pub all_255 : List ℕ
 all_255 = 255 ∷ 255 ∷ 255 ∷ 255 ∷ 255 ∷ 255 ∷ 255 ∷ 255 ∷ []
 
-scale_known : (S : ℕ) (x : List ℕ) → list_all (λ b. ltb b 256) x ≡ true → HasScaleVerdict S x (scale_found S x)
+pub scale_known : (S : ℕ) (x : List ℕ) → list_all (λ b. ltb b 256) x ≡ true → HasScaleVerdict S x (scale_found S x)
 scale_known S x bytes = has_scale_found S x (all_below 256 x bytes)
 
 pub scale_empty_digest_of_4 : HasScaleVerdict 4 (zeros ++ 0 ∷ []) (accepted (pair 0 []))

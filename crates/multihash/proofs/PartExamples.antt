@@ -12,7 +12,7 @@ use Rattle.multihash.specs.Scale.{HasScaleVerdict, ConsumesAtScaleError}
 use Rattle.multihash.specs.Writing.{IsWriterFault, AppendsPrefix, WriteLaws, WriteAllLaws, AppendsAtEnd}
 use Rattle.multihash.specs.Filling.{Fills}
 use Rattle.multihash.specs.declared.no_std_io.slice_writer.SliceWriter.{SliceWriter}
-use Rattle.multihash.proofs.KnownExamples.{pair, zeros, all_255, scale_empty_digest_of_4, scale_size_first}
+use Rattle.multihash.proofs.KnownExamples.{pair, zeros, scale_empty_digest_of_4, scale_size_first}
 use Rattle.multihash.proofs.ScaleLemmas.{scale_verdict_unique}
 
 abbrev other : Fault
@@ -193,19 +193,6 @@ consumes_no_size_that_fits h = omega (arith, (h.size 3 refl).0.2)
 
 consumes_no_code_in_range : ¬ (ConsumesAtScaleError 4 (of_code 0) (Some zeros) (Some []))
 consumes_no_code_in_range h = let (bytes, rest, is_code, above, cut) = (h.code 0 refl).0 in omega (arith, above)
-
--- no byte after the size, nor the size after a code that is too large
-consumes_no_more_than_nine : ¬ (ConsumesAtScaleError 4 (of_size 5) (Some (zeros ++ 5 ∷ 7 ∷ [])) (Some []))
-consumes_no_more_than_nine h =
-    omega (arith, (h.size 5 refl).1, ap (λ (z : List ℕ). length z) (consumed_is (zeros ++ 5 ∷ 7 ∷ []) [] h.consumed h.consumes))
-
-consumes_no_size_after_code : ¬ (ConsumesAtScaleError 4 (of_code 18446744073709551615) (Some (all_255 ++ 0 ∷ [])) (Some []))
-consumes_no_size_after_code h =
-    omega (
-      arith,
-      (h.code 18446744073709551615 refl).1,
-      ap (λ (z : List ℕ). length z) (consumed_is (all_255 ++ 0 ∷ []) [] h.consumed h.consumes),
-    )
 
 -- if all of an input was consumed, its verdict is the one of the error
 claimed : (a consumed : List ℕ) (v w : Verdict) → Consumes (Some (a ++ [])) consumed (Some [])
