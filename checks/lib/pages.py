@@ -48,7 +48,7 @@ STATED = (
     (r"varints[^|]*\| 2 to (\d+)", HEADER, r"MULTIHASH_HEAD_MAX (\d+)"),
     (r"SCALE[^|]*\| 9 to (\d+)", HEADER, r"MULTIHASH_SCALE_LENGTH_MAX (\d+)"),
     (r"input has at most ([\d,]+)", "crates/mh_show/src/run.rt", r"MOST_INPUT: usize = (.*);"),
-    (r"error, and exits with status (\d+)", "crates/mh_show/src/run.rt", r"tell\(alloc, err, &e\);\s+(\d+)"),
+    (r"error, and exits with status (\d+)", "crates/mh_show/src/run.rt", r"ExitCode::from\((\d+)\)"),
     (r"digest of at most (\d+)", "crates/mh_show/src/show.rt", r"Multihash::<(\d+)>::from_bytes"),
 )
 

@@ -1,6 +1,7 @@
 //! What `main` does, over any input and outputs, so that it can be proved, and tested in memory.
 ghost use Rattle.std.specs.Prelude.{◌≡◌, ◌≤◌, ◌<◌, ◌⊎◌, length, take, IfOk, IfErr, OnOk, OnErr};
 ghost use Rattle.std.specs.Io.KnownBytes.{Appends, Consumes as ReadsKnown, IsAtEnd};
+ghost use Rattle.std.specs.Process.{exit_status};
 ghost use Rattle.mh_show.specs.Run.{ReadsWhole, AppendsPrefixOf, ShowsInput, EndsRun, ReportsError};
 
 #[cfg(test)]
@@ -10,6 +11,7 @@ use crate::show::{ShowError, show};
 use std::alloc::{AllocError, Global};
 use std::fmt;
 use std::io::{Read, Write};
+use std::process::ExitCode;
 
 // The greatest length of an input, in bytes.
 const MOST_INPUT: usize = 65536;
@@ -73,21 +75,21 @@ pub fn run<I: Read, O: Write, E: Write>(
     input: &mut I,
     out: &mut O,
     err: &mut E,
-) -> u8
+) -> ExitCode
     // No contract can say when a reader or a writer fails, nor when an allocation does.
-    ensures status { result ≤ 1 }
-    ensures shown { result ≡ 0 → ShowsInput (I.remaining input.old) (I.remaining input.new)
+    ensures status { exit_status result ≤ 1 }
+    ensures shown { exit_status result ≡ 0 → ShowsInput (I.remaining input.old) (I.remaining input.new)
         (O.contents out.old) (O.contents out.new) }
-    ensures quiet { result ≡ 0 → err.new ≡ err.old }
-    ensures told { result ≡ 1 → (e : RunError) × EndsRun (out.new ≡ out.old) (I.remaining input.old)
+    ensures quiet { exit_status result ≡ 0 → err.new ≡ err.old }
+    ensures told { exit_status result ≡ 1 → (e : RunError) × EndsRun (out.new ≡ out.old) (I.remaining input.old)
         (I.remaining input.new) (O.contents out.old) (O.contents out.new) e
         × ReportsError (E.contents err.old) (E.contents err.new) e }
 {
     match show_input(alloc, input, out) {
-        Ok(()) => 0,
+        Ok(()) => ExitCode::SUCCESS,
         Err(e) => {
             tell(alloc, err, &e);
-            1
+            ExitCode::from(1)
         }
     }
 }

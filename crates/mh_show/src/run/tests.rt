@@ -6,7 +6,7 @@ use super::run;
 use crate::show::{ShowError, show};
 use std::io;
 use std::io::{ErrorKind, Read, Write};
-use std::process::Abort;
+use std::process::{Abort, ExitCode};
 
 const EXAMPLE: &[u8] = b"1603aabbcc";
 
@@ -127,8 +127,10 @@ fn expect_run(
     wanted: (u8, &[u8], &[u8]),
     calls: (usize, usize, usize),
 ) {
-    let status = run(rt.alloc(), &mut input, &mut out, &mut err);
-    assert_eq!(rt; (status, out.written(), err.written()), wanted);
+    let (status, written, reason) = wanted;
+    let ended = run(rt.alloc(), &mut input, &mut out, &mut err);
+    assert_eq!(rt; (out.written(), err.written()), (written, reason));
+    assert_eq!(rt; ended, ExitCode::from(status));
     assert_eq!(rt; (input.calls, out.calls, err.calls), calls);
 }
 
@@ -193,6 +195,35 @@ fn a_writer_of_one_byte(rt: HostRuntime) {
         (0, &lines, b""),
         (2, 1, 0),
     );
+}
+
+// A line for each reason to reject an input.
+#[test]
+fn a_rejected_input_has_status_1(rt: HostRuntime) {
+    let rows = [
+        ("", "mh_show: not enough input bytes\n"),
+        (
+            "ffffffffffffffffff0100",
+            "mh_show: input bytes exceed maximum\n",
+        ),
+        ("8000", "mh_show: encoding is not minimal\n"),
+        ("0041", "mh_show: Invalid multihash size 65.\n"),
+        ("0001", "mh_show: failed to fill whole buffer\n"),
+        ("0x0000", "mh_show: not hexadecimal\n"),
+    ];
+    for (text, reason) in rows {
+        let input = Drip::new(text.as_bytes(), CAPACITY, End::Nothing);
+        let wanted = (1, b"".as_slice(), reason.as_bytes());
+        let reads = if text.is_empty() { 1 } else { 2 };
+        expect_run(
+            &rt,
+            input,
+            whole_page(),
+            whole_page(),
+            wanted,
+            (reads, 0, 1),
+        );
+    }
 }
 
 // A page that is full after these bytes: the write that fails is the last.
