@@ -28,7 +28,7 @@
 //! - `Results`: `verdict_of`, `IsOwnError`, `IsWriterError`
 #![tactic(auto)]
 
-ghost use Rattle.std.specs.Prelude.{◌≡◌, ◌≢◌, ◌<◌, ◌⊎◌, ◌↔◌, ℕ, List, ◌++◌, map, All, Some, IfSome, IsOkAnd, IsErrAnd, IsTrue, MatchResult};
+ghost use Rattle.std.specs.Prelude.{◌≡◌, ◌≢◌, ◌<◌, ◌⊎◌, ◌↔◌, ℕ, List, [], ◌++◌, map, All, Some, IfSome, IsOkAnd, IsErrAnd, IsTrue, MatchResult};
 ghost use Rattle.multihash.specs.Bytes.{ExactlyOne, IsPrefix, IsStrictPrefix};
 ghost use Rattle.multihash.specs.Varint.{insufficient};
 ghost use Rattle.multihash.specs.Pair.{Pair, FitsBuffer};
@@ -87,6 +87,13 @@ pub fn read_verdict<const S: usize, R: Read>(r: &mut R) -> Result<Multihash<S>, 
         ⊎ HasVerdict S rest (malformed insufficient) ⊎ HasVerdict S rest unexpected_eof →
         (consumed left : List ℕ) × (R.rest r.new ≡ Some left) × (rest ≡ consumed ++ left)
         × ((front : List ℕ) → IsPrefix front consumed → ¬ (Settles S front))) }
+
+    // If the rest ends before or within a varint, all of it was consumed; if it ends within the digest, at least
+    // both varints were, since what was consumed has that verdict by itself.
+    ensures ended { IfSome (R.rest r.old) (λ rest. R.failures r.new ≡ R.failures r.old →
+        (HasVerdict S rest (malformed insufficient) → R.rest r.new ≡ Some [])
+        × (HasVerdict S rest unexpected_eof → (consumed left : List ℕ) × (R.rest r.new ≡ Some left)
+        × (rest ≡ consumed ++ left) × HasVerdict S consumed unexpected_eof)) }
 
     // If the rest is truncated, no prefix of it settles a verdict, whatever was consumed.
     ensures truncated { IfSome (R.rest r.old) (λ rest. HasVerdict S rest (malformed insufficient)

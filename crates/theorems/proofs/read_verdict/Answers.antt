@@ -1,14 +1,15 @@
 -- `read` decides at the first byte that can: each clause is one of its contract with what is proved of all inputs, that
 -- they have one verdict and at most one shortest prefix that settles it (`one_verdict`, `settles`).
 use Rattle.std.proofs.Common.{◌≡◌, ◌≢◌, ◌↔◌, ◌⊎◌, ◌<◌, ◌++◌, ℕ, List, Option, Some, None, Result, Ok, Err, IfSome, IsErrAnd, IsOkAnd}
-use Rattle.std.proofs.Common.{inl, inr, sym, ◌∙◌, subst}
+use Rattle.std.proofs.Common.{inl, inr, sym, ap, ◌∙◌, subst, [], IfErr}
+use Rattle.std.specs.Io.KnownBytes.{IsAtEnd}
 use Rattle.std.proofs.lemmas.Option.{IfSome_then}
 use Rattle.multihash.specs.Bytes.{ExactlyOne, IsPrefix}
 use Rattle.multihash.specs.Varint.{insufficient}
 use Rattle.multihash.specs.Pair.{Pair, FitsBuffer}
 use Rattle.multihash.specs.Verdict.{Verdict, accepted, malformed, unexpected_eof, BeginsWith, HasVerdict, IsIncomplete}
 use Rattle.multihash.specs.Settling.{Settles, IsShortestSettling}
-use Rattle.multihash.specs.Consuming.{ReadMayFailWith, ConsumesShortestSettling, ConsumesNothingSettling}
+use Rattle.multihash.specs.Consuming.{ReadMayFailWith, ConsumesAtError, ConsumesShortestSettling, ConsumesNothingSettling}
 use Rattle.multihash.specs.Reading.{Consumes, CountsReaderFailures}
 use Rattle.multihash.specs.Refusal.{Refusal, IsReaderError}
 use Rattle.multihash.specs.Outcome.{IsErrorOf, IsResultOf}
@@ -77,6 +78,35 @@ none_settles S before after old new unsettled = IfSome_then old unsettled
       early rest (inl failed) = inl failed
       early rest (inr truncated) = inr (truncated_incomplete S rest truncated)
 
+-- a result that a verdict has is an error if the verdict is incomplete
+incomplete_error : {S : ℕ} (P : Refusal → Type 0) (r : Result (Fields S) Refusal) (v : Verdict) → IsResultOf r v → IsIncomplete v → IfErr r P
+    → (e : Refusal) × IsErrorOf e v × P e
+incomplete_error P (Ok m) v is incomplete at = absurd (subst IsIncomplete is incomplete)
+incomplete_error P (Err e) v is incomplete at = (e, is, at)
+
+-- what was consumed of a truncated input
+truncated_consumed : (S before after : ℕ) (old new : Option (List ℕ)) (r : Result (Fields S) Refusal)
+    → ((S : ℕ) (input : List ℕ) (v w : Verdict) → HasVerdict S input v → HasVerdict S input w → v ≡ w)
+    → IfSome old (λ rest. after ≡ before → (v : Verdict) × HasVerdict S rest v × IsResultOf r v) → IfErr r (λ e. ConsumesAtError S e old new)
+    → IfSome old (λ rest. after ≡ before → (HasVerdict S rest (malformed insufficient) → new ≡ Some [])
+    × (HasVerdict S rest unexpected_eof → (consumed left : List ℕ) × (new ≡ Some left) × (rest ≡ consumed ++ left)
+    × HasVerdict S consumed unexpected_eof))
+truncated_consumed S before after None new r unique verdict err = tt
+truncated_consumed S before after (Some rest) new r unique verdict err = λ same. (
+  (λ short. let (e, named, t) = ended same (malformed insufficient) short tt in
+  let (left, is, cut) = Consumes-known rest t.consumed new t.consumes in
+  is ∙ ap Some (subst IsAtEnd is (t.insufficient named).1)),
+  λ eof. let (e, named, t) = ended same unexpected_eof eof tt in
+  let (left, is, cut) = Consumes-known rest t.consumed new t.consumes in
+  (t.consumed, left, is, cut, t.eof named),
+)
+  where
+    ended : after ≡ before → (w : Verdict) → HasVerdict S rest w → IsIncomplete w
+        → (e : Refusal) × IsErrorOf e w × ConsumesAtError S e (Some rest) new
+    ended same w has incomplete =
+        let (v, is, of_v) = verdict same in
+        incomplete_error (λ e. ConsumesAtError S e (Some rest) new) r w (subst (IsResultOf r) (unique S rest v w is has) of_v) incomplete err
+
 -- no prefix of a truncated input settles
 truncated_unsettled : (S : ℕ) (old : Option (List ℕ))
     → ((S : ℕ) (input : List ℕ) (v : Verdict) → HasVerdict S input v → IsIncomplete v
@@ -120,5 +150,6 @@ returns g c =
       canonical = pair_returned S before after old c.read.result c.one_verdict.ensures.read_unique read.verdict;
       settled = one_taken S before after old new c.settles.ensures.one_shortest read.settled;
       unsettled = none_settles S before after old new read.unsettled;
+      ended = truncated_consumed S before after old new c.read.result c.one_verdict.ensures.read_unique read.verdict read.err;
       truncated = truncated_unsettled S old c.settles.ensures.none;
     }
