@@ -62,6 +62,16 @@ int get_buffer(PyObject *argument, const char *name, int flags, Py_buffer *view)
     return found;
 }
 
+/* Copies the first bytes of a buffer with gaps, or all of them if it has several dimensions. */
+static int copy_spread(const Py_buffer *view, char *to, Py_ssize_t count)
+{
+    if (view->ndim != 1 || view->suboffsets != NULL) return PyBuffer_ToContiguous(to, view, view->len, 'C');
+    for (Py_ssize_t at = 0; at < count; at++) {
+        to[at] = ((const char *)view->buf)[at / view->itemsize * view->strides[0] + at % view->itemsize];
+    }
+    return 0;
+}
+
 int get_input(PyObject *argument, const char *name, Py_ssize_t most, input *to)
 {
     Py_buffer view;
@@ -72,9 +82,11 @@ int get_input(PyObject *argument, const char *name, Py_ssize_t most, input *to)
         return -1;
     } else {
         int is_flat = PyBuffer_IsContiguous(&view, 'C');
+        int is_row = is_flat || (view.ndim == 1 && view.suboffsets == NULL);
         whole = view.len;
-        to->owner = PyBytes_FromStringAndSize(is_flat ? view.buf : NULL, is_flat && whole > most ? most : whole);
-        if (to->owner != NULL && !is_flat && PyBuffer_ToContiguous(PyBytes_AsString(to->owner), &view, whole, 'C') < 0) {
+        Py_ssize_t count = is_row && whole > most ? most : whole;
+        to->owner = PyBytes_FromStringAndSize(is_flat ? view.buf : NULL, count);
+        if (to->owner != NULL && !is_flat && copy_spread(&view, PyBytes_AsString(to->owner), count) < 0) {
             Py_CLEAR(to->owner);
         }
         PyBuffer_Release(&view);

@@ -3,7 +3,7 @@
 
 /* ---- the state and errors */
 
-#define FIELDS 4 /* of an error: its status, size, code and taken */
+enum { STATUS, SIZE, CODE, TAKEN, FIELDS }; /* of an error */
 
 PyTypeObject *type_in_c(PyTypeObject *type)
 {
@@ -29,6 +29,7 @@ static PyObject *raise_error(const state *own, multihash_status status, PyObject
     if (arguments != NULL) error = own->new_error((PyTypeObject *)own->error, arguments, NULL);
     int is_whole = error != NULL;
     for (Py_ssize_t at = 0; is_whole && at < FIELDS; at++) {
+        if (at == CODE && !PyObject_IsTrue(code)) continue; /* the class has 0 */
         is_whole = PyObject_SetAttr(error, PyTuple_GetItem(own->names, at), values[at]) == 0;
     }
     if (is_whole) PyErr_SetObject(own->error, error);
@@ -202,10 +203,13 @@ static PyObject *read_many(PyObject *module, PyObject *data)
     Py_buffer view;
     (void)module;
     if (get_buffer(data, "data", PyBUF_SIMPLE, &view) < 0) return NULL;
-    PyObject *items = PyByteArray_FromStringAndSize(NULL, 0);
-    size_t taken = items == NULL ? 0 : read_items(view.buf, (size_t)view.len, items);
+    PyObject *items = PyByteArray_FromStringAndSize(NULL, 0), *rest = NULL;
+    Py_ssize_t taken = items == NULL ? 0 : (Py_ssize_t)read_items(view.buf, (size_t)view.len, items);
+    /* Once the buffer is released another thread may change it. The error depends on these bytes of the rest alone. */
+    Py_ssize_t left = view.len - taken < MULTIHASH_LENGTH_MAX ? view.len - taken : MULTIHASH_LENGTH_MAX;
+    if (!PyErr_Occurred()) rest = PyBytes_FromStringAndSize(left == 0 ? NULL : (const char *)view.buf + taken, left);
     PyBuffer_Release(&view);
-    if (!PyErr_Occurred()) return Py_BuildValue("Nn", items, (Py_ssize_t)taken);
+    if (rest != NULL) return Py_BuildValue("NnN", items, taken, rest);
     Py_XDECREF(items);
     return NULL;
 }

@@ -29,6 +29,7 @@ PAIRS = [(1 << ~size % 63 | 1, bytes(range(size))) for size in range(256)]
 CODE_CALLS = [vm.encode, vm.scale_encode, Multihash, lambda code, digest: vm.encoded_len(code, len(digest))]
 # Arguments with which a function is called by position, and by the names that it shows; large, so that each is a block.
 CODE = 1 << 62
+FIELDS = ("status", "size", "code", "taken")  # of an error
 NEGATIVE = (-1, -(1 << 63), -(1 << 63) - 1, -(1 << 64), -(1 << 700))
 NAMED_CALLS = {
     vm.decode: [b"\1\3abc"], vm.read: [b"\1\3abc", CODE], vm.head: [b"\1\3"], vm.scale_decode: [bytes(9)],
@@ -106,7 +107,7 @@ def says(text, words):
 
 
 def attributes_of(error):
-    return [getattr(error, name) for name in (*MultihashError.__slots__, "args", "__dict__")] + [str(error)]
+    return [getattr(error, name) for name in (*FIELDS, "args", "__dict__")] + [str(error)]
 
 
 def copies(value):
@@ -155,6 +156,10 @@ class Arguments(unittest.TestCase):
             digest = Multihash(2, buffer).digest
             self.assertEqual((digest, type(digest)), (data, bytes))
         self.assertEqual(vm.decode(array.array("H", [0x0201, 0x4241])).digest, b"AB")
+        gaps = array.array("H", [0x0201, 0, 0x4241, 0])
+        self.assertEqual(vm.decode(memoryview(gaps)[::2]).digest, b"AB")
+        self.assertEqual(vm.decode(memoryview(data[::-1])[::-1]), Multihash(1, b"abc"))
+        self.assertEqual(self.error_of(vm.decode, memoryview(bytes(2000))[::-2])[1], 998)
         block = type("Block", (ctypes.Structure,), {"_fields_": [("all", ctypes.c_ubyte * 999)]})()  # has no dimension
         for long, size in ((matrix, 400), (array.array("Q", bytes(800)), 800), (block, 999)):
             self.assertEqual(vm.read(long), (Multihash(0, b""), 2))
@@ -237,6 +242,8 @@ class Arguments(unittest.TestCase):
                 self.assertRaises(MemoryError, bytes, data)
                 self.assertEqual((vm.read(data), vm.head(data)), ((Multihash(0, b""), 2), (0, 0, 2)))
                 self.assertEqual(vm.scale_decode(data), (Multihash(0, b""), 9))
+                self.assertEqual(vm.read(memoryview(data)[::3]), (Multihash(0, b""), 2))
+                self.assertEqual(vm.read(memoryview(data).cast("H")[::-3]), (Multihash(0, b""), 2))
                 self.assertEqual(self.error_of(vm.decode, data)[4], length)
                 for call, size in ((vm.decode, length - 2), *((call, length) for call in BYTES_CALLS[6:])):
                     self.assertEqual(self.error_of(call, data)[:2], (Status.INVALID_SIZE, size))
@@ -255,6 +262,14 @@ class Arguments(unittest.TestCase):
         self.assertEqual(repr(large), "Own(%r, 0, %s, 0, %r)" % (large.status, shown(large.code), text))
         made = [str(MultihashError(*numbers)) for numbers in ((1,), (4, 3), (4, 3, 0, 2, "own"))]
         self.assertEqual(made, [vm._status.TEXTS[1], vm._status.TEXTS[4] + " (3)", "own"])
+        for text, args in (("path: text", ["path: text"]), ("", [])):
+            large.args = args
+            self.assertEqual((str(large), large.code), (text, 10**4300))
+
+    def test_error_class(self):
+        """pydantic 1 takes the code of a class for a text, unless it is false, and shows the dictionary of an error."""
+        self.assertFalse(MultihashError.code)
+        self.assertEqual(MultihashError(4, 3).__dict__, {})
 
     def test_texts(self):
         for call, arguments, words in TEXTS:

@@ -1,12 +1,13 @@
 """Names of codes, and multihashes of data: those of hashes.tsv, which other programs computed."""
 
+import ctypes
 import hashlib
 import io
 import unittest
 from pathlib import Path
 from unittest.mock import Mock, patch
 
-from verified_multihash import Multihash, MultihashError, hashes
+from verified_multihash import Multihash, MultihashError, Status, hashes
 
 try:
     from _testbuffer import ND_FORTRAN, ndarray
@@ -42,6 +43,13 @@ class Hashes(unittest.TestCase):
                 self.assertIs(hashes.verify(found, data), True)
                 self.assertIs(hashes.verify(bytes(found), data), True)
                 self.assertIs(hashes.verify(bytes(found), bytes(data) + b"d"), False)
+
+    def test_matrix_of_ctypes(self):
+        matrix = (ctypes.c_ubyte * 2 * 2).from_buffer_copy(b"abcd")
+        found = hashes.digest(matrix, "sha1")
+        self.assertEqual((found, hashes.verify(found, matrix)), (hashes.digest(b"abcd", "sha1"), True))
+        file = Mock(read=Mock(side_effect=[matrix, b""]))
+        self.assertEqual(hashes.digest_file(file, "sha1"), found)
 
     @unittest.skipIf(ndarray is None, "_testbuffer is not installed")
     def test_matrix(self):
@@ -79,6 +87,23 @@ class Hashes(unittest.TestCase):
             self.assertRaises(UNSUPPORTED, hashes.verify, Multihash(0x300000, b""), b"abc", given)
         long = Mock(**{"return_value.digest.return_value": bytes(256)})
         self.assertRaises(MultihashError, hashes.digest, b"abc", 0x1E, {0x1E: long})
+        self.assertIs(hashes.verify(Multihash(0x1E, bytes(255)), b"abc", {0x1E: long}), False)
+        self.assertIs(hashes.verify(Multihash(0x1E, b""), b"abc", {0x1E: long}), False)
+
+    def test_odd_functions(self):
+        """A function of a caller that fails, or is false, and what is no map of functions."""
+        error = MultihashError(Status.OVERFLOW)
+        for part in ("update", "digest"):
+            fails = Mock(**{"return_value.%s.side_effect" % part: error})
+            for call, first in ((hashes.digest, b"abc"), (hashes.verify, Multihash(0x11, b"abc"))):
+                self.assertRaises(MultihashError, call, first, *([0x11] if first == b"abc" else [b"abc"]), {0x11: fails})
+        false = type("Function", (), {"__call__": lambda _: hashlib.md5(), "__bool__": lambda _: False})()
+        self.assertEqual(hashes.digest(b"abc", 0x11, {0x11: false}).digest, hashlib.md5(b"abc").digest())
+        for wrong, words in (([1], "functions .* list"), ({"blake3": false}, "functions .* 'blake3'"), ("", "functions")):
+            self.assertRaisesRegex(TypeError, words, hashes.digest, b"abc", "sha1", wrong)
+        for digest in ("abc", None):
+            wrong = Mock(**{"return_value.digest.return_value": digest})
+            self.assertRaisesRegex(TypeError, "digest", hashes.verify, Multihash(0x11, b"abc"), b"abc", {0x11: wrong})
 
     def test_parts(self):
         """Data in parts, or read from a file in parts, have the multihash of the whole."""

@@ -8,7 +8,7 @@ import unittest
 from unittest.mock import ANY
 
 import verified_multihash as vm
-from test_arguments import NAMED_CALLS, Named
+from test_arguments import FIELDS, NAMED_CALLS, Named
 from verified_multihash import Multihash, MultihashError, Status
 
 try:
@@ -51,7 +51,7 @@ CALLS["busy"] = lambda f: ((it := vm._core.Reader(f, 1)).__init__(f, 1), it._beg
 STEPS = vm._core.Reader(io.BytesIO(), 1)
 CALLS["steps"] = lambda: (STEPS._fail(None), STEPS._begin(), STEPS._end(b""), STEPS._take()), ()
 CALLS["too many"] = lambda data: (STEPS._fail(None), STEPS._begin(), STEPS._end(data)), [LONG]
-CALLS["set"] = vm._core.set_error, [MultihashError, tuple(Status), MultihashError.__slots__]
+CALLS["set"] = vm._core.set_error, [MultihashError, tuple(Status), FIELDS]
 LASTING = [object.__reduce_ex__, vm._core, vm._core.Reader, Multihash, Named, VALUE, OTHER, *CALLS["set"][1], *Status]
 if sys.version_info < (3, 12):  # which made these immortal
     LASTING += [None, False, True, NotImplemented, *range(2, 257)]

@@ -11,6 +11,7 @@ import sys
 import unittest
 from operator import setitem
 from pathlib import Path
+from unittest.mock import patch
 
 import verified_multihash as vm
 from test_arguments import attributes_of
@@ -186,6 +187,20 @@ class Many(unittest.TestCase):
         self.assertRaises(TypeError, setitem, found.codes, 0, 1)
         found = vm.read_many(array.array("H", [0, 0, 0x101]))
         self.assertEqual((found.taken, found.error.taken, found.error.is_incomplete), (4, 2, True))
+        self.assertEqual([column.format for column in found[:3]], ["q"] * 3)  # numpy adds them to its own numbers
+
+    def test_changed(self):
+        """Another thread may change the bytes after they were decoded: the error is of what was decoded."""
+        data, read_many = bytearray(b"\0\0\x80\0"), vm._core.read_many
+
+        def changes(given):
+            found = read_many(given)
+            data.clear()
+            return found
+
+        with patch("verified_multihash._core.read_many", changes):
+            found = vm.read_many(data)
+        self.assertEqual((found.taken, found.error.status, found.error.taken), (2, vm.Status.NOT_MINIMAL, 2))
 
     @unittest.skipUnless(importlib.util.find_spec("numpy"), "numpy is not installed")
     def test_numpy(self):

@@ -64,15 +64,17 @@ class MultihashError(ValueError):
     `taken` is the number of bytes that were consumed.
     """
 
-    __slots__ = ("status", "size", "code", "taken")
+    __slots__ = ("status", "size", "taken")
+    code = 0  # no slot: pydantic 1 takes a `code` of the class for a text, unless it is false
 
     def __init__(self, status: int, size: int = 0, code: int = 0, taken: int = 0, text: str = "") -> None:
         self.status = Status(status)
         if self.status is Status.OK:
             raise ValueError("OK is the status of no error")
         self.size = size
-        self.code = code
         self.taken = taken
+        if code:
+            self.code = code
         super().__init__(self.status, size, code, taken, text)
 
     @property
@@ -86,13 +88,15 @@ class MultihashError(ValueError):
         return "%s(%r, %s, %s, %s, %r)" % (type(self).__name__, self.status, *numbers, str(self))
 
     def __str__(self) -> str:
-        """Returns the text, or else that of the C library."""
+        """Returns the text, or else that of the C library. If `args` was replaced, returns what a ValueError does."""
+        if len(self.args) != 5:
+            return super().__str__()
         number = self.size or self.code
         return self.args[4] or TEXTS[self.status] + (" (%s)" % _shown(number) if number else "")
 
 
 # The library's errors are made by _core, as __init__ does it.
-_core.set_error(MultihashError, tuple(Status), MultihashError.__slots__)
+_core.set_error(MultihashError, tuple(Status), ("status", "size", "code", "taken"))
 
 
 def _shown(number: int) -> str:
@@ -148,16 +152,16 @@ def read_many(data: Buffer) -> Columns:
     `data` must be contiguous. No digest is copied, and no object is made for a multihash: the columns are memoryviews,
     which other packages use without a copy. No MultihashError is raised: `error` of the columns has it.
     """
-    items, taken = _core.read_many(data)
+    items, taken, rest = _core.read_many(data)  # of the rest, the bytes that an error depends on
     error = None
-    if taken < memoryview(data).nbytes:
+    if rest:
         try:
-            read(memoryview(data).cast("B")[taken:])
+            read(rest)
         except MultihashError as found:
             error = found.with_traceback(None)
     bytes_of_items = memoryview(items).toreadonly()
     size = struct.calcsize("N")  # an item of the C library is a code, in eight bytes, and two numbers of this size
-    codes, numbers = bytes_of_items.cast("Q"), bytes_of_items.cast("Q" if size == 8 else "I")
+    codes, numbers = bytes_of_items.cast("q"), bytes_of_items.cast("q" if size == 8 else "i")
     first, step = 8 // size, 8 // size + 2
     return Columns(codes[:: step // first], numbers[first::step], numbers[first + 1 :: step], taken, error)
 

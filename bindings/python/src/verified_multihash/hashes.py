@@ -89,7 +89,7 @@ def _bytes_like(data: Buffer, name: str = "data", hints: Mapping[str, str] = _HI
     except TypeError:
         hint = next((hints[each] for each in hints if hasattr(data, each)), "")
         raise TypeError("%s must be a bytes-like object%s, not %s" % (name, hint, type(data).__name__)) from None
-    return data if view.c_contiguous else view.tobytes()  # hashlib takes no other buffer
+    return data if view.c_contiguous and view.ndim < 2 else view.tobytes()  # hashlib takes no other buffer
 
 
 @functools.lru_cache(maxsize=None)
@@ -111,6 +111,19 @@ def _maker(code: int) -> Callable[[], Any]:
     return make
 
 
+def _own(functions: Optional[_Functions], code: int) -> Optional[Callable[[], Any]]:
+    """Returns the caller's function for a code."""
+    if functions is None:
+        return None
+    text = "functions must map codes to functions, as {0x1E: blake3.blake3} does; it is %s"
+    if not isinstance(functions, Mapping):
+        raise TypeError(text % ("a " + type(functions).__name__))
+    for key in functions:
+        if not isinstance(key, int):
+            raise TypeError(text % ("a map of %.60r" % (key,)))
+    return functions.get(code)
+
+
 class Hasher:
     """Makes the multihash of data that is passed in parts, by the function of a name or a code.
 
@@ -126,9 +139,9 @@ class Hasher:
         if isinstance(name, str) and name not in CODES:
             raise ValueError("name must be in hashes.CODES, such as 'sha2-256', not %.60r" % name)
         self._code = CODES[name] if isinstance(name, str) else name
-        own = functions and functions.get(self._code)
-        self._hash: Any = own() if own else _maker(self._code)()
-        self._digest = _DIGESTS.get("" if own else NAMES[self._code], methodcaller("digest"))
+        own = _own(functions, self._code)
+        self._hash: Any = _maker(self._code)() if own is None else own()
+        self._digest = _DIGESTS.get(NAMES[self._code] if own is None else "", methodcaller("digest"))
 
     def update(self, data: Buffer) -> None:
         """Appends data. Raises MultihashError if "identity" gets more than DIGEST_MAX bytes."""
@@ -185,8 +198,11 @@ def _verify(multihash: Union[Multihash, Buffer], parts: Iterable[Buffer], functi
         try:
             hasher.update(part)
         except MultihashError:
-            return False  # more than any digest of "identity"
-    return hmac.compare_digest(claimed.digest, hasher.multihash().digest)
+            if isinstance(hasher._hash, _Identity):
+                return False  # more than any digest of "identity"
+            raise  # of the caller's function
+    found = _bytes_like(hasher._digest(hasher._hash), "digest", {})
+    return hmac.compare_digest(claimed.digest, found)
 
 
 def verify(multihash: Union[Multihash, Buffer], data: Buffer, functions: Optional[_Functions] = None) -> bool:
