@@ -334,6 +334,11 @@ static int fill_module(PyObject *module)
     PyObject *file_reader = bases == NULL ? NULL : PyType_FromModuleAndSpec(module, &file_reader_spec, bases);
     ((state *)PyModule_GetState(module))->type = (PyTypeObject *)type;
     int is_filled = type != NULL && file_reader != NULL &&
+                    PyModule_AddIntConstant(module, "DIGEST_MAX", MULTIHASH_DIGEST_MAX) == 0 &&
+                    PyModule_AddIntConstant(module, "HEAD_MAX", MULTIHASH_HEAD_MAX) == 0 &&
+                    PyModule_AddIntConstant(module, "LENGTH_MAX", MULTIHASH_LENGTH_MAX) == 0 &&
+                    PyModule_AddIntConstant(module, "SCALE_LENGTH_MAX", MULTIHASH_SCALE_LENGTH_MAX) == 0 &&
+                    PyModule_AddIntConstant(module, "VARINT_LENGTH_MAX", MULTIHASH_VARINT_LENGTH_MAX) == 0 &&
                     PyObject_SetAttrString(module, "Multihash", type) == 0 &&
                     PyObject_SetAttrString(module, "Reader", reader) == 0 &&
                     PyObject_SetAttrString(module, "FileReader", file_reader) == 0;

@@ -3,6 +3,12 @@ from typing import Awaitable, Callable, ClassVar, Literal, Optional, Self, Tuple
 
 from _typeshed import ReadableBuffer as Buffer
 
+DIGEST_MAX: int
+HEAD_MAX: int
+LENGTH_MAX: int
+SCALE_LENGTH_MAX: int
+VARINT_LENGTH_MAX: int
+
 class Multihash:
     """A code below 2**63, which identifies the hash function, and a digest of at most DIGEST_MAX bytes.
 

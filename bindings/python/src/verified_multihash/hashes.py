@@ -8,18 +8,18 @@ of hashlib do: `functions={0x1E: blake3.blake3}`.
 from __future__ import annotations
 
 import functools
-import hashlib
-import hmac
 from operator import methodcaller
 from types import MappingProxyType
-from typing import TYPE_CHECKING, Any, Callable, Iterable, Iterator, Mapping, Optional, Protocol, Union
+from typing import Any, Callable, Iterable, Iterator, Mapping, Optional, Protocol, Union
 
-from . import DIGEST_MAX, Multihash, MultihashError, Status, _codes, _Readable, decode
+from . import _codes
+from ._core import DIGEST_MAX, decode
+from ._error import MultihashError
+from ._status import Status
+from ._types import Buffer, Readable, bytes_like, part_of_file
+from ._value import Multihash
 
-if TYPE_CHECKING:
-    from _typeshed import ReadableBuffer as Buffer
-else:
-    from . import Buffer
+# The calls that use hashlib and hmac import them: this takes longer than to import the rest of the package.
 
 __all__ = ["CODES", "NAMES", "Hasher", "UnsupportedHashError", "digest", "digest_file", "verify", "verify_file"]
 
@@ -28,12 +28,19 @@ __all__ = ["CODES", "NAMES", "Hasher", "UnsupportedHashError", "digest", "digest
 CODES: Mapping[str, int] = MappingProxyType(_codes.CODES)
 NAMES: Mapping[int, str] = MappingProxyType({code: name for name, code in CODES.items()})
 
+
+def _double(made: Any) -> bytes:
+    import hashlib
+
+    return hashlib.sha256(made.digest()).digest()
+
+
 _IN_HASHLIB = {"dbl-sha2-256": "sha256", "keccak-256": "keccak-256", "ripemd-160": "ripemd160", "sm3-256": "sm3"}
 # How the digest is made, where it is not by `digest()`.
 _DIGESTS: Mapping[str, Callable[[Any], bytes]] = {
     "shake-128": methodcaller("digest", 32),
     "shake-256": methodcaller("digest", 64),
-    "dbl-sha2-256": lambda made: hashlib.sha256(made.digest()).digest(),
+    "dbl-sha2-256": _double,
 }
 
 
@@ -52,7 +59,7 @@ class _Hash(Protocol):
         """Returns the digest of all data so far."""
 
 
-_Functions = Mapping[int, Callable[[], _Hash]]
+_Functions = Mapping[int, Callable[[], "_Hash"]]
 
 
 class _Identity:
@@ -74,27 +81,19 @@ class _Identity:
         return self._data
 
 
-# What helps if an argument has an attribute: a text, a multihash, a file; a chunk that is a text or a coroutine.
+# What helps if data have an attribute: a text, a multihash, a file.
 _HINTS = {
     "encode": " (text.encode() makes one)",
     "hexdigest": " (verify takes the multihash first)",
     "read": " (digest_file and verify_file take files)",
 }
-_CHUNK_HINTS = {"encode": " (open the file in binary mode)", "__await__": " (read must not be async)"}
-
-
-def _bytes_like(data: Buffer, name: str = "data", hints: Mapping[str, str] = _HINTS) -> Buffer:
-    try:
-        view = memoryview(data)
-    except TypeError:
-        hint = next((hints[each] for each in hints if hasattr(data, each)), "")
-        raise TypeError("%s must be a bytes-like object%s, not %s" % (name, hint, type(data).__name__)) from None
-    return data if view.c_contiguous and view.ndim < 2 else view.tobytes()  # hashlib takes no other buffer
 
 
 @functools.lru_cache(maxsize=None)
 def _maker(code: int) -> Callable[[], Any]:
     """Returns what makes an object of hashlib."""
+    import hashlib
+
     if code not in NAMES:
         raise UnsupportedHashError("no hash function is known for the code %#x" % code)
     name = NAMES[code]
@@ -145,14 +144,14 @@ class Hasher:
 
     def update(self, data: Buffer) -> None:
         """Appends data. Raises MultihashError if "identity" gets more than DIGEST_MAX bytes."""
-        self._hash.update(_bytes_like(data))
+        self._hash.update(bytes_like(data, "data", _HINTS))
 
     def multihash(self) -> Multihash:
         """Returns the multihash of all data so far."""
         return Multihash(self._code, self._digest(self._hash))
 
 
-def _parts(file: _Readable) -> Iterator[Buffer]:
+def _parts(file: Readable) -> Iterator[Buffer]:
     if not hasattr(file, "read"):
         expected = "file must be an object with a method read, such as open(path, 'rb') or io.BytesIO(data), not %s"
         raise TypeError(expected % type(file).__name__)
@@ -160,7 +159,7 @@ def _parts(file: _Readable) -> Iterator[Buffer]:
         read = file.read(1 << 18)
         if read is None:
             raise BlockingIOError("the file has no bytes now")
-        part = _bytes_like(read, "the result of read", _CHUNK_HINTS)
+        part = part_of_file(read)
         if memoryview(part).nbytes == 0:
             return
         yield part
@@ -182,12 +181,14 @@ def digest(data: Buffer, name: Union[str, int], functions: Optional[_Functions] 
     return _digest([data], name, functions)
 
 
-def digest_file(file: _Readable, name: Union[str, int], functions: Optional[_Functions] = None) -> Multihash:
+def digest_file(file: Readable, name: Union[str, int], functions: Optional[_Functions] = None) -> Multihash:
     """Returns the multihash of the bytes of a binary file up to its end, as `digest` does, with 256 KiB in memory."""
     return _digest(_parts(file), name, functions)
 
 
 def _verify(multihash: Union[Multihash, Buffer], parts: Iterable[Buffer], functions: Optional[_Functions]) -> bool:
+    import hmac
+
     try:
         claimed = multihash if isinstance(multihash, Multihash) else decode(multihash)
     except TypeError:
@@ -201,7 +202,7 @@ def _verify(multihash: Union[Multihash, Buffer], parts: Iterable[Buffer], functi
             if isinstance(hasher._hash, _Identity):
                 return False  # more than any digest of "identity"
             raise  # of the caller's function
-    found = _bytes_like(hasher._digest(hasher._hash), "digest", {})
+    found = bytes_like(hasher._digest(hasher._hash), "digest", {})
     return hmac.compare_digest(claimed.digest, found)
 
 
@@ -211,9 +212,11 @@ def verify(multihash: Union[Multihash, Buffer], data: Buffer, functions: Optiona
     Raises UnsupportedHashError if neither `functions` nor this build of hashlib has a function for the code. The time
     that it takes to compare digests of equal lengths does not depend on their bytes.
     """
-    return _verify(multihash, [_bytes_like(data)], functions)  # first: if the arguments are swapped, data is wrong
+    return _verify(
+        multihash, [bytes_like(data, "data", _HINTS)], functions
+    )  # first: if the arguments are swapped, data is wrong
 
 
-def verify_file(multihash: Union[Multihash, Buffer], file: _Readable, functions: Optional[_Functions] = None) -> bool:
+def verify_file(multihash: Union[Multihash, Buffer], file: Readable, functions: Optional[_Functions] = None) -> bool:
     """Returns whether the bytes of a binary file up to its end have this multihash, as `verify` does."""
     return _verify(multihash, _parts(file), functions)

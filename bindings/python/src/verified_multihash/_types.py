@@ -1,0 +1,41 @@
+"""Types of arguments: bytes and files."""
+
+from __future__ import annotations
+
+from typing import TYPE_CHECKING, Awaitable, Mapping, Optional, Protocol, Union
+
+if TYPE_CHECKING:
+    from _typeshed import ReadableBuffer as Buffer
+else:
+    Buffer = Union[bytes, bytearray, memoryview]
+
+__all__ = ["AsyncReadable", "Buffer", "Readable", "bytes_like", "part_of_file"]
+
+
+class Readable(Protocol):
+    def read(self, size: int, /) -> Optional[bytes]:
+        """Returns at most `size` bytes; none at the end; None if none can be read without waiting."""
+
+
+class AsyncReadable(Protocol):
+    def read(self, size: int, /) -> Awaitable[bytes]:
+        """Returns at most `size` bytes; none at the end."""
+
+
+def bytes_like(data: Buffer, name: str, hints: Mapping[str, str]) -> Buffer:
+    """Returns bytes that hashlib takes. If the argument has an attribute of `hints`, the error says what helps."""
+    try:
+        view = memoryview(data)
+    except TypeError:
+        hint = next((hints[each] for each in hints if hasattr(data, each)), "")
+        raise TypeError("%s must be a bytes-like object%s, not %s" % (name, hint, type(data).__name__)) from None
+    return data if view.c_contiguous and view.ndim < 2 else view.tobytes()
+
+
+# What a file in text mode and an async method return.
+_HINTS = {"encode": " (open the file in binary mode)", "__await__": " (read must not be async)"}
+
+
+def part_of_file(read: Buffer) -> Buffer:
+    """Returns what `read` of a file returned."""
+    return bytes_like(read, "the result of read", _HINTS)
