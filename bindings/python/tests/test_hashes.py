@@ -96,10 +96,16 @@ class Hashes(unittest.TestCase):
         for part in ("update", "digest"):
             fails = Mock(**{"return_value.%s.side_effect" % part: error})
             for call, first in ((hashes.digest, b"abc"), (hashes.verify, Multihash(0x11, b"abc"))):
-                self.assertRaises(MultihashError, call, first, *([0x11] if first == b"abc" else [b"abc"]), {0x11: fails})
+                self.assertRaises(
+                    MultihashError, call, first, *([0x11] if first == b"abc" else [b"abc"]), {0x11: fails}
+                )
         false = type("Function", (), {"__call__": lambda _: hashlib.md5(), "__bool__": lambda _: False})()
         self.assertEqual(hashes.digest(b"abc", 0x11, {0x11: false}).digest, hashlib.md5(b"abc").digest())
-        for wrong, words in (([1], "functions .* list"), ({"blake3": false}, "functions .* 'blake3'"), ("", "functions")):
+        for wrong, words in (
+            ([1], "functions .* list"),
+            ({"blake3": false}, "functions .* 'blake3'"),
+            ("", "functions"),
+        ):
             self.assertRaisesRegex(TypeError, words, hashes.digest, b"abc", "sha1", wrong)
         for digest in ("abc", None):
             wrong = Mock(**{"return_value.digest.return_value": digest})

@@ -23,8 +23,8 @@ def turns(*results):
     return Mock(**{"read.side_effect": results})
 
 
-class Awaited(vm.AsyncMultihashReader):
-    """An AsyncMultihashReader over a file, with the calls of a MultihashReader."""
+class Driven:
+    """A reader whose stream is a file, with the calls of a reader that awaits nothing."""
 
     def __init__(self, file, *limit, **named):
         super().__init__(Mock(read=AsyncMock(side_effect=file.read)), *limit, **named)
@@ -38,6 +38,10 @@ class Awaited(vm.AsyncMultihashReader):
 
     def __iter__(self):
         return iter(self.read, None)
+
+
+class Awaited(Driven, vm.AsyncMultihashReader):
+    """An AsyncMultihashReader over a file."""
 
 
 class Readers(unittest.TestCase):

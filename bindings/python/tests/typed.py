@@ -82,6 +82,10 @@ class Raw:
 
 vm.read_from(Raw())
 vm.MultihashReader(Raw())
+frames = vm.FrameReader(file=Raw(), limit=64)
+assert_type((frames.read(), frames.rest, frames.taken, frames.count), Tuple[Optional[bytes], bytes, int, int])
+assert_type((next(frames), list(frames)), Tuple[bytes, List[bytes]])
+vm.FrameReader("name")  # type: ignore[arg-type]
 
 
 async def read(stream: asyncio.StreamReader) -> None:
@@ -90,6 +94,11 @@ async def read(stream: asyncio.StreamReader) -> None:
     async for each in waiting:
         assert_type(each, Multihash)
     vm.AsyncMultihashReader(io.BytesIO(DATA))  # type: ignore[arg-type]
+    parts = vm.AsyncFrameReader(stream=stream, limit=64)
+    assert_type(await parts.read(), Optional[bytes])
+    async for part in parts:
+        assert_type(part, bytes)
+    vm.AsyncFrameReader(io.BytesIO(DATA))  # type: ignore[arg-type]
 
 
 assert_type(hashes.digest(data=ARRAY, name="sha2-256"), Multihash)

@@ -15,23 +15,23 @@ from __future__ import annotations
 import struct
 from typing import NamedTuple, Optional
 
-from . import _core
-from . import hashes as hashes
+from . import _core, hashes
 
 from ._core import (
     DIGEST_MAX, HEAD_MAX, LENGTH_MAX, SCALE_LENGTH_MAX, VARINT_LENGTH_MAX, compare, decode, encode, encode_varint,
     encoded_len, read, read_varint, scale_decode, scale_encode,
 )  # fmt: skip
 from ._error import MultihashError
+from ._frames import AsyncFrameReader, FrameReader
 from ._readers import AsyncMultihashReader, MultihashReader, read_from
 from ._status import Status
 from ._types import Buffer
 from ._value import Multihash
 
 __all__ = [
-    "AsyncMultihashReader", "Columns", "DIGEST_MAX", "HEAD_MAX", "Head", "LENGTH_MAX",
+    "AsyncFrameReader", "AsyncMultihashReader", "Columns", "DIGEST_MAX", "FrameReader", "HEAD_MAX", "Head", "LENGTH_MAX",
     "Multihash", "MultihashError", "MultihashReader", "SCALE_LENGTH_MAX", "Status", "VARINT_LENGTH_MAX", "__version__",
-    "compare", "decode", "encode", "encode_varint", "encoded_len", "head", "read", "read_from", "read_many",
+    "compare", "decode", "encode", "encode_varint", "encoded_len", "hashes", "head", "read", "read_from", "read_many",
     "read_varint", "scale_decode", "scale_encode",
 ]  # fmt: skip
 
