@@ -1,5 +1,6 @@
-/* What the files of the module share. They convert arguments and results, and decide nothing. They are in the stable
- * ABI of the first CPython that pyproject.toml wants: setup.py defines Py_LIMITED_API. */
+/* What the files of the module share. They convert arguments and results. What is a multihash is decided by the library
+ * for C; reader.c alone compares the length of a digest with the limit, so that it reads no byte of one that is too long.
+ * All are in the stable ABI of the first CPython that pyproject.toml wants: setup.py defines Py_LIMITED_API. */
 #define PY_SSIZE_T_CLEAN
 #include <Python.h>
 #include <stddef.h>

@@ -5,7 +5,6 @@ import ast
 import collections.abc
 import ctypes
 import doctest
-import hashlib
 import importlib
 import inspect
 import re
@@ -127,17 +126,6 @@ class Module(unittest.TestCase):
             call = next(vars(it)[name] for it in (vm, hashes, hashes.Hasher) if name in vars(it))
             own = [it.replace(annotation=it.empty) for it in inspect.signature(call).parameters.values()]
             self.assertEqual(wanted, ", ".join(str(it) for it in own if it.name != "self"))
-
-    def test_replacements(self):
-        """What README.md has in place of the calls of other packages."""
-        m = hashes.digest(b"abc", "sha2-256")
-        names = {**vars(vm), "m": m, "digest": m.digest, "content": b"abc", "data": bytes(m), "text": m.hex()}
-        names.update(code=18, hash=hashlib.sha256(b"abc"), function=hashlib.sha256)
-        rows = re.search(r"^\| There .*\n.*((?:\n\|.*)+)", README.read_text("utf-8"), re.M)[1]
-        found = [eval(", ".join(re.findall("`(.*?)`", row.split(" | ")[1])), names) for row in rows.split("\n")[1:]]
-        short = Multihash(18, m.digest[:20])
-        wanted = [bytes(m), m, m, m, True, "sha2-256", 32, short, (18, m.digest), (m.hex(), bytes(m)), m, b"\x12 "]
-        self.assertEqual(found, [*wanted, (True, 18), m])
 
     def test_examples(self):
         text = "\n".join("" if line.startswith("```") else line for line in README.read_text("utf-8").splitlines())

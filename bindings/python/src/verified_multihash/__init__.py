@@ -1,4 +1,4 @@
-"""Decodes, encodes and compares multihashes, by a C library that is checked for all inputs.
+"""Decodes, encodes and compares multihashes, by C source that is checked for all inputs.
 
 Functions that take bytes accept any object that supports the buffer protocol, and raise TypeError for anything else.
 Invalid input, and a code or digest that is too large, raise MultihashError, a subclass of ValueError. The module
