@@ -35,18 +35,10 @@ unit_tests() {
   grep '^Ran [1-9]' "$work/tested"
 }
 
-# A wheel has the licence of the repository, and states it and the page.
-has_licence() {
-  diff LICENSE "$(find "$1" -name LICENSE)"
-  sed -nE 's/^License(-Expression)?: //p' "$1/METADATA" | diff - <(echo MIT)
-  sed '1,/^$/d' "$1/METADATA" | diff - "$here/README.md"
-}
+has_licence() { diff LICENSE "$(find "$work/venv/lib" -path '*/verified_multihash-*' -name LICENSE)"; }
 
 # All tests of the wheel. CPython's debug allocator sees a write after a block.
-all_tests() {
-  grep -F .whl "$work"/venv/lib/python*/site-packages/verified_multihash-*/direct_url.json
-  unit_tests "$here/tests" PYTHONMALLOC=debug
-}
+all_tests() { unit_tests "$here/tests" PYTHONMALLOC=debug; }
 
 # Inputs that are drawn have the results that verdicts.py computes.
 drawn() {
@@ -64,15 +56,11 @@ same_cid() {
   ipfs_cid file | grep -F "\"$(cat cid)\""
 }
 
-# The sdist is all that is needed: what is in the folders above it is not used.
+# The sdist is all that is needed.
 sdist() {
   mkdir "$work/sdist"
   tar xf "$work"/dist/*.tar.gz -C "$work/sdist" --strip-components=1
-  mkdir -p "$work/above/folder"
-  cp -r "$work/sdist" "$work/above/folder"
-  touch "$work/above/LICENSE"
-  imports "$work/above/folder/sdist"
-  cmp "$here/../../LICENSE" "$work/sdist/LICENSE"
+  imports "$work/sdist"
   unit_tests "$work/sdist/tests" -u MULTIHASH_VERDICTS
 }
 
@@ -82,25 +70,6 @@ under_sanitizers() {
   CFLAGS=$sanitize installs "$1"
   unit_tests "$here/tests" LD_PRELOAD="$(cc -print-file-name=libasan.so) $(cc -print-file-name=libubsan.so)" \
     ASAN_OPTIONS=detect_leaks=0:allocator_may_return_null=1 PYTHONMALLOC=malloc
-}
-
-# A folder that was installed before is installed as it is now, also if a file is older than its build. Without PKG-INFO
-# it is that of a clone: it takes the library for C from the folders above it, and nothing is written there.
-built_before() {
-  local folder=$work/above/folder/sdist
-  cp -r --parents LICENSE bindings/c crates/{mh_show/rows.tsv,vectors/data} "$work/above"
-  sed -i 's/the input is empty/Later./' "$work/above/bindings/c/include/multihash_message.h"
-  echo 'later = "Later."' >> "$folder/src/verified_multihash/__init__.py"
-  sed -i 's/The library for C/Later/' "$folder/src/core.c"
-  touch -d @315532800 "$folder"/src/{core.c,verified_multihash/__init__.py}
-  imports "$folder"
-  "$python" -c 'from verified_multihash import _core, later; assert _core.__doc__ == later'
-  rejects "the input is empty" "$python" -m verified_multihash ""
-  rm "$folder/PKG-INFO"
-  find "$work/above" | sort > "$work/before"
-  imports "$folder"
-  find "$work/above" | sort | diff "$work/before" -
-  rejects Later. "$python" -m verified_multihash ""
 }
 
 # The package is typed, and the module has the names of its stub. mypy accepts typed.py and the examples of README.md,
@@ -120,12 +89,11 @@ types() {
 ONLY='' try "the sdist and the wheel" builds
 ONLY='' try "an environment" /usr/bin/python3 -m venv --clear --system-site-packages "$work/venv"
 ONLY='' try "the wheel, installed" imports "$work"/dist/*.whl
-try "its licence" has_licence "$work"/venv/lib/python3*/site-packages/verified_multihash-*.dist-info
+try "its licence" has_licence
 try "the tests" all_tests
 try "drawn inputs" drawn
 needs=ipfs_cid try "the CID of a file" same_cid
 needs="mypy stubtest" try "types" types
 ONLY='' try "the sdist, installed" sdist
 try "sanitizers" under_sanitizers "$work/sdist"
-try "a folder that was built before" built_before
 finish
