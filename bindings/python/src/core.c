@@ -16,10 +16,9 @@ const state *state_of(PyTypeObject *type)
     return PyType_GetModuleState(type_in_c(type));
 }
 
-/* Raises a MultihashError, without its __init__, which takes longer. It steals the references to the numbers and the
- * text, of which a null one has raised an error. */
-static PyObject *raise_error(const state *own, multihash_status status, PyObject *size, PyObject *code, size_t taken,
-                             PyObject *text)
+/* Without __init__ of the class, which takes longer. */
+PyObject *raise_error(const state *own, multihash_status status, PyObject *size, PyObject *code, size_t taken,
+                      PyObject *text)
 {
     int is_ready = own->statuses != NULL && size != NULL && code != NULL && text != NULL;
     if (own->statuses == NULL) PyErr_SetString(PyExc_RuntimeError, "verified_multihash was not imported");
@@ -205,7 +204,7 @@ static PyObject *read_many(PyObject *module, PyObject *data)
     if (get_buffer(data, "data", PyBUF_SIMPLE, &view) < 0) return NULL;
     PyObject *items = PyByteArray_FromStringAndSize(NULL, 0), *rest = NULL;
     Py_ssize_t taken = items == NULL ? 0 : (Py_ssize_t)read_items(view.buf, (size_t)view.len, items);
-    /* Once the buffer is released another thread may change it. The error depends on these bytes of the rest alone. */
+    /* Another thread may change the buffer once it is released. An error depends on these bytes of the rest alone. */
     Py_ssize_t left = view.len - taken < MULTIHASH_LENGTH_MAX ? view.len - taken : MULTIHASH_LENGTH_MAX;
     if (!PyErr_Occurred()) rest = PyBytes_FromStringAndSize(left == 0 ? NULL : (const char *)view.buf + taken, left);
     PyBuffer_Release(&view);

@@ -1,6 +1,6 @@
-/* What the files of the module share. They convert arguments and results. What is a multihash is decided by the library
- * for C; reader.c alone compares the length of a digest with the limit, so that it reads no byte of one that is too long.
- * All are in the stable ABI of the first CPython that pyproject.toml wants: setup.py defines Py_LIMITED_API. */
+/* What the files of the module share. They convert arguments and results. The library for C decides what a multihash is;
+ * reader.c alone compares the length of a digest with the limit, so that it reads no byte of one that is too long. They
+ * are in the stable ABI of the first CPython that pyproject.toml wants: setup.py defines Py_LIMITED_API. */
 #define PY_SSIZE_T_CLEAN
 #include <Python.h>
 #include <stddef.h>
@@ -73,6 +73,10 @@ PyTypeObject *type_in_c(PyTypeObject *type);
 /* The state of the module of a type, which keeps it. */
 const state *state_of(PyTypeObject *type);
 
+/* Raises a MultihashError. It steals the references to the numbers and the text: a null one has raised an error. */
+PyObject *raise_error(const state *own, multihash_status status, PyObject *size, PyObject *code, size_t taken,
+                      PyObject *text);
+
 /* Raises the error of an encoding. It steals the references to the length, which may be null, and to the code. */
 PyObject *encoding_error(const state *own, multihash_status status, PyObject *length, PyObject *code);
 
@@ -92,4 +96,36 @@ int order_of(PyObject *left, PyObject *right);
 
 /* ---- reader.c */
 
+typedef struct reader_object {
+    PyObject_HEAD
+    const state *own;
+    PyObject *read;  /* of the file */
+    PyObject *digest; /* of the next multihash, or the bytes of the next frame: what the file returned, if that is all */
+    PyObject *parts;  /* of a frame whose bytes came in several: a bytearray */
+    PyObject *arguments[2]; /* of the last call of the file for two bytes, and of the last other one */
+    size_t sizes[2];
+    size_t limit;
+    size_t wanted; /* the number of bytes that a call of the file was asked for which has not returned, or 0 */
+    unsigned long long taken; /* bytes of the multihashes that were returned */
+    unsigned long long count; /* of the frames that were returned */
+    char has_lost;            /* whether the file may have lost bytes */
+    int is_framed;            /* whether it reads frames */
+    multihash_varint varint;  /* of a frame, which is in `rest`, as far as it is known */
+    size_t kept;              /* the number of its bytes in `digest` or `parts` */
+    multihash_front front; /* of `rest`, as far as it is known */
+    size_t length; /* of the bytes that were read and belong to no multihash that was returned */
+    uint8_t rest[MULTIHASH_LENGTH_MAX];
+} reader_object;
+
 extern PyType_Spec reader_spec, file_reader_spec; /* the second one is of a subclass */
+
+/* ---- frame.c: a frame is a varint, which is in `rest`, and then as many bytes as it says */
+
+/* The number of bytes that the file is asked for next, or 0 if the frame is there or rejected. */
+size_t missing_of_frame(reader_object *reader);
+
+/* Keeps bytes after the varint; negative with an error set. */
+int keep_part(reader_object *reader, const input *from);
+
+/* The next frame, or its error. */
+PyObject *frame_of(reader_object *reader);

@@ -1,21 +1,5 @@
-/* The base of MultihashReader and AsyncMultihashReader: it keeps what was read of the next multihash. */
+/* The base of the readers of multihashes and of frames: it keeps what was read of the next one. */
 #include "core.h"
-
-typedef struct reader_object {
-    PyObject_HEAD
-    const state *own;
-    PyObject *read;  /* of the file */
-    PyObject *digest; /* of the multihash that is next: what the file returned, if that is the whole digest */
-    PyObject *arguments[2]; /* of the last call of the file for two bytes, and of the last other one */
-    size_t sizes[2];
-    size_t limit;
-    size_t wanted; /* the number of bytes that a call of the file was asked for which has not returned, or 0 */
-    unsigned long long taken; /* bytes of the multihashes that were returned */
-    char has_lost;            /* whether the file may have lost bytes */
-    multihash_front front; /* of `rest`, as far as it is known */
-    size_t length; /* of the bytes that were read and belong to no multihash that was returned */
-    uint8_t rest[MULTIHASH_LENGTH_MAX];
-} reader_object;
 
 #define FILES "an object with a method read, such as open(path, 'rb'), io.BytesIO(data) or socket.makefile('rb')"
 #define STREAMS "an object with an awaitable read, such as an asyncio.StreamReader"
@@ -44,7 +28,12 @@ static int reader_init(PyObject *self, PyObject *arguments, PyObject *named)
     reader_object *reader = (reader_object *)self;
     PyObject *file, *most, *read;
     size_t limit;
-    if (!get_two(arguments, named, "OO:MultihashReader", names, &file, &most)) return -1;
+    int is_framed = 0;
+    if (PyTuple_Size(arguments) == 3) {
+        if (!PyArg_ParseTuple(arguments, "OOp:FrameReader", &file, &most, &is_framed)) return -1;
+    } else if (!get_two(arguments, named, "OO:MultihashReader", names, &file, &most)) {
+        return -1;
+    }
     if (get_size(&most, "limit", &limit) < 0) return -1;
     Py_DECREF(most);
     if ((read = read_of(self, file)) == NULL) return -1;
@@ -56,8 +45,12 @@ static int reader_init(PyObject *self, PyObject *arguments, PyObject *named)
     reader->limit = limit;
     reader->length = 0;
     reader->taken = 0;
+    reader->count = 0;
     reader->has_lost = 0;
+    reader->is_framed = is_framed;
+    reader->kept = 0;
     Py_CLEAR(reader->digest);
+    Py_CLEAR(reader->parts);
     PyObject *old = reader->read; /* now: `file` may begin this reader anew, too */
     reader->read = read;
     Py_XDECREF(old);
@@ -75,6 +68,7 @@ static int reader_clear(PyObject *self)
 {
     Py_CLEAR(((reader_object *)self)->read);
     Py_CLEAR(((reader_object *)self)->digest);
+    Py_CLEAR(((reader_object *)self)->parts);
     for (int at = 0; at < 2; at++) Py_CLEAR(((reader_object *)self)->arguments[at]);
     return 0;
 }
@@ -91,6 +85,7 @@ static void reader_dealloc(PyObject *self)
 /* The number of bytes that the multihash still needs at least, or 0 if it is there or rejected. */
 static size_t missing(reader_object *reader)
 {
+    if (reader->is_framed) return missing_of_frame(reader);
     multihash_front *front = &reader->front;
     if (reader->length == 0) front->status = MULTIHASH_INSUFFICIENT;
     if (reader->length == 0) return 2; /* an encoding has at least two bytes */
@@ -122,15 +117,17 @@ static int end(reader_object *reader, PyObject *chunk)
     input from;
     reader->has_lost = chunk != Py_None;
     if (chunk == Py_None) PyErr_SetString(PyExc_BlockingIOError, "the file has no bytes now");
-    int is_there = chunk != Py_None && get_input(chunk, RESULT_OF_READ, sizeof reader->rest, &from) == 0;
     size_t most = reader->wanted;
+    int is_there = chunk != Py_None && get_input(chunk, RESULT_OF_READ, (Py_ssize_t)most, &from) == 0;
     reader->wanted = 0;
     if (!is_there) return -1;
     reader->has_lost = from.whole > most;
     if (reader->has_lost) {
         PyErr_Format(PyExc_ValueError, "the file returned %zu bytes to read(%zu)", from.whole, most);
+    } else if (reader->is_framed && reader->varint.status == MULTIHASH_OK) {
+        reader->has_lost = keep_part(reader, &from) < 0;
     } else {
-        int is_digest = reader->front.status == MULTIHASH_OK && reader->length == reader->front.taken;
+        int is_digest = !reader->is_framed && reader->front.status == MULTIHASH_OK && reader->length == reader->front.taken;
         memcpy(reader->rest + reader->length, from.bytes, from.whole);
         reader->length += from.whole;
         if (is_digest && from.whole == most) Py_INCREF(reader->digest = from.owner);
@@ -164,10 +161,9 @@ static int read_chunk(reader_object *reader)
     return kept;
 }
 
-/* The multihash of the bytes, which are dropped, or None if there are none. After an error they stay, for `rest`. */
-static PyObject *take_multihash(reader_object *reader)
+/* The next multihash, or its error. */
+static PyObject *multihash_of(reader_object *reader)
 {
-    if (reader->length == 0) Py_RETURN_NONE;
     const multihash_front *front = &reader->front;
     input from = {NULL, reader->rest, reader->length, reader->length};
     if (front->status != MULTIHASH_OK || from.length < front->taken + front->digest_length) { /* it is rejected */
@@ -179,12 +175,21 @@ static PyObject *take_multihash(reader_object *reader)
     if (digest == NULL) {
         digest = PyBytes_FromStringAndSize((const char *)from.bytes + front->taken, (Py_ssize_t)front->digest_length);
     }
-    PyObject *multihash = new_multihash(reader->own->type, front->code, code, digest);
-    if (multihash != NULL) {
-        reader->taken += reader->length;
-        reader->length = 0;
+    return new_multihash(reader->own->type, front->code, code, digest);
+}
+
+/* What comes next, whose bytes are dropped, or None if there are none. After an error they stay, for `rest`. */
+static PyObject *take(reader_object *reader)
+{
+    if (reader->length == 0) Py_RETURN_NONE;
+    PyObject *next = reader->is_framed ? frame_of(reader) : multihash_of(reader);
+    if (next != NULL) {
+        reader->taken += reader->length + reader->kept;
+        reader->count++;
+        reader->length = reader->kept = 0;
+        Py_CLEAR(reader->parts);
     }
-    return multihash;
+    return next;
 }
 
 static PyObject *reader_next(PyObject *self, PyObject *unused)
@@ -193,7 +198,7 @@ static PyObject *reader_next(PyObject *self, PyObject *unused)
     int begun, kept = 1;
     (void)unused;
     while ((begun = begin(reader)) > 0 && (kept = read_chunk(reader)) > 0) continue;
-    return begun < 0 || kept < 0 ? NULL : take_multihash(reader);
+    return begun < 0 || kept < 0 ? NULL : take(reader);
 }
 
 /* The steps of `reader_next`, for a call of the file that is awaited: to begin one, to end it and begin the next one, or
@@ -224,36 +229,43 @@ static PyObject *reader_fail(PyObject *self, PyObject *error)
 static PyObject *reader_take(PyObject *self, PyObject *unused)
 {
     (void)unused;
-    return take_multihash((reader_object *)self);
+    return take((reader_object *)self);
 }
 
 static PyObject *reader_rest(PyObject *self, void *unused)
 {
     (void)unused;
     const reader_object *reader = (const reader_object *)self;
-    return PyBytes_FromStringAndSize((const char *)reader->rest, (Py_ssize_t)reader->length);
+    PyObject *front = PyBytes_FromStringAndSize((const char *)reader->rest, (Py_ssize_t)reader->length);
+    if (front == NULL || reader->kept == 0) return front;
+    PyObject *all = PyBytes_FromObject(reader->digest != NULL ? reader->digest : reader->parts);
+    PyBytes_ConcatAndDel(&front, all);
+    return front;
 }
 
 static PyMethodDef reader_methods[] = {
     {"_begin", reader_begin, METH_NOARGS, NULL}, {"_end", reader_end, METH_O, NULL},
     {"_fail", reader_fail, METH_O, NULL},        {"_take", reader_take, METH_NOARGS, NULL},
+    {"__class_getitem__", Py_GenericAlias, METH_O | METH_CLASS, NULL},
     {NULL, NULL, 0, NULL},
 };
 
 static PyMemberDef reader_members[] = {
     {"_read", T_OBJECT_EX, offsetof(reader_object, read), READONLY, NULL},
     {"taken", T_ULONGLONG, offsetof(reader_object, taken), READONLY,
-     "The number of bytes of the multihashes returned so far."},
+     "The number of bytes of the multihashes or frames returned so far."},
+    {"count", T_ULONGLONG, offsetof(reader_object, count), READONLY,
+     "The number of the multihashes or frames returned so far."},
     {NULL, 0, 0, 0, NULL},
 };
 
 static PyGetSetDef reader_attributes[] = {
-    {"rest", reader_rest, NULL, "The bytes read so far of the next multihash.", NULL},
+    {"rest", reader_rest, NULL, "The bytes read so far of the next multihash or frame.", NULL},
     {NULL, NULL, NULL, NULL, NULL},
 };
 
 static PyType_Slot reader_slots[] = {
-    {Py_tp_doc, "The base of both readers."},
+    {Py_tp_doc, "The base of all readers."},
     {Py_tp_init, reader_init},
     {Py_tp_traverse, reader_traverse},
     {Py_tp_clear, reader_clear},
@@ -286,12 +298,12 @@ static PyObject *next_of_loop(PyObject *self)
 
 static PyMethodDef file_reader_methods[] = {
     {"read", reader_next, METH_NOARGS,
-     "read($self)\n--\n\nReturns the next multihash, or None at the end of the file."},
+     "read($self)\n--\n\nReturns the next multihash or frame, or None at the end of the file."},
     {NULL, NULL, 0, NULL},
 };
 
 static PyType_Slot file_reader_slots[] = {
-    {Py_tp_doc, "The base of MultihashReader."},
+    {Py_tp_doc, "The base of MultihashReader and FrameReader."},
     {Py_tp_iter, PyObject_SelfIter},
     {Py_tp_iternext, next_of_loop},
     {Py_tp_methods, file_reader_methods},

@@ -35,6 +35,18 @@ def calls():
                 yield call, [*arguments[:at], other, *arguments[at + 1 :]]
 
 
+class Parts(io.BytesIO):
+    """A file that returns at most 128 bytes at a time."""
+
+    def read(self, size):
+        return super().read(min(size, 128))
+
+
+def frames_of(file):
+    reader = vm._core.FileReader(file, 1 << 62, True)
+    return reader.read(), reader.read(), reader.rest
+
+
 CALLS = {str((call.__name__, each)): (call, each) for call, each in calls()}
 CALLS["a subclass"] = Named, [1 << 62, b"abc"]
 CALLS["values"] = lambda: (OTHER.code, OTHER.digest, OTHER.hexdigest(), bytes(OTHER), repr(OTHER), hash(OTHER)), ()
@@ -47,6 +59,10 @@ CALLS["many"] = vm._core.read_many, [bytes(OTHER) * 9]
 CALLS["many short ones"] = vm._core.read_many, [bytes(640)]
 CALLS["pickle"] = VALUE.__reduce_ex__, [4]
 CALLS["reader"] = lambda data, limit: vm.read_from(io.BytesIO(data), limit), [bytes(OTHER), 1 << 62]
+FRAMES = vm.encode_varint(300) + LONG[:300] + vm.encode_varint(300) + LONG
+CALLS["frames"] = lambda data: frames_of(io.BytesIO(data)), [FRAMES]
+CALLS["frames in parts"] = lambda data: frames_of(Parts(data)), [FRAMES]
+CALLS["no frame"] = lambda data: frames_of(io.BytesIO(data)), [FRAMES[:-800]]
 CALLS["busy"] = lambda f: ((it := vm._core.Reader(f, 1)).__init__(f, 1), it._begin(), it.__init__(f, 1)), [io.BytesIO()]
 STEPS = vm._core.Reader(io.BytesIO(), 1)
 CALLS["steps"] = lambda: (STEPS._fail(None), STEPS._begin(), STEPS._end(b""), STEPS._take()), ()

@@ -22,17 +22,16 @@ from ._core import (
     encoded_len, read, read_varint, scale_decode, scale_encode,
 )  # fmt: skip
 from ._error import MultihashError
-from ._frames import AsyncFrameReader, FrameReader
-from ._readers import AsyncMultihashReader, MultihashReader, read_from
+from ._readers import AsyncFrameReader, AsyncMultihashReader, FrameReader, MultihashReader, read_from
 from ._status import Status
 from ._types import Buffer
 from ._value import Multihash
 
 __all__ = [
-    "AsyncFrameReader", "AsyncMultihashReader", "Columns", "DIGEST_MAX", "FrameReader", "HEAD_MAX", "Head", "LENGTH_MAX",
-    "Multihash", "MultihashError", "MultihashReader", "SCALE_LENGTH_MAX", "Status", "VARINT_LENGTH_MAX", "__version__",
-    "compare", "decode", "encode", "encode_varint", "encoded_len", "hashes", "head", "read", "read_from", "read_many",
-    "read_varint", "scale_decode", "scale_encode",
+    "AsyncFrameReader", "AsyncMultihashReader", "Columns", "DIGEST_MAX", "FrameReader", "HEAD_MAX", "Head",
+    "LENGTH_MAX", "Multihash", "MultihashError", "MultihashReader", "SCALE_LENGTH_MAX", "Status", "VARINT_LENGTH_MAX",
+    "__version__", "compare", "decode", "encode", "encode_varint", "encoded_len", "hashes", "head", "read", "read_from",
+    "read_many", "read_varint", "scale_decode", "scale_encode",
 ]  # fmt: skip
 
 __version__ = "1.0.0"

@@ -1,7 +1,10 @@
 # The functions and types in C. Editors show these texts, and help() those of the module, which are the same.
-from typing import Awaitable, Callable, ClassVar, Literal, Optional, Self, Tuple, Type, Union
+from types import GenericAlias
+from typing import Awaitable, Callable, ClassVar, Generic, Literal, Optional, Self, Tuple, Type, TypeVar, Union
 
 from _typeshed import ReadableBuffer as Buffer
+
+_Item = TypeVar("_Item")
 
 DIGEST_MAX: int
 HEAD_MAX: int
@@ -38,26 +41,30 @@ class Multihash:
     def hexdigest(self) -> str:
         """Returns the digest in hexadecimal, as the objects of hashlib do."""
 
-class Reader:
+class Reader(Generic[_Item]):
     @property
     def _read(self) -> Callable[[int], Union[bytes, Awaitable[object]]]: ...
     @property
     def rest(self) -> bytes:
-        """The bytes read so far of the next multihash."""
+        """The bytes read so far of the next multihash or frame."""
     @property
     def taken(self) -> int:
-        """The number of bytes of the multihashes returned so far."""
-    def __init__(self, file: object, limit: int) -> None: ...
+        """The number of bytes of the multihashes or frames returned so far."""
+    @property
+    def count(self) -> int:
+        """The number of the multihashes or frames returned so far."""
+    def __class_getitem__(cls, item: object, /) -> GenericAlias: ...
+    def __init__(self, file: object, limit: int, is_framed: bool = ..., /) -> None: ...
     def _begin(self) -> int: ...
     def _end(self, chunk: object, /) -> int: ...
     def _fail(self, error: BaseException, /) -> None: ...
-    def _take(self) -> Optional[Multihash]: ...
+    def _take(self) -> Optional[_Item]: ...
 
-class FileReader(Reader):
+class FileReader(Reader[_Item]):
     def __iter__(self) -> Self: ...
-    def __next__(self) -> Multihash: ...
-    def read(self) -> Optional[Multihash]:
-        """Returns the next multihash, or None at the end of the file."""
+    def __next__(self) -> _Item: ...
+    def read(self) -> Optional[_Item]:
+        """Returns the next multihash or frame, or None at the end of the file."""
 
 def decode(data: Buffer) -> Multihash:
     """Decodes `data`, which must be exactly one multihash."""

@@ -1,35 +1,43 @@
-"""Readers of multihashes: what is in Python of them. _core has the rest."""
+"""Readers of multihashes and frames: what is in Python of them. _core has the rest."""
 
 from __future__ import annotations
 
 import io
-from typing import Optional, Protocol, TypeVar
+from typing import AsyncIterator, Optional, TypeVar
 
 from . import _core
 from ._core import DIGEST_MAX
 from ._types import AsyncReadable, Readable
 from ._value import Multihash
 
-__all__ = ["AsyncMultihashReader", "MultihashReader", "read_from"]
+__all__ = ["AsyncFrameReader", "AsyncMultihashReader", "FrameReader", "MultihashReader", "read_from"]
+
+FRAME_MAX = 1 << 22
+Item = TypeVar("Item")
 
 
-NOT_AWAITED = "read of the stream must be awaited: a %s reads from a file"
-Item = TypeVar("Item", covariant=True)
-Own = TypeVar("Own")
+class AsyncReader(_core.Reader[Item]):
+    """The base of readers of a stream whose `read` is awaited."""
 
-
-class AsyncReader(Protocol[Item]):
     async def read(self) -> Optional[Item]:
-        ...
+        """Returns the next multihash or frame, or None at the end of the stream."""
+        wanted = self._begin()
+        while wanted:
+            try:
+                called = self._read(wanted)
+                if isinstance(called, bytes):
+                    raise TypeError("read of the stream must be awaited: MultihashReader, FrameReader read files")
+                chunk = await called
+            except BaseException as error:
+                self._fail(error)
+                raise
+            wanted = self._end(chunk)
+        return self._take()
 
-
-class AsyncItems:
-    """The loop over an AsyncReader. It is no generic class, since typing keeps these, and with them their modules."""
-
-    def __aiter__(self: Own) -> Own:
+    def __aiter__(self) -> AsyncIterator[Item]:
         return self
 
-    async def __anext__(self: AsyncReader[Item]) -> Item:
+    async def __anext__(self) -> Item:
         try:
             item = await self.read()
         except StopAsyncIteration as error:  # of the stream: raised here it would end a loop
@@ -39,7 +47,7 @@ class AsyncItems:
         return item
 
 
-class MultihashReader(_core.FileReader):
+class MultihashReader(_core.FileReader[Multihash]):
     """Reads concatenated encodings from a binary file. It consumes no byte after the multihash that it returns.
 
     `limit` is the maximum length of a digest, in bytes. `file.read` may return fewer bytes than requested. Nothing
@@ -57,7 +65,7 @@ class MultihashReader(_core.FileReader):
         super().__init__(file, limit)
 
 
-class AsyncMultihashReader(_core.Reader, AsyncItems):
+class AsyncMultihashReader(AsyncReader[Multihash]):
     """Reads as a MultihashReader does, from a stream whose `read` is awaited, such as an asyncio.StreamReader.
 
     If a call is cancelled, for example by a timeout, the next call continues where it stopped: an asyncio.StreamReader
@@ -69,20 +77,29 @@ class AsyncMultihashReader(_core.Reader, AsyncItems):
     def __init__(self, stream: AsyncReadable, limit: int = DIGEST_MAX) -> None:
         super().__init__(stream, limit)
 
-    async def read(self) -> Optional[Multihash]:
-        """Returns the next multihash, or None at the end of the stream."""
-        wanted = self._begin()
-        while wanted:
-            try:
-                called = self._read(wanted)
-                if isinstance(called, bytes):
-                    raise TypeError(NOT_AWAITED % "MultihashReader")
-                chunk = await called
-            except BaseException as error:
-                self._fail(error)
-                raise
-            wanted = self._end(chunk)
-        return self._take()
+
+class FrameReader(_core.FileReader[bytes]):
+    """Reads frames from a binary file: a varint, and then as many bytes as it says. It consumes no byte after a frame.
+
+    `limit` is the maximum length of a frame, in bytes, without its varint. The memory that a reader takes depends on
+    the bytes that it has read, not on the length that a varint has. The errors, and what `file` is, are those of a
+    MultihashReader. The text of a MultihashError starts with the number of the frame, from 0 on, and its offset.
+    """
+
+    __module__ = "verified_multihash"
+
+    def __init__(self, file: Readable, limit: int = FRAME_MAX) -> None:
+        super().__init__(file, limit, True)
+
+
+class AsyncFrameReader(AsyncReader[bytes]):
+    """Reads as a FrameReader does, from a stream whose `read` is awaited. A call may be cancelled, as that of an
+    AsyncMultihashReader."""
+
+    __module__ = "verified_multihash"
+
+    def __init__(self, stream: AsyncReadable, limit: int = FRAME_MAX) -> None:
+        super().__init__(stream, limit, True)
 
 
 def read_from(file: Readable, limit: int = DIGEST_MAX) -> Optional[Multihash]:
