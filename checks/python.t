@@ -11,7 +11,7 @@ export MULTIHASH_VERDICTS=$PWD/crates/vectors/data/verdicts.tsv
 
 # The module has no warnings.
 warnings="-std=c89 -Wall -Wextra -Wshadow -Wconversion -Wsign-conversion -Werror"
-builds() { CC="cc $warnings" "$here/pack.sh" "$work/dist" "$(uname -m)"; }
+builds() { CC="cc $warnings" "$here/pack.sh" "$work/dist"; }
 
 # Installs what is named without a network, in place of what was installed.
 installs() {
