@@ -85,7 +85,7 @@ by_fetching() {
   cmake --install "$to/static"
   has_flags "$to/prefix" lib
   (cd "$to/prefix"; find . ! -type d | sort) |
-    diff <(files_in lib | sed -E '/\/(bin|share)\/|\.so/d; s/-release/-noconfig/' | sort) -
+    diff <(files_in lib | sed -E '/\/(bin|share)\/|\.so|_ffi/d; s/-release/-noconfig/' | sort) -
 }
 
 # The example of bindings/c/README.md for Go, in a module of its own. cgo takes no prefix with a blank.

@@ -49,6 +49,18 @@ def names(one: str, family: str = "") -> str:
     return "\n".join(lines)
 
 
+def c_names() -> str:
+    """Returns rows of the table for C: each code with its name, also those of each family."""
+    lines = names("{code} {name}", "{code} {name} {count}").splitlines()
+    table = []
+    for code, name, *count in (line.split() for line in lines):
+        table += (
+            [(int(code) + i, f"{name}-{8 * (i + 1)}") for i in range(int(count[0]))] if count else [(int(code), name)]
+        )
+    text = " ".join(f'{{{code:#x},~"{name}"}},' for code, name in table)
+    return textwrap.indent(textwrap.fill(text, 110, break_on_hyphens=False).replace("~", " "), " " * 8)
+
+
 FILES = {
     "js/limits.js": f"""// Limits and the version of multihash.h. Made by tools/generate tables.
 
@@ -198,24 +210,51 @@ families! {{
  * Copyright (c) 2026 The Gilmekhus developers
  * Made by tools/generate tables. */
 
-/* The names of hash functions in the multicodec table. */
+/* The names of hash functions in the multicodec table, and their codes. This header is tested, not proved. */
 #ifndef MULTIHASH_NAMES_H
 #define MULTIHASH_NAMES_H
 
 #include "multihash.h"
 
+#include <string.h>
+
 #ifdef __cplusplus
 extern "C" {{
 #endif
 
-/* Returns the name of the hash function of a code, a static string such as "sha2-256". Returns a null pointer for other
- * codes, such as those of BLAKE2 and Skein whose digests have a length that is not listed here. */
+/* What multihash_code returns for a text that is no name. It is no valid code. */
+#define MULTIHASH_NO_CODE UINT64_MAX
+
+struct mh_name {{
+    uint64_t code;
+    const char *name;
+}};
+
+/* The table. Its last row has no name. */
+static inline const struct mh_name *mh_names(void)
+{{
+    static const struct mh_name names[] = {{
+{c_names()}
+        {{MULTIHASH_NO_CODE, NULL}},
+    }};
+    return names;
+}}
+
+/* Returns the name of the hash function of a code, a static string such as "sha2-256", or a null pointer if no hash
+ * function has the code. */
 static inline const char *multihash_name(uint64_t code)
 {{
-    switch (code) {{
-{names('    case {code:#x}: return "{name}";')}
-    default: return NULL;
-    }}
+    const struct mh_name *row = mh_names();
+    while (row->name != NULL && row->code != code) row++;
+    return row->name;
+}}
+
+/* Returns the code of a name, a string that ends in a zero byte, or MULTIHASH_NO_CODE if no hash function has the name. */
+static inline uint64_t multihash_code(const char *name)
+{{
+    const struct mh_name *row = mh_names();
+    while (row->name != NULL && strcmp(row->name, name) != 0) row++;
+    return row->code;
 }}
 
 #ifdef __cplusplus

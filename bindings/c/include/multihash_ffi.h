@@ -33,14 +33,15 @@ uint32_t multihash_ffi_scale_encode(uint64_t code, const uint8_t *digest, size_t
                                     size_t out_length, uint64_t *result);
 uint32_t multihash_ffi_write_varint(uint64_t value, uint8_t *out, size_t out_length, uint64_t *result);
 
-/* Static strings; the name of an unknown code is a null pointer. */
+/* Static strings; the name of an unknown code is a null pointer, and the code of an unknown name is 2^64 - 1. */
 const char *multihash_ffi_status_text(uint32_t status);
 const char *multihash_ffi_name(uint64_t code);
+uint64_t multihash_ffi_code(const char *name);
 
 int multihash_ffi_is_incomplete(uint32_t status);
 
-/* The messages, of at most 128 bytes with the zero byte. `made` are the numbers that an encoder has written. */
+/* The messages, of at most 128 bytes with the zero byte. `result` are the numbers that an encoder wrote. */
 int multihash_ffi_message(char *text, size_t text_size, const uint8_t *bytes, size_t bytes_length, size_t limit);
 int multihash_ffi_scale_message(char *text, size_t text_size, const uint8_t *bytes, size_t bytes_length);
-int multihash_ffi_encode_message(char *text, size_t text_size, uint32_t status, const uint64_t *made, uint64_t code,
+int multihash_ffi_encode_message(char *text, size_t text_size, uint32_t status, const uint64_t *result, uint64_t code,
                                  size_t out_length);

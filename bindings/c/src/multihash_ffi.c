@@ -18,39 +18,39 @@ static uint32_t put(uint32_t status, uint64_t *result, uint64_t first, uint64_t 
     return status;
 }
 
-static uint32_t decoded(multihash_decoded found, uint64_t *result)
+static uint32_t decoded(multihash_decoded from, uint64_t *result)
 {
-    result[2] = found.digest_offset;
-    result[3] = found.digest_length;
-    result[4] = found.taken;
-    return put(found.status, result, found.size, found.code);
+    result[2] = from.digest_offset;
+    result[3] = from.digest_length;
+    result[4] = from.taken;
+    return put(from.status, result, from.size, from.code);
 }
 
-static uint32_t batch(multihash_batch found, uint64_t *result)
+static uint32_t batch(multihash_batch from, uint64_t *result)
 {
-    result[2] = found.taken;
-    return put(found.status, result, found.size, found.count);
+    result[2] = from.taken;
+    return put(from.status, result, from.size, from.count);
 }
 
-static uint32_t front(multihash_front head, uint64_t *result)
+static uint32_t head(multihash_front from, uint64_t *result)
 {
-    result[2] = head.taken;
-    return put(head.status, result, head.code, head.digest_length);
+    result[2] = from.taken;
+    return put(from.status, result, from.code, from.digest_length);
 }
 
-static uint32_t varint(multihash_varint found, uint64_t *result)
+static uint32_t varint(multihash_varint from, uint64_t *result)
 {
-    return put(found.status, result, found.value, found.length);
+    return put(from.status, result, from.value, from.length);
 }
 
-static uint32_t encoded(multihash_encoded made, uint64_t *result)
+static uint32_t encoded(multihash_encoded from, uint64_t *result)
 {
-    return put(made.status, result, made.size, made.length);
+    return put(from.status, result, from.size, from.length);
 }
 
-static multihash_encoded made_of(uint32_t status, const uint64_t *made)
+static multihash_encoded encoded_of(uint32_t status, const uint64_t *result)
 {
-    return (multihash_encoded){.status = status, .size = made[0], .length = (size_t)made[1]};
+    return (multihash_encoded){.status = status, .size = result[0], .length = (size_t)result[1]};
 }
 
 MH_FFI(uint32_t, from_bytes, (const uint8_t *bytes, size_t bytes_length, uint64_t *result),
@@ -66,7 +66,7 @@ MH_FFI(uint32_t, scale_decode, (const uint8_t *bytes, size_t bytes_length, uint6
 MH_FFI(uint32_t, read_many, (const uint8_t *bytes, size_t bytes_length, void *out, size_t out_length, uint64_t *result),
        batch(multihash_read_many(bytes, bytes_length, out, out_length), result))
 MH_FFI(uint32_t, head, (const uint8_t *bytes, size_t bytes_length, uint64_t *result),
-       front(multihash_head(bytes, bytes_length), result))
+       head(multihash_head(bytes, bytes_length), result))
 MH_FFI(uint32_t, read_varint, (const uint8_t *bytes, size_t bytes_length, uint64_t *result),
        varint(multihash_read_varint(bytes, bytes_length), result))
 MH_FFI(uint32_t, encoded_len, (uint64_t code, size_t digest_length, uint64_t *result),
@@ -82,11 +82,12 @@ MH_FFI(uint32_t, write_varint, (uint64_t value, uint8_t *out, size_t out_length,
 
 MH_FFI(const char *, status_text, (uint32_t status), multihash_status_text(status))
 MH_FFI(const char *, name, (uint64_t code), multihash_name(code))
+MH_FFI(uint64_t, code, (const char *name), multihash_code(name))
 MH_FFI(int, is_incomplete, (uint32_t status), multihash_is_incomplete(status))
 MH_FFI(int, message, (char *text, size_t text_size, const uint8_t *bytes, size_t bytes_length, size_t limit),
        multihash_message(text, text_size, bytes, bytes_length, limit))
 MH_FFI(int, scale_message, (char *text, size_t text_size, const uint8_t *bytes, size_t bytes_length),
        multihash_scale_message(text, text_size, bytes, bytes_length))
 MH_FFI(int, encode_message,
-       (char *text, size_t text_size, uint32_t status, const uint64_t *made, uint64_t code, size_t out_length),
-       multihash_encode_message(text, text_size, made_of(status, made), code, out_length))
+       (char *text, size_t text_size, uint32_t status, const uint64_t *result, uint64_t code, size_t out_length),
+       multihash_encode_message(text, text_size, encoded_of(status, result), code, out_length))

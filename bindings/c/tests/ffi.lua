@@ -69,10 +69,13 @@ local function check_message(line, call, limit, input, status, message)
   same(ffi.string(text, length), message, line)
 end
 
-local function check_name(line, code, name) same(ffi.string(C.multihash_ffi_name(number(code))), name, line) end
+local function check_name(line, code, name)
+  same(ffi.string(C.multihash_ffi_name(number(code))), name, line)
+  same(C.multihash_ffi_code(name), number(code), line)
+end
 
 local CHECKS = {value = check_value, message = check_message}
-for name, check in pairs {verdicts = check_vector, values = false, messages = false, hashes = check_name} do
+for name, check in pairs {verdicts = check_vector, values = false, messages = false, hashes = check_name, codes = check_name} do
   local rows = 0
   for line in io.lines(data .. '/' .. name .. '.tsv') do
     local columns = {}
@@ -101,3 +104,4 @@ same(ffi.string(text), 'the buffer has 4 bytes, and 5 are needed')
 C.multihash_ffi_encode_message(text, 128, 5, result, number('9223372036854775808'), 0)
 same(ffi.string(text), 'the code 9223372036854775808 is 2^63 or more')
 same(C.multihash_ffi_name(1), nil)
+same(C.multihash_ffi_code('none'), -1ULL)
