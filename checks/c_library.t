@@ -21,6 +21,16 @@ headers() {
   done
 }
 
+# The values of multihash.hpp, by a compiler for C++, over the object of one for C, with the sanitizers.
+values() {
+  local standard
+  for standard in c++17 c++20; do
+    "$1" -std=$standard "${warnings[@]}" "${sanitize[@]}" -I "$c/include" "$c/tests/values.cpp" "$work/$2-2.o" \
+      -o "$work/$2-values"
+    prints passed "$work/$2-values" "$data"
+  done
+}
+
 # The functions of a file, before a text, with the names of their parameters.
 named() {
   tr -s '\n ' ' ' < "$1" | sed 's/multihash_status /uint32_t /g' | grep -oP "\w+ multihash_\w+\([^()]*\)(?=$2)" | sort
@@ -54,6 +64,7 @@ test_compilers() {
     ONLY='' needs=$there try "$cc" compiles $cc
     needs="$there $cxx" try "$cc, tests by $cxx" as_cxx $cxx $cc
     [ $cc = cc ] || there="clang $clang_runtime"
+    needs="$there $cxx" try "$cc, values by $cxx" values $cxx $cc
     needs=$there try "$cc, address and undefined-behaviour sanitizers" \
       build_and_run $cc-san "" $cc "${c_flags[@]}" "${sanitize[@]}" "${tests[@]}" "$source"
   done

@@ -28,8 +28,10 @@ man_pages() {
 }
 
 # Flags of a distribution reach the compiler, before those of the build type and of a shared library, and the linker, and
-# hide no function. Without tests none are built, and without Python no man pages. Another prefix is named at last.
+# hide no function. Without tests none are built, and without Python no man pages. Another prefix is named at last. No
+# compiler for C++ is needed.
 with_flags() {
+  local -x CXX=none
   CFLAGS="-fvisibility=hidden -fno-pie -g3" LDFLAGS=-Wl,--build-id=0x01234567 cmake -S "$top" -B "$work/flags" \
     -DCMAKE_EXE_LINKER_FLAGS=-no-pie -DBUILD_TESTING=OFF -DCMAKE_DISABLE_FIND_PACKAGE_Python3=ON \
     -DCMAKE_INSTALL_{LIBDIR="$libdir",INCLUDEDIR=headers/c,DOCDIR=pages/c,BINDIR=other/bin}

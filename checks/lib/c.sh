@@ -23,5 +23,5 @@ exported() { cc -E -P "$c/include/multihash.h" | tr -s '\n ' ' ' | grep -oP '\w+
 build_and_run() {
   "${@:3}" -I "$c/include" -o "$work/$1"
   # shellcheck disable=SC2086
-  prints passed $2 "$work/$1" "$data"/{verdicts,values,messages}.tsv
+  prints passed $2 "$work/$1" "$data"/{verdicts,values,messages,hashes,codes}.tsv
 }

@@ -90,7 +90,15 @@ static void check_version(void)
     snprintf(text, sizeof text, "%u.%u.%u", number / 10000, number / 100 % 100, number % 100);
     CHECK(number == MULTIHASH_VERSION_NUMBER);
     CHECK(strcmp(text, MULTIHASH_VERSION) == 0);
-    CHECK(strcmp(multihash_name(0xb3e3), "xxh3-64") == 0 && multihash_name(0xb214) == NULL);
+}
+
+/* Names that hashes.tsv and codes.tsv do not have: of BLAKE2 and Skein by their lengths, and what is none. */
+static void check_names(void)
+{
+    CHECK(strcmp(multihash_name(0xb214), "blake2b-160") == 0 && multihash_code("skein512-256") == 0xb340);
+    CHECK(multihash_name(1) == NULL && multihash_name(MULTIHASH_NO_CODE) == NULL);
+    CHECK(multihash_code("") == MULTIHASH_NO_CODE && multihash_code("sha2-25") == MULTIHASH_NO_CODE);
+    CHECK(multihash_code("sha2-2566") == MULTIHASH_NO_CODE && multihash_code("SHA2-256") == MULTIHASH_NO_CODE);
 }
 
 static char message[MULTIHASH_MESSAGE_SIZE];
@@ -163,6 +171,7 @@ int main(int argc, char **argv)
     check_varints();
     check_large();
     check_version();
+    check_names();
     check_messages();
     for (int i = 1; i < argc; i++) replay(argv[i]);
     puts("passed");

@@ -1,7 +1,7 @@
-/* The test vectors: the library has the results of each line of verdicts.tsv, values.tsv and messages.tsv of
- * crates/vectors. */
+/* The test vectors: the library has the results of each line of the lists of crates/vectors/data. */
 #include "check.h"
 #include "multihash_message.h"
+#include "multihash_names.h"
 
 #include <inttypes.h>
 
@@ -109,6 +109,13 @@ static void check_line(char *text)
 {
     static uint8_t bytes[LINE_MAX_BYTES / 2];
     const char *column[7];
+    if (strncmp(text, "0x", 2) == 0) {
+        column[0] = strtok(text, "\t\n");
+        column[1] = strtok(NULL, "\t\n");
+        CHECK(strcmp(multihash_name(strtoull(column[0], NULL, 16)), column[1]) == 0);
+        CHECK(multihash_code(column[1]) == strtoull(column[0], NULL, 16));
+        return;
+    }
     int is_order = strncmp(text, "order\t", 6) == 0, is_value = strncmp(text, "value\t", 6) == 0;
     int count = is_order || is_value || strncmp(text, "message\t", 8) == 0 ? 6 : 7;
     for (int i = 0; i < count; i++) column[i] = strtok(i == 0 ? text : NULL, "\t\n");

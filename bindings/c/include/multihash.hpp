@@ -1,0 +1,193 @@
+/* SPDX-License-Identifier: MIT
+ * Copyright (c) 2026 The Gilmekhus developers */
+
+/* Multihashes as values of C++17, over multihash.h: they are compared as multihashes are, and are keys of std::map and
+ * std::unordered_map. Errors are exceptions with the messages of multihash_message.h. This header is tested, not
+ * proved. */
+#ifndef MULTIHASH_HPP
+#define MULTIHASH_HPP
+
+#include "multihash_message.h"
+#include "multihash_names.h"
+
+#include <functional>
+#include <istream>
+#include <optional>
+#include <stdexcept>
+#include <string>
+#include <string_view>
+
+namespace multihash {
+
+/* Why bytes are no multihash, or why a code and a digest have no encoding. */
+class error : public std::invalid_argument {
+  public:
+    error(multihash_status status, const char *message) : std::invalid_argument(message), status_(status) {}
+
+    multihash_status status() const noexcept { return status_; }
+
+    /* Returns whether the input is truncated: then more bytes can change the result. */
+    bool is_incomplete() const noexcept { return multihash_is_incomplete(status_) != 0; }
+
+  private:
+    multihash_status status_;
+};
+
+/* A code below 2^63 and a digest of at most 255 bytes. Bytes are the chars of a string or of a string_view. */
+class value {
+  public:
+    /* The code 0 and the empty digest. */
+    value() = default;
+
+    /* Throws error if the code is 2^63 or more, or the digest too long. */
+    value(std::uint64_t code, std::string_view digest) : code_(code)
+    {
+        const multihash_encoded result = multihash_encoded_len(code, digest.size());
+        if (result.status != MULTIHASH_OK) {
+            char message[MULTIHASH_MESSAGE_SIZE];
+            multihash_encode_message(message, sizeof message, result, code, 0);
+            throw error(result.status, message);
+        }
+        digest_ = digest;
+    }
+
+    value(std::uint64_t code, const std::uint8_t *digest, std::size_t length) : value(code, chars_of(digest, length)) {}
+
+    /* Decodes bytes that must be exactly one multihash. Throws error. */
+    static value decode(std::string_view bytes)
+    {
+        const multihash_decoded result = multihash_from_bytes(bytes_of(bytes), bytes.size());
+        if (result.status != MULTIHASH_OK) fail(result.status, bytes, MULTIHASH_DIGEST_MAX);
+        return value(result.code, bytes.substr(result.digest_offset, result.digest_length));
+    }
+
+    static value decode(const std::uint8_t *bytes, std::size_t length) { return decode(chars_of(bytes, length)); }
+
+    /* Decodes the multihash at the start of the bytes, whose digest may have at most `limit` bytes, and removes it from
+     * them. Throws error, and then leaves them unchanged. */
+    static value read(std::string_view &bytes, std::size_t limit = MULTIHASH_DIGEST_MAX)
+    {
+        const multihash_decoded result = multihash_read_limit(bytes_of(bytes), bytes.size(), limit);
+        if (result.status != MULTIHASH_OK) fail(result.status, bytes, limit);
+        value first(result.code, bytes.substr(result.digest_offset, result.digest_length));
+        bytes.remove_prefix(result.taken);
+        return first;
+    }
+
+    /* Reads the next multihash of a stream, and no byte after it. Returns nothing if the stream has no more bytes, also
+     * after its own error, as `from.bad()` tells. Throws error; then what was read of the multihash is lost. */
+    static std::optional<value> read(std::istream &from, std::size_t limit = MULTIHASH_DIGEST_MAX)
+    {
+        char bytes[MULTIHASH_HEAD_MAX + MULTIHASH_DIGEST_MAX];
+        std::size_t length = 0;
+        multihash_front head = multihash_head(nullptr, 0);
+        while (head.status == MULTIHASH_INSUFFICIENT && from.get(bytes[length])) {
+            length++;
+            head = multihash_head(bytes_of({bytes, length}), length);
+        }
+        if (length == 0) return std::nullopt;
+        if (head.status == MULTIHASH_OK && head.digest_length <= limit && head.digest_length <= MULTIHASH_DIGEST_MAX) {
+            from.read(bytes + length, static_cast<std::streamsize>(head.digest_length));
+            length += static_cast<std::size_t>(from.gcount());
+        }
+        std::string_view rest(bytes, length);
+        return read(rest, limit);
+    }
+
+    /* Decodes a text of hexadecimal digits. Throws error, and std::invalid_argument if the text has anything else. */
+    static value from_hex(std::string_view text)
+    {
+        std::string bytes;
+        if (text.size() % 2 != 0) throw std::invalid_argument("the text has an odd number of digits");
+        for (std::size_t i = 0; i < text.size(); i += 2) {
+            bytes += static_cast<char>(digit_of(text[i]) << 4 | digit_of(text[i + 1]));
+        }
+        return decode(bytes);
+    }
+
+    std::uint64_t code() const noexcept { return code_; }
+
+    const std::string &digest() const noexcept { return digest_; }
+
+    /* Returns the name of the hash function, or an empty text if no hash function has the code. */
+    std::string_view name() const noexcept
+    {
+        const char *text = multihash_name(code_);
+        return text == nullptr ? "" : text;
+    }
+
+    /* Returns the encoding. */
+    std::string bytes() const
+    {
+        std::uint8_t out[MULTIHASH_LENGTH_MAX];
+        const multihash_encoded result = multihash_encode(code_, bytes_of(digest_), digest_.size(), out, sizeof out);
+        return std::string(chars_of(out, result.length));
+    }
+
+    /* Returns the encoding in hexadecimal. */
+    std::string hex() const
+    {
+        std::string text;
+        for (const char byte : bytes()) {
+            text += DIGITS[static_cast<unsigned char>(byte) >> 4];
+            text += DIGITS[byte & 15];
+        }
+        return text;
+    }
+
+    /* Returns -1, 0 or 1: compares by code, then by digest length, then by the first digest byte that differs. */
+    int compare(const value &other) const noexcept
+    {
+        return multihash_compare(code_, bytes_of(digest_), digest_.size(), other.code_, bytes_of(other.digest_),
+                                 other.digest_.size());
+    }
+
+    friend bool operator==(const value &a, const value &b) noexcept { return a.compare(b) == 0; }
+    friend bool operator!=(const value &a, const value &b) noexcept { return a.compare(b) != 0; }
+    friend bool operator<(const value &a, const value &b) noexcept { return a.compare(b) < 0; }
+    friend bool operator>(const value &a, const value &b) noexcept { return a.compare(b) > 0; }
+    friend bool operator<=(const value &a, const value &b) noexcept { return a.compare(b) <= 0; }
+    friend bool operator>=(const value &a, const value &b) noexcept { return a.compare(b) >= 0; }
+
+  private:
+    static constexpr std::string_view DIGITS = "0123456789abcdef";
+
+    static const std::uint8_t *bytes_of(std::string_view chars) noexcept
+    {
+        return reinterpret_cast<const std::uint8_t *>(chars.data());
+    }
+
+    static std::string_view chars_of(const std::uint8_t *bytes, std::size_t length) noexcept
+    {
+        return {reinterpret_cast<const char *>(bytes), length};
+    }
+
+    static unsigned digit_of(char digit)
+    {
+        const bool is_capital = digit >= 'A' && digit <= 'F';
+        const std::size_t number = DIGITS.find(is_capital ? static_cast<char>(digit - 'A' + 'a') : digit);
+        if (number == std::string_view::npos) throw std::invalid_argument("the text has a character that is no digit");
+        return static_cast<unsigned>(number);
+    }
+
+    [[noreturn]] static void fail(multihash_status status, std::string_view bytes, std::size_t limit)
+    {
+        char message[MULTIHASH_MESSAGE_SIZE];
+        multihash_message(message, sizeof message, bytes_of(bytes), bytes.size(), limit);
+        throw error(status, message);
+    }
+
+    std::uint64_t code_ = 0;
+    std::string digest_;
+};
+
+} // namespace multihash
+
+template <> struct std::hash<multihash::value> {
+    std::size_t operator()(const multihash::value &value) const noexcept
+    {
+        return std::hash<std::string>()(value.digest()) ^ std::hash<std::uint64_t>()(value.code());
+    }
+};
+
+#endif

@@ -1,0 +1,168 @@
+/* The tests of multihash.hpp: values of each row of the test vectors. C++17 and C++20. Exits with status 1 at the first
+ * error.
+ *
+ *   values FOLDER     crates/vectors/data */
+#include "check.h"
+#include <multihash.hpp>
+
+#include <fstream>
+#include <set>
+#include <sstream>
+#include <unordered_set>
+#include <vector>
+
+using multihash::value;
+using row = std::vector<std::string>;
+
+static std::vector<row> rows_of(const std::string &path)
+{
+    std::vector<row> rows;
+    std::ifstream file(path);
+    for (std::string line, cell; std::getline(file, line);) {
+        rows.emplace_back();
+        for (std::istringstream cells(line); std::getline(cells, cell, '\t');) rows.back().push_back(cell);
+    }
+    CHECK(rows.size() > 1);
+    rows.erase(rows.begin());
+    return rows;
+}
+
+static std::string bytes_of(const std::string &digits)
+{
+    std::string bytes;
+    for (size_t i = 0; digits != "-" && i < digits.size(); i += 2) {
+        bytes += static_cast<char>(std::stoi(digits.substr(i, 2), nullptr, 16));
+    }
+    return bytes;
+}
+
+/* A value as columns have it, and the word of an error. */
+static std::string shown(const value &pair)
+{
+    std::ostringstream text;
+    text << "pair " << pair.code() << " ";
+    const std::string digits = pair.hex().substr(2 * (pair.bytes().size() - pair.digest().size()));
+    return text.str() + (digits.empty() ? "-" : digits);
+}
+
+static std::string word_of(const multihash::error &error)
+{
+    static const char *const words[] = {"",           "insufficient", "overflow",      "not_minimal", "invalid_size",
+                                        "invalid_code", "unexpected_eof"};
+    const std::string word = words[error.status()];
+    CHECK(error.is_incomplete() == (word == "insufficient" || word == "unexpected_eof"));
+    return word;
+}
+
+/* What a call returns, as in a column without the numbers of errors. */
+template <typename Call> static std::string result_of(Call call)
+{
+    try {
+        return shown(call());
+    } catch (const multihash::error &error) {
+        return word_of(error);
+    }
+}
+
+static std::string without_number(const std::string &column)
+{
+    return column.substr(0, 5) == "pair " ? column : column.substr(0, column.find(' '));
+}
+
+static void check_verdict(const row &columns)
+{
+    const std::string bytes = bytes_of(columns[1]), wanted = without_number(columns[2]);
+    const size_t limit = std::stoul(columns[0]);
+    std::string_view rest = bytes;
+    CHECK(result_of([&] { return value::read(rest, limit); }) == wanted);
+    const size_t taken = wanted.substr(0, 5) == "pair " ? std::stoul(columns[3]) : 0;
+    CHECK(bytes.size() - rest.size() == taken);
+    if (limit >= MULTIHASH_DIGEST_MAX) {
+        CHECK(result_of([&] { return value::decode(bytes); }) == without_number(columns[4]));
+    }
+    std::istringstream stream(bytes);
+    if (bytes.empty()) {
+        CHECK(!value::read(stream, limit).has_value());
+        return;
+    }
+    CHECK(result_of([&] { return value::read(stream, limit).value(); }) == wanted);
+    if (taken > 0) CHECK(stream.tellg() == static_cast<std::streamoff>(taken));
+}
+
+static void check_value(const row &columns)
+{
+    const std::string digest = bytes_of(columns[3]);
+    const uint64_t code = std::stoull(columns[2]);
+    if (std::stoul(columns[1]) < digest.size() && digest.size() <= MULTIHASH_DIGEST_MAX) return;
+    try {
+        const value pair(code, digest);
+        const std::string encoding = bytes_of(columns[4]);
+        CHECK(pair.bytes() == encoding && value::decode(encoding) == pair && pair.digest() == digest);
+        CHECK(value::from_hex(pair.hex()) == pair && value::from_hex(columns[4]) == pair && pair.hex() == columns[4]);
+        CHECK(value(code, reinterpret_cast<const uint8_t *>(digest.data()), digest.size()) == pair);
+        CHECK(value::decode(reinterpret_cast<const uint8_t *>(encoding.data()), encoding.size()) == pair);
+    } catch (const multihash::error &error) {
+        CHECK(word_of(error) == without_number(columns[4]));
+    }
+}
+
+static void check_order(const row &columns)
+{
+    const value left(std::stoull(columns[1]), bytes_of(columns[2]));
+    const value right(std::stoull(columns[3]), bytes_of(columns[4]));
+    const int order = std::stoi(columns[5]);
+    CHECK((left < right) == (order < 0) && (left > right) == (order > 0) && (left == right) == (order == 0));
+    CHECK((left <= right) == (order <= 0) && (left >= right) == (order >= 0) && (left != right) == (order != 0));
+    CHECK(std::set<value>({left, right}).size() == (order == 0 ? 1 : 2));
+    CHECK(std::unordered_set<value>({left, right}).size() == (order == 0 ? 1 : 2));
+}
+
+static void check_message(const row &columns)
+{
+    if (columns[1] == "scale_decode" || columns[2] != "255") return;
+    try {
+        value::decode(bytes_of(columns[3]));
+        CHECK(false); // an error was expected
+    } catch (const multihash::error &error) {
+        CHECK(error.what() == columns[5]);
+    }
+}
+
+static void check_texts()
+{
+    static const struct {
+        const char *text, *message;
+    } rows[] = {
+        {"120", "the text has an odd number of digits"},
+        {"1g", "the text has a character that is no digit"},
+        {"12 1", "the text has a character that is no digit"},
+        {"1203aabb", "the input ends inside the digest (2 of 3 bytes)"},
+        {"", "the input is empty"},
+    };
+    for (const auto &each : rows) {
+        try {
+            value::from_hex(each.text);
+            CHECK(false); // an error was expected
+        } catch (const std::invalid_argument &error) {
+            CHECK(std::string(error.what()) == each.message);
+        }
+    }
+    CHECK(value::from_hex("1202aAfF") == value(0x12, "\xaa\xff") && value() == value(0, ""));
+    CHECK(value(0x12, "").name() == "sha2-256" && value(1, "").name().empty());
+    value from(0x12, "abc"), to = std::move(from);
+    from = to;
+    CHECK(from == to && to.digest() == "abc");
+}
+
+int main(int argc, char **argv)
+{
+    CHECK(argc == 2);
+    const std::string folder = argv[1];
+    for (const row &columns : rows_of(folder + "/verdicts.tsv")) check_verdict(columns);
+    for (const row &columns : rows_of(folder + "/values.tsv")) {
+        (columns[0] == "order" ? check_order : check_value)(columns);
+    }
+    for (const row &columns : rows_of(folder + "/messages.tsv")) check_message(columns);
+    check_texts();
+    puts("passed");
+}
