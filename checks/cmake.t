@@ -24,7 +24,7 @@ man_pages() {
   mandoc -T lint "$man"/man3/multihash.3 "$man/man1/mh_show.1"
   cat "$man"/man3/*_*.3 | sort -u | diff - <(echo .so man3/multihash.3)
   basename -s .3 -a "$man"/man3/*_*.3 | diff - <(sed -n 's/^\.Ss \(multihash_\w*\)$/\1/p' "$man/man3/multihash.3" |
-    grep -vxE 'multihash_(status|decoded|encoded|front|varint|item|batch)' | sort)
+    grep -vxE 'multihash_(status|decoded|encoded|front|varint|item|batch|cid)' | sort)
 }
 
 # Flags of a distribution reach the compiler, before those of the build type and of a shared library, and the linker, and

@@ -15,7 +15,7 @@ import time
 from pathlib import Path
 
 # multihash_ffi.h is for other languages.
-HEADERS = [Path(__file__).parent / "include" / f"multihash{part}.h" for part in ("", "_message", "_names")]
+HEADERS = [Path(__file__).parent / "include" / f"multihash{part}.h" for part in ("", "_message", "_names", "_cid")]
 COMMENT = r"/\*((?:(?!\*/).)*)\*/\n"
 ABOUT = COMMENT + "#ifndef"
 # A type, constants, or a function, whose declaration has a parenthesis.

@@ -10,7 +10,7 @@ ulimit -c 0
 top=$PWD
 c=$top/bindings/c
 source=$c/src/multihash.c
-tests=("$c"/tests/{test,verdicts,models,inputs}.c)
+tests=("$c"/tests/{test,verdicts,cid,models,inputs}.c)
 data=$top/crates/vectors/data
 # what Clang needs for sanitizers
 clang_runtime=$(clang --rtlib=compiler-rt -print-libgcc-file-name 2> /dev/null || true)
@@ -23,5 +23,5 @@ exported() { cc -E -P "$c/include/multihash.h" | tr -s '\n ' ' ' | grep -oP '\w+
 build_and_run() {
   "${@:3}" -I "$c/include" -o "$work/$1"
   # shellcheck disable=SC2086
-  prints passed $2 "$work/$1" "$data"/{verdicts,values,messages,hashes,codes}.tsv
+  prints passed $2 "$work/$1" "$data"/{verdicts,values,messages,hashes,codes,cids}.tsv
 }

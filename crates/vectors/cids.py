@@ -137,7 +137,7 @@ def drawn(seed: int, count: int) -> Iterator[str]:
             end = at + draw.choice((0, 1, 1, 9))
             new = draw.choice(("", draw.choice(OTHERS), draw.choice(OTHERS), text[:at], text[at:end].swapcase(), "1z"))
             text = text[: max(at, 0)] + draw.choice((new, new, new * draw.randint(1, 600))) + text[max(end, 0) :]
-        yield line_of(text)
+        yield line_of(text[: 2 * LONGEST_TEXT])
 
 
 def main() -> int:

@@ -36,4 +36,8 @@ void check_number(uint64_t value, size_t room);
 /* verdicts.c */
 void replay(const char *name);
 
+/* cid.c */
+void check_cids(void);
+void replay_cids(const char *name);
+
 #endif

@@ -2,7 +2,7 @@
  * and messages. They are for other compilers and machines: `proof` checks the source for all inputs. C11 and C++17. Exits
  * with status 1 at the first error.
  *
- *   test LIST..     LIST is a list of crates/vectors/data */
+ *   test LIST..     LIST is a list of crates/vectors/data; one of CIDs has cids in its name */
 #include "check.h"
 #include "multihash_message.h"
 #include "multihash_names.h"
@@ -173,7 +173,8 @@ int main(int argc, char **argv)
     check_version();
     check_names();
     check_messages();
-    for (int i = 1; i < argc; i++) replay(argv[i]);
+    check_cids();
+    for (int i = 1; i < argc; i++) (strstr(argv[i], "cids") != NULL ? replay_cids : replay)(argv[i]);
     puts("passed");
     return 0;
 }
