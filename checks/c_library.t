@@ -117,16 +117,21 @@ other_languages() {
   luajit "$c/tests/ffi.lua" "$c/include/multihash_ffi.h" "$work/libffi.so" "$data"
 }
 
-# The first programs of the page. The one that reads a file prints each multihash, also one that is cut where a part of
-# the file ends, and why the last is incomplete.
+# The first program of the page, and its program in C++.
 page_programs() {
-  local name
   block_of bindings/c/README.md c > "$work/hello.c"
-  sed -n '/^\/\/ lengths\.c/,/^}$/p' bindings/c/README.md > "$work/lengths.c"
-  for name in hello lengths; do
-    cc "${c_flags[@]}" "${sanitize[@]}" -I "$c/include" "$work/$name.c" "$source" -o "$work/$name"
-  done
+  block_of bindings/c/README.md cpp > "$work/count.cpp"
+  cc "${c_flags[@]}" "${sanitize[@]}" -I "$c/include" "$work/hello.c" "$source" -o "$work/hello"
   prints "code 0, digest hello" "$work/hello"
+  c++ -std=c++17 "${warnings[@]}" -I "$c/include" "$work/count.cpp" "$work/cc-2.o" -o "$work/count"
+  printf '\22\1a\0\5hello\22\1a' | "$work/count" | diff <(printf '%s\n' '1 identity 000568656c6c6f' '2 sha2-256 120161') -
+  rejects "2 of 3" "$work/count" < <(printf '\22\1a\22\3ab')
+}
+
+# The reader of a file prints each multihash, also one that is cut where a part of the file ends, and why the last is
+# incomplete.
+lengths_example() {
+  cc "${c_flags[@]}" "${sanitize[@]}" -I "$c/include" "$c/examples/lengths.c" "$source" -o "$work/lengths"
   { printf '\0\5hello%.0s' {1..1001}; printf '\22\1a%.0s' {1..40000}; } | "$work/lengths" | uniq -c |
     diff <(printf '%7d %s\n' 1001 'identity 5' 40000 'sha2-256 1') -
   rejects "2 of 3" "$work/lengths" < <(printf '\0\5hello\22\3ab')
@@ -186,7 +191,8 @@ on_machine "armhf, 32 bits" arm-linux-gnueabihf qemu-arm
 on_machine "aarch64" aarch64-linux-gnu qemu-aarch64
 on_machine "s390x, big-endian" s390x-linux-gnu qemu-s390x
 needs="x86_64-w64-mingw32-gcc wine" try "Windows" in_wine
-try "the first programs of the page" page_programs
+needs=c++ try "the first programs of the page" page_programs
+try "the reader of a file" lengths_example
 try "the reader of a stream" stream_example
 needs=/usr/include/openssl/evp.h try "the example that hashes" verify_example
 finish

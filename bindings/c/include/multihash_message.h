@@ -2,7 +2,7 @@
  * Copyright (c) 2026 The Gilmekhus developers */
 
 /* Messages for the errors of multihash.h, with the numbers that the text of a status lacks: "the input ends inside the
- * digest (3 of 32 bytes)". These functions are defined in the header, over snprintf; they are tested, not proved.
+ * digest (3 of 32 bytes)". These functions are defined in the header, over snprintf; they are tested.
  *
  * Call one after a function of multihash.h has failed. Each but multihash_print_message writes the message to `text` as
  * snprintf does: at most `text_size` bytes, of which the last is zero. If `text_size` is 0, `text` may be null. It
@@ -24,10 +24,10 @@ extern "C" {
 #define MULTIHASH_MESSAGE_SIZE 128
 
 /* The message for a part of an encoding that is truncated. */
-static inline int mh_message_cut(char *text, size_t text_size, const char *part, uint64_t there, uint64_t whole)
+static inline int mh_message_truncated(char *text, size_t text_size, const char *part, uint64_t present, uint64_t whole)
 {
     return snprintf(text, text_size, "the input ends %s the %s (%" PRIu64 " of %" PRIu64 " bytes)",
-                    there == 0 ? "before" : "inside", part, there, whole);
+                    present == 0 ? "before" : "inside", part, present, whole);
 }
 
 static inline int mh_message_too_long(char *text, size_t text_size, uint64_t length, uint64_t limit)
@@ -77,15 +77,15 @@ static inline int multihash_message(char *text, size_t text_size, const uint8_t 
 {
     multihash_front head = multihash_head(bytes, bytes_length < MULTIHASH_HEAD_MAX ? bytes_length : MULTIHASH_HEAD_MAX);
     uint64_t most = limit < MULTIHASH_DIGEST_MAX ? limit : MULTIHASH_DIGEST_MAX;
-    uint64_t there = bytes_length - head.taken, length = head.digest_length;
+    uint64_t present = bytes_length - head.taken, length = head.digest_length;
 
     if (bytes_length == 0) return snprintf(text, text_size, "the input is empty");
     if (head.status != MULTIHASH_OK) return mh_message_malformed(text, text_size, bytes, head);
     if (length > most) return mh_message_too_long(text, text_size, length, most);
-    if (there < length) return mh_message_cut(text, text_size, "digest", there, length);
-    if (there == length) return snprintf(text, text_size, "ok");
-    return snprintf(text, text_size, "%" PRIu64 " byte%s the multihash", there - length,
-                    there - length == 1 ? " follows" : "s follow");
+    if (present < length) return mh_message_truncated(text, text_size, "digest", present, length);
+    if (present == length) return snprintf(text, text_size, "ok");
+    return snprintf(text, text_size, "%" PRIu64 " byte%s the multihash", present - length,
+                    present - length == 1 ? " follows" : "s follow");
 }
 
 /* Writes the message of multihash_message and a newline to a stream, such as stderr.
@@ -104,33 +104,33 @@ static inline int multihash_print_message(FILE *to, const uint8_t *bytes, size_t
  * Returns: the length of the message. */
 static inline int multihash_scale_message(char *text, size_t text_size, const uint8_t *bytes, size_t bytes_length)
 {
-    multihash_decoded found = multihash_scale_decode(bytes, bytes_length);
+    multihash_decoded result = multihash_scale_decode(bytes, bytes_length);
 
-    if (found.status == MULTIHASH_OK) return snprintf(text, text_size, "ok");
-    if (found.status == MULTIHASH_INVALID_CODE) return mh_message_large_code(text, text_size, found.code);
+    if (result.status == MULTIHASH_OK) return snprintf(text, text_size, "ok");
+    if (result.status == MULTIHASH_INVALID_CODE) return mh_message_large_code(text, text_size, result.code);
     if (bytes_length == 0) return snprintf(text, text_size, "the input is empty");
-    if (bytes_length < 8) return mh_message_cut(text, text_size, "code", bytes_length, 8);
+    if (bytes_length < 8) return mh_message_truncated(text, text_size, "code", bytes_length, 8);
     if (bytes_length == 8) return snprintf(text, text_size, "the input ends before the digest's length");
-    return mh_message_cut(text, text_size, "digest", bytes_length - 9, bytes[8]);
+    return mh_message_truncated(text, text_size, "digest", bytes_length - 9, bytes[8]);
 }
 
-/* Writes why a call of multihash_encode, multihash_scale_encode or multihash_encoded_len has failed: `made` is what it
+/* Writes why a call of multihash_encode, multihash_scale_encode or multihash_encoded_len has failed: `result` is what it
  * returned for that `code`, and `out_length` is the size of its `out`.
  *
  * Returns: the length of the message. */
-static inline int multihash_encode_message(char *text, size_t text_size, multihash_encoded made, uint64_t code,
+static inline int multihash_encode_message(char *text, size_t text_size, multihash_encoded result, uint64_t code,
                                            size_t out_length)
 {
-    switch (made.status) {
+    switch (result.status) {
     case MULTIHASH_INVALID_SIZE:
-        return mh_message_too_long(text, text_size, made.size, MULTIHASH_DIGEST_MAX);
+        return mh_message_too_long(text, text_size, result.size, MULTIHASH_DIGEST_MAX);
     case MULTIHASH_INVALID_CODE:
         return mh_message_large_code(text, text_size, code);
     case MULTIHASH_NO_ROOM:
         return snprintf(text, text_size, "the buffer has %" PRIu64 " byte%s, and %" PRIu64 " are needed",
-                        (uint64_t)out_length, out_length == 1 ? "" : "s", (uint64_t)made.length);
+                        (uint64_t)out_length, out_length == 1 ? "" : "s", (uint64_t)result.length);
     default:
-        return snprintf(text, text_size, "%s", multihash_status_text(made.status));
+        return snprintf(text, text_size, "%s", multihash_status_text(result.status));
     }
 }
 
