@@ -210,7 +210,7 @@ families! {{
  * Copyright (c) 2026 The Gilmekhus developers
  * Made by tools/generate tables. */
 
-/* The names of hash functions in the multicodec table, and their codes. This header is tested, not proved. */
+/* The names of hash functions in the multicodec table, and their codes: tested over the test vectors. */
 #ifndef MULTIHASH_NAMES_H
 #define MULTIHASH_NAMES_H
 

@@ -2,8 +2,7 @@
  * Copyright (c) 2026 The Gilmekhus developers */
 
 /* Multihashes as values of C++17, over multihash.h: they are compared as multihashes are, and are keys of std::map and
- * std::unordered_map. Errors are exceptions with the messages of multihash_message.h. This header is tested, not
- * proved. */
+ * std::unordered_map. Errors are exceptions with the messages of multihash_message.h. */
 #ifndef MULTIHASH_HPP
 #define MULTIHASH_HPP
 

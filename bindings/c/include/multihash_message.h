@@ -2,7 +2,7 @@
  * Copyright (c) 2026 The Gilmekhus developers */
 
 /* Messages for the errors of multihash.h, with the numbers that the text of a status lacks: "the input ends inside the
- * digest (3 of 32 bytes)". These functions are defined in the header, over snprintf; they are tested.
+ * digest (3 of 32 bytes)". These functions are defined in the header, over snprintf.
  *
  * Call one after a function of multihash.h has failed. Each but multihash_print_message writes the message to `text` as
  * snprintf does: at most `text_size` bytes, of which the last is zero. If `text_size` is 0, `text` may be null. It
