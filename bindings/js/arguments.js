@@ -41,6 +41,7 @@ export function wrongType(name, expected, value) {
 
 const getter = (prototype, name) => Object.getOwnPropertyDescriptor(prototype, name).get;
 const typedArray = Object.getPrototypeOf(Uint8Array.prototype);
+const { slice } = typedArray;
 // The getters themselves, since a subclass may define others.
 const tagOf = getter(typedArray, Symbol.toStringTag);
 const lengthOf = getter(typedArray, 'length');
@@ -54,7 +55,7 @@ export const isBytes = (value) => tagOf.call(value) === 'Uint8Array';
 export function checkedLength(data, name) {
   // the buffer is not asked for: an engine has to make it first, which takes longer than to decode a short array
   if (tagOf.call(data) !== 'Uint8Array') throw wrongType(name, 'a Uint8Array', data);
-  return lengthOf.call(data) || emptyLength(data, name);
+  return data[0] === undefined ? emptyLength(data, name) : lengthOf.call(data); // which is faster once an element was read
 }
 
 /** 0. Throws a TypeError if an array has this length because its memory is gone. */
@@ -69,10 +70,10 @@ function emptyLength(data, name) {
 /** A plain Uint8Array over `length` bytes of another one, from an index on. */
 export const viewOf = (data, at, length) => new Uint8Array(bufferOf.call(data), offsetOf.call(data) + at, length);
 
-/** A copy of `length` bytes from an index on: a plain Uint8Array, whatever class the other one has. */
-export function copyOf(data, at, length) {
-  if (Object.getPrototypeOf(data) === Uint8Array.prototype) return data.slice(at, at + length);
-  return new Uint8Array(viewOf(data, at, length));
+/** A copy of the bytes from one index to another: a plain Uint8Array, whatever class the other one has. */
+export function copyOf(data, start, end) {
+  // `slice` makes an array of that class, and the buffer of a short array is not asked for, as above
+  return data.constructor === Uint8Array ? slice.call(data, start, end) : new Uint8Array(viewOf(data, start, end - start));
 }
 
 /** The options of a call, which are an object. */
@@ -83,13 +84,14 @@ export function checkedOptions(options) {
 
 /** A whole number of 64 bits, not negative: a safe integer or a bigint. Returns a number if that is exact. */
 export function checkedWide(number, name) {
-  if (typeof number === 'number') {
-    if (!Number.isSafeInteger(number) || number < 0)
-      throw new RangeError(`${name} must be a whole number from 0 to 2^53 - 1, or a bigint, got ${number}`);
-    return number + 0; // -0 is 0
-  }
-  if (typeof number !== 'bigint') throw wrongType(name, 'a number or a bigint', number);
-  if (BigInt.asUintN(64, number) !== number)
-    throw new RangeError(`${name} must be from 0 to 2^${name === 'code' ? 63 : 64} - 1, got ${shown(number)}`);
+  if (Number.isSafeInteger(number) && number >= 0) return number + 0; // -0 is 0
+  if (typeof number !== 'bigint' || BigInt.asUintN(64, number) !== number) throw wrongNumber(name, number);
   return number > Number.MAX_SAFE_INTEGER ? number : Number(number);
+}
+
+function wrongNumber(name, number) {
+  if (typeof number === 'number')
+    return new RangeError(`${name} must be a whole number from 0 to 2^53 - 1, or a bigint, got ${number}`);
+  if (typeof number !== 'bigint') return wrongType(name, 'a number or a bigint', number);
+  return new RangeError(`${name} must be from 0 to 2^${name === 'code' ? 63 : 64} - 1, got ${shown(number)}`);
 }

@@ -8,7 +8,7 @@ import { MAKING, Multihash } from './multihash.js';
 // ---- decoding
 
 /** The multihash that was found in the bytes, which has a copy of its digest. */
-export const multihashOf = (bytes, { code, start, size }) => new Multihash(MAKING, code, copyOf(bytes, start, size));
+export const multihashOf = (bytes, { code, size, next }) => new Multihash(MAKING, code, copyOf(bytes, next - size, next));
 
 /** The error that was found in the bytes from an index on. A number that does not belong to its status is 0. */
 export function errorOf({ status, size, code, next }, bytes, at, end, limit) {
@@ -19,7 +19,7 @@ export function errorOf({ status, size, code, next }, bytes, at, end, limit) {
 /** Decodes the multihash whose encoding is the whole of the bytes. */
 export function decode(bytes) {
   const length = checkedLength(bytes, 'bytes');
-  const found = format.wholeMultihash(bytes, length);
+  const found = format.decodeMultihash(bytes, length);
   if (found.status !== 'ok') throw errorOf(found, bytes, 0, length, DIGEST_MAX);
   return multihashOf(bytes, found);
 }
@@ -28,10 +28,10 @@ export function decode(bytes) {
 export const checkedLimit = (limit) => Math.min(Number(checkedWide(limit, 'limit')), DIGEST_MAX);
 
 /** Decodes the multihash whose encoding is a prefix of the bytes, with a digest of at most `limit` bytes. */
-export function read(bytes, limit = DIGEST_MAX) {
-  const most = checkedLimit(limit);
+export function read(bytes, limit) {
+  const most = limit === undefined ? DIGEST_MAX : checkedLimit(limit);
   const length = checkedLength(bytes, 'bytes');
-  const found = format.multihashAt(bytes, 0, length, most);
+  const found = format.readMultihash(bytes, 0, length, most);
   if (found.status !== 'ok') throw errorOf(found, bytes, 0, length, most);
   return { multihash: multihashOf(bytes, found), taken: found.next };
 }
@@ -39,7 +39,7 @@ export function read(bytes, limit = DIGEST_MAX) {
 /** Decodes the two varints before a digest. */
 export function head(bytes) {
   const length = checkedLength(bytes, 'bytes');
-  const found = format.headAt(bytes, 0, length);
+  const found = format.readHead(bytes, 0, length);
   if (found.status !== 'ok') throw errorOf(found, bytes, 0, length, DIGEST_MAX);
   return { code: found.code, digestLength: found.size, taken: found.next };
 }
@@ -47,7 +47,7 @@ export function head(bytes) {
 /** Decodes the varint at the start of the bytes. */
 export function readVarint(bytes) {
   const length = checkedLength(bytes, 'bytes');
-  const { status, value, next } = format.varintAt(bytes, 0, length);
+  const { status, value, next } = format.readVarint(bytes, 0, length);
   if (status !== 'ok') throw new MultihashError(varintReasonOf(status, length), { status });
   return { value, taken: next };
 }
@@ -55,7 +55,7 @@ export function readVarint(bytes) {
 /** Decodes the multihash whose SCALE encoding is a prefix of the bytes. */
 export function scaleDecode(bytes) {
   const length = checkedLength(bytes, 'bytes');
-  const found = format.scaleMultihash(bytes, length);
+  const found = format.readScale(bytes, length);
   const { status, code, next } = found;
   if (status === 'ok') return { multihash: multihashOf(bytes, found), taken: next };
   throw new MultihashError(scaleReasonOf(found, bytes, length), { status, code: code || undefined, taken: next });
@@ -65,22 +65,25 @@ export function scaleDecode(bytes) {
 
 /** Throws why a code and a digest of that length have no encoding. */
 export function checkPair(code, length) {
-  const status = format.statusOf(code, length);
+  const status = format.encodingStatus(code, length);
   if (status !== 'ok') throw encodingError(status, length, code, DIGEST_MAX);
 }
 
-function encodedBy(encoder, code, digest) {
+/** Returns the encoding of a code and a digest. */
+export function encode(code, digest) {
   const number = checkedWide(code, 'code');
   const length = checkedLength(digest, 'digest');
   checkPair(number, length);
-  return encoder(number, digest, length);
+  return format.encodeMultihash(number, digest, length);
 }
 
-/** Returns the encoding of a code and a digest. */
-export const encode = (code, digest) => encodedBy(format.encoded, code, digest);
-
 /** Returns the SCALE encoding of a code and a digest. */
-export const scaleEncode = (code, digest) => encodedBy(format.scaleEncoded, code, digest);
+export function scaleEncode(code, digest) {
+  const number = checkedWide(code, 'code');
+  const length = checkedLength(digest, 'digest');
+  checkPair(number, length);
+  return format.encodeScale(number, digest, length);
+}
 
 /** Returns the length of the encoding of a code and a digest of that length. */
 export function encodedLength(code, digestLength) {
@@ -101,7 +104,7 @@ function checkedValue(value) {
 export function encodeVarint(value) {
   const number = checkedValue(value);
   const bytes = new Uint8Array(format.varintLength(number));
-  format.putVarint(number, bytes, 0);
+  format.writeVarint(number, bytes, 0);
   return bytes;
 }
 
@@ -112,6 +115,6 @@ export function writeVarint(value, bytes, at = 0) {
   const length = format.varintLength(number);
   if (!Number.isInteger(at) || at < 0 || length > room - at)
     throw new RangeError(`at must be an index from which bytes has room for ${length} bytes, got ${shown(at)} of ${room}`);
-  format.putVarint(number, bytes, at);
+  format.writeVarint(number, bytes, at);
   return length;
 }

@@ -1,5 +1,5 @@
 // MultihashError, the error of invalid input, and its texts.
-import { headAt, varintAt } from './format.js';
+import { readHead, readVarint } from './format.js';
 import { INCOMPLETE, STATUSES } from './statuses.js';
 
 const ALL = [...STATUSES.slice(1), 'not_hexadecimal'];
@@ -48,12 +48,12 @@ const malformed = (name, status) =>
 
 /** Why the bytes from an index on are no multihash with a digest of at most `limit` bytes. */
 export function reasonOf(status, bytes, at, end, limit) {
-  const { size, next } = headAt(bytes, at, end);
+  const { size, next } = readHead(bytes, at, end);
   const rest = end - next;
   if (status === 'unexpected_eof') return truncated('digest', rest, size);
   if (status === 'invalid_size' && size > limit) return tooLong(size, limit);
   if (status === 'invalid_size') return `${counted(rest - size)} follow${rest - size === 1 ? 's' : ''} the multihash`;
-  const code = varintAt(bytes, at, end);
+  const code = readVarint(bytes, at, end);
   const name = code.status === 'ok' ? "digest's length" : 'code';
   if (status !== 'insufficient') return malformed(`varint of the ${name}`, status);
   if (at === end) return 'the input is empty';

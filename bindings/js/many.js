@@ -1,7 +1,7 @@
 // Many multihashes at once.
 import { checkedLength, viewOf } from './arguments.js';
 import { errorOf } from './core.js';
-import { multihashAt } from './format.js';
+import { readMultihash } from './format.js';
 import { DIGEST_MAX } from './limits.js';
 
 // The capacity of the columns is the number of encodings of this length in the input, but at first at most MOST.
@@ -24,14 +24,14 @@ export function readMany(bytes) {
   let [taken, count] = [0, 0];
   let error;
   while (taken < length) {
-    const found = multihashAt(view, taken, length, DIGEST_MAX);
+    const found = readMultihash(view, taken, length, DIGEST_MAX);
     if (found.status !== 'ok') {
       error = errorOf(found, view, taken, length, DIGEST_MAX);
       break;
     }
     if (count === lengths.length) ({ codes, offsets, lengths } = columnsOf(2 * count, { codes, offsets, lengths }));
     codes[count] = BigInt(found.code);
-    offsets[count] = found.start;
+    offsets[count] = found.next - found.size;
     lengths[count] = found.size;
     taken = found.next;
     count++;

@@ -2,7 +2,7 @@
 import { checkedLength, checkedWide, copyOf, isBytes, shown, wrongType } from './arguments.js';
 import { checkPair, decode, encode } from './core.js';
 import { forJSON } from './errors.js';
-import { order, orderOfBytes } from './format.js';
+import { compareBytes, compareMultihashes } from './format.js';
 import { hex, unhex } from './hex.js';
 
 /** What only this package has, to make a multihash that was checked. */
@@ -26,7 +26,8 @@ export class Multihash {
     const length = checkedLength(digest, 'digest');
     const number = checkedWide(code, 'code');
     checkPair(number, length);
-    return new Multihash(MAKING, number, copyOf(digest, 0, length));
+    const copy = new Uint8Array(digest);
+    return new Multihash(MAKING, number, copy.length === length ? copy : copy.slice(0, length)); // shared memory may grow
   }
 
   /** Decodes a multihash from hexadecimal. */
@@ -71,13 +72,10 @@ export class Multihash {
 
   /** Whether the other value has the same code and the same digest. */
   equals(other) {
-    if (other instanceof Multihash) return orderOf(this, other) === 0;
-    const [left, right, code] = [this.digest, other?.digest, other?.code];
-    if (!isBytes(right)) return false;
-    // a number and a bigint of the same value are the same code
-    if ((typeof code !== 'number' && typeof code !== 'bigint') || code != this.code) return false;
-    const length = checkedLength(left, 'the digest');
-    return checkedLength(right, 'the other digest') === length && orderOfBytes(left, right, length) === 0;
+    if (!(other instanceof Multihash)) return isLike(this, other);
+    const left = digestOf(this, 'left');
+    const right = digestOf(other, 'right');
+    return this.code === other.code && left.length === right.length && compareBytes(left, right, left.length) === 0;
   }
 
   /** This multihash, whose code is a number: a RangeError if it is a bigint. */
@@ -87,6 +85,15 @@ export class Multihash {
   }
 }
 
+/** Whether an object of another class, such as a digest of js-multiformats, has the same code and the same digest. */
+function isLike(multihash, other) {
+  const digest = digestOf(multihash, 'this multihash');
+  if (!isBytes(other?.digest) || !['number', 'bigint'].includes(typeof other.code)) return false;
+  // a number and a bigint of the same value are the same code
+  const length = checkedLength(other.digest, 'the other digest');
+  return other.code == multihash.code && length === digest.length && compareBytes(digest, other.digest, length) === 0;
+}
+
 /** The digest of a Multihash, whose memory was not moved elsewhere. */
 function digestOf({ digest, size }, name) {
   if (digest.length !== size) throw new TypeError(`the digest of ${name} is detached or was replaced`);
@@ -94,7 +101,7 @@ function digestOf({ digest, size }, name) {
 }
 
 const orderOf = (left, right) =>
-  order(left.code, digestOf(left, 'left'), left.size, right.code, digestOf(right, 'right'), right.size);
+  compareMultihashes(left.code, digestOf(left, 'left'), left.size, right.code, digestOf(right, 'right'), right.size);
 
 /** Compares by code, then by digest length, then by the first digest byte that differs: -1, 0 or 1. */
 export function compare(left, right) {

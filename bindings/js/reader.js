@@ -1,7 +1,7 @@
 // MultihashReader, which decodes the multihashes of a stream one after the other.
 import { checkedLength, checkedOptions } from './arguments.js';
 import { checkedLimit, errorOf, multihashOf } from './core.js';
-import { multihashAt } from './format.js';
+import { readMultihash } from './format.js';
 import { DIGEST_MAX } from './limits.js';
 import { sourceOf } from './sources.js';
 import { INCOMPLETE } from './statuses.js';
@@ -72,7 +72,7 @@ export class MultihashReader {
   #received(isLast = false) {
     if (this.#isShort && !isLast) return undefined;
     const end = this.#bytes.length;
-    const found = multihashAt(this.#bytes, this.#at, end, this.#limit);
+    const found = readMultihash(this.#bytes, this.#at, end, this.#limit);
     if (found.status !== 'ok') {
       this.#isShort = INCOMPLETE.includes(found.status);
       if (this.#isShort && !isLast) return undefined;

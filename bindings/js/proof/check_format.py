@@ -25,7 +25,7 @@ from wrong_edits import WRONG
 
 FORMAT = JS / "format.js"
 STATUSES = re.findall(r"^  '(\w+)',$", (JS / "statuses.js").read_text("utf-8"), re.M)
-LOOP, END = "for (let index = 0; index < length; index++)", "return 0;"  # of orderOfBytes
+LOOP, END = "for (let index = 0; index < length; index++)", "return 0;"  # of compareBytes
 INDEX = 2**52  # no array has as many bytes
 
 # Compares a result, and arguments that a function wrote to, with a case of its definition: conditions of a difference.
@@ -86,9 +86,8 @@ def head(result: Value, wanted: dict[str, Value], at: Any) -> list[Any]:
 
 
 def multihash(result: Value, wanted: dict[str, Value], at: Any) -> list[Any]:
-    start = at + known(wanted["digest_offset"]) if wanted["status"] == definitions.OK else known(0)
     size = known(wanted.get("digest_length", wanted.get("size", 0)))
-    numbers = {"code": known(wanted.get("code", 0)), "start": start, "size": size}
+    numbers = {"code": known(wanted.get("code", 0)), "size": size}
     return differs(result, {"status": wanted["status"], **numbers, "next": at + known(wanted["taken"])})
 
 
@@ -159,28 +158,28 @@ class Check:
         wrong: Compare = lambda result, case, _: multihash(result, case.result, known(0))
         self.run(name, lambda: [BYTES, LENGTH_JS], case, wrong, LENGTH_OK)
 
-    def varintAt(self) -> None:
+    def readVarint(self) -> None:
         malformed: Malformed = lambda status, end: Case({"status": status, "length": end})
         then = lambda x, end: Case({"status": definitions.OK, "value": x, "length": end})
-        self.reads("varintAt", definitions.varint("bytes", 0, LENGTH, malformed, then), varint)
+        self.reads("readVarint", definitions.varint("bytes", 0, LENGTH, malformed, then), varint)
 
-    def headAt(self) -> None:
-        self.reads("headAt", definitions.head(LENGTH), head)
+    def readHead(self) -> None:
+        self.reads("readHead", definitions.head(LENGTH), head)
 
-    def multihashAt(self) -> None:
-        self.reads("multihashAt", definitions.read_limit(LENGTH, LIMIT), multihash, LIMIT_JS)
+    def readMultihash(self) -> None:
+        self.reads("readMultihash", definitions.read_limit(LENGTH, LIMIT), multihash, LIMIT_JS)
 
-    def wholeMultihash(self) -> None:
-        self.decodes("wholeMultihash", definitions.from_bytes(LENGTH))
+    def decodeMultihash(self) -> None:
+        self.decodes("decodeMultihash", definitions.from_bytes(LENGTH))
 
-    def scaleMultihash(self) -> None:
-        self.decodes("scaleMultihash", definitions.scale_decode(LENGTH))
+    def readScale(self) -> None:
+        self.decodes("readScale", definitions.scale_decode(LENGTH))
 
-    def statusOf(self) -> None:
+    def encodingStatus(self) -> None:
         wrong: Compare = lambda result, case, _: [z3.BoolVal(result != STATUSES[case.result["status"]])]
         for (code, code_js, is_code), (size, size_js, is_size) in product(wide("code"), wide("digest_length")):
             case = definitions.fitting(code, size, Case({"status": definitions.OK}))
-            self.run("statusOf", lambda: [code_js, size_js], case, wrong, is_code, is_size)
+            self.run("encodingStatus", lambda: [code_js, size_js], case, wrong, is_code, is_size)
 
     def varintLength(self) -> None:
         wrong: Compare = lambda result, case, _: is_wrong(result, len(case.head))
@@ -188,7 +187,7 @@ class Check:
             case = definitions.varint_of(value, lambda bytes: Case(head=bytes))
             self.run("varintLength", lambda: [js], case, wrong, is_value, definitions.is_code(value))
 
-    def putVarint(self) -> None:
+    def writeVarint(self) -> None:
         def wrong(result: Value, case: Case, given: list[Value]) -> list[Any]:
             return is_wrong(result, AT_JS.vector + len(case.head)) + wrote(given[1], case.head)
 
@@ -197,7 +196,7 @@ class Check:
             fits = z3.Or([z3.And(z3.UGE(room, i), z3.ULT(value, 1 << 7 * i)) for i in range(1, 10)])
             case = definitions.varint_of(value, lambda bytes: Case(head=bytes))
             arguments = lambda: [js, Bytes("out", room_js, AT_JS, is_input=False), AT_JS]
-            self.run("putVarint", arguments, case, wrong, is_value, AT_OK, z3.ULE(room, 9), fits)
+            self.run("writeVarint", arguments, case, wrong, is_value, AT_OK, z3.ULE(room, 9), fits)
 
     def pairs(self, name: str, arguments: list[Value], cases: Callable[[Any], Case], compare: Compare) -> None:
         """A function of a code and a digest that have an encoding."""
@@ -209,35 +208,35 @@ class Check:
         wrong: Compare = lambda result, case, _: is_wrong(result, len(case.head) + known(case.digest))
         self.pairs("encodedLength", [SIZE_JS], binary, wrong)
 
-    def encoded(self) -> None:
-        self.pairs("encoded", [DIGEST, SIZE_JS], binary, lambda result, case, _: encoding(result, case))
+    def encodeMultihash(self) -> None:
+        self.pairs("encodeMultihash", [DIGEST, SIZE_JS], binary, lambda result, case, _: encoding(result, case))
 
-    def scaleEncoded(self) -> None:
-        self.pairs("scaleEncoded", [DIGEST, SIZE_JS], scale, lambda result, case, _: encoding(result, case))
+    def encodeScale(self) -> None:
+        self.pairs("encodeScale", [DIGEST, SIZE_JS], scale, lambda result, case, _: encoding(result, case))
 
-    def order(self) -> None:
-        """Of the bytes of two digests, orderOfBytes has the order, which the definition has a symbol for."""
+    def compareMultihashes(self) -> None:
+        """Of the bytes of two digests, compareBytes has the order, which the definition has a symbol for."""
         digests = z3.BitVec("the order of left_digest and right_digest", 32)
         sizes = [symbol(f"{side}_digest_length", INDEX) for side in ("left", "right")]
         left, right = (Bytes(f"{side}_digest", size) for side, (_, size, _) in zip(("left", "right"), sizes))
 
         def order_of_bytes(one: Value, other: Value, length: Value) -> Value:
             if one is not left or other is not right or length is not sizes[0][1]:
-                raise Refused("orderOfBytes of something else")
+                raise Refused("compareBytes of something else")
             sign = z3.If(digests < 0, known(0) - 1, z3.If(digests == 0, known(0), known(1)))
             return Number(z3.If(length.vector == 0, known(0), sign), -1, 1)
 
-        self.program.values["orderOfBytes"] = order_of_bytes
+        self.program.values["compareBytes"] = order_of_bytes
         wrong: Compare = lambda result, case, _: is_wrong(result, z3.BitVecVal(case.result[""], WIDTH))
         for (code, js, is_code), (other, other_js, is_other) in product(wide("left_code"), wide("right_code")):
             case = definitions.compare(code, sizes[0][0], other, sizes[1][0])
             arguments = lambda: [js, left, sizes[0][1], other_js, right, sizes[1][1]]
-            self.run("order", arguments, case, wrong, is_code, is_other, sizes[0][2], sizes[1][2])
+            self.run("compareMultihashes", arguments, case, wrong, is_code, is_other, sizes[0][2], sizes[1][2])
 
-    def orderOfBytes(self) -> None:
+    def compareBytes(self) -> None:
         """By induction over its loop: from any index, a turn returns the order of two bytes that differ, or goes on to
         the next index after two that are equal. The end returns 0."""
-        function = self.program.values["orderOfBytes"]
+        function = self.program.values["compareBytes"]
         loop, end = function["body"]["body"]
         text = self.program.text
         if (

@@ -453,7 +453,8 @@ class Run:
                 self.declare(each["id"], self.value(each["init"], scope), scope, node["kind"] == "const")
         elif kind == "ForStatement":
             inner = scope.new_child()
-            self.statement(node["init"], inner)
+            if node["init"]:
+                self.statement(node["init"], inner)
             while self.truth(self.value(node["test"], inner)):
                 self.statement(node["body"], inner.new_child())
                 self.value(node["update"], inner)
