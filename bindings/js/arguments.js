@@ -26,14 +26,15 @@ const OF_TEXTS = {
 };
 const OF_OTHERS = {
   __proto__: null, Array: 'Uint8Array.from(array) makes bytes', ArrayBuffer: 'new Uint8Array(buffer) makes bytes',
-  Blob: STREAM, File: STREAM, Multihash: 'its bytes are the encoding', Promise: 'await it',
+  Blob: STREAM, File: STREAM, Map: 'Object.fromEntries(map) makes one', Multihash: 'its bytes are the encoding', Promise: 'await it',
   Response: 'its body is a ReadableStream', Uint8Array: 'decode(bytes) and read(bytes) decode it',
   view: 'new Uint8Array(view.buffer, view.byteOffset, view.byteLength) makes bytes',
 };
 
 /** The error of an argument of another type. */
 export function wrongType(name, expected, value) {
-  const got = received(value);
+  const kind = received(value);
+  const got = kind === 'Uint8Array' && !isBytes(value) ? 'a Proxy of a Uint8Array, or what is named so' : kind;
   const isOtherView = ArrayBuffer.isView(value) && got !== 'Uint8Array';
   const hint = got === 'string' ? OF_TEXTS[name] : OF_OTHERS[isOtherView ? 'view' : got];
   return new TypeError(`${name} must be ${expected}, got ${got}${hint ? `: ${hint}` : ''}`);
@@ -76,9 +77,16 @@ export function copyOf(data, start, end) {
   return data.constructor === Uint8Array ? slice.call(data, start, end) : new Uint8Array(viewOf(data, start, end - start));
 }
 
-/** The options of a call, which are an object. */
-export function checkedOptions(options) {
-  if (typeof options !== 'object' || options === null) throw wrongType('options', 'an object', options);
+/** An object of names and values, which no list and no Map is. */
+export function checkedObject(value, name) {
+  if (typeof value !== 'object' || value === null || Symbol.iterator in value) throw wrongType(name, 'an object', value);
+  return value;
+}
+
+/** The options of a call: an object with these names only. */
+export function checkedOptions(options, names) {
+  const other = Object.keys(checkedObject(options, 'options')).find((key) => !names.includes(key));
+  if (other !== undefined) throw new TypeError(`options can have ${names.join(' and ')}, got ${shown(other)}`);
   return options;
 }
 

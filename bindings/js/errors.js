@@ -47,7 +47,7 @@ const malformed = (name, status) =>
   `the ${name} ${status === 'overflow' ? 'has more than nine bytes' : 'is not minimal: it ends in a zero byte'}`;
 
 /** Why the bytes from an index on are no multihash with a digest of at most `limit` bytes. */
-export function reasonOf(status, bytes, at, end, limit) {
+function reasonOf(status, bytes, at, end, limit) {
   const { size, next } = readHead(bytes, at, end);
   const rest = end - next;
   if (status === 'unexpected_eof') return truncated('digest', rest, size);
@@ -58,6 +58,12 @@ export function reasonOf(status, bytes, at, end, limit) {
   if (status !== 'insufficient') return malformed(`varint of the ${name}`, status);
   if (at === end) return 'the input is empty';
   return `the input ends ${code.status === 'ok' && code.next === end ? 'before' : 'inside'} the ${name}`;
+}
+
+/** The error that was found in the bytes from an index on. A number that does not belong to its status is 0. */
+export function errorOf({ status, size, code, next }, bytes, at, end, limit) {
+  const details = { status, size: size || undefined, code: code || undefined, taken: next - at };
+  return new MultihashError(reasonOf(status, bytes, at, end, limit), details);
 }
 
 /** Why the varint at the start of an input of that length is rejected. */

@@ -1,10 +1,11 @@
 // Hash functions of node:crypto or WebCrypto, which make and verify multihashes.
-import { bufferOf, checkedLength, checkedOptions, checkedWide, isBytes, received, shown, viewOf, wrongType } from './arguments.js';
+import {
+  bufferOf, checkedLength, checkedObject, checkedOptions, checkedWide, isBytes, received, shown, viewOf, wrongType,
+} from './arguments.js';
 import { CODES, NAMES } from './codes.js';
-import { decode } from './core.js';
 import { MultihashError } from './errors.js';
 import { DIGEST_MAX } from './limits.js';
-import { Multihash } from './multihash.js';
+import { Multihash, decode } from './multihash.js';
 import { sourceOf } from './sources.js';
 
 export { CODES, NAMES };
@@ -148,7 +149,7 @@ function byOwn(create, name) {
 
 /** What begins to hash with the function of a code: a caller's, by its name or code, or that of the platform. */
 function beginningFor(code, functions = {}) {
-  if (typeof functions !== 'object' || functions === null) throw wrongType('functions', 'an object', functions);
+  checkedObject(functions, 'functions');
   const key = [code, NAMES[code]].find((each) => Object.prototype.hasOwnProperty.call(functions, each));
   if (key === undefined) {
     if (!beginnings[NAMES[code]]) throw new UnsupportedHashError(code);
@@ -172,7 +173,7 @@ function codeOf(hash) {
  * lacks.
  */
 export const digest = (content, hash, options = {}) => reading(content, async (open) => {
-  const { truncate, functions } = checkedOptions(options);
+  const { truncate, functions } = checkedOptions(options, ['truncate', 'functions']);
   const code = codeOf(hash);
   const whole = await digestOf(beginningFor(code, functions), content, open);
   const { length } = whole;
@@ -208,7 +209,7 @@ function claimOf(multihash) {
  * lacks. The time for digests of equal lengths does not depend on their bytes.
  */
 export const verify = (multihash, content, options = {}) => reading(content, async (open) => {
-  const { functions } = checkedOptions(options);
+  const { functions } = checkedOptions(options, ['functions']);
   if (!isBytes(content)) open(); // if the arguments are swapped, it is the content that has the wrong type
   const { code, digest } = claimOf(multihash);
   const wanted = await digestOf(beginningFor(code, functions), content, open);

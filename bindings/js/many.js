@@ -1,6 +1,6 @@
 // Many multihashes at once.
 import { checkedLength, viewOf } from './arguments.js';
-import { errorOf } from './core.js';
+import { errorOf } from './errors.js';
 import { readMultihash } from './format.js';
 import { DIGEST_MAX } from './limits.js';
 

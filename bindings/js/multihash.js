@@ -1,9 +1,10 @@
-// The class Multihash, and how multihashes compare.
+// The class Multihash, what decodes one, and how multihashes compare.
 import { checkedLength, checkedWide, copyOf, isBytes, shown, wrongType } from './arguments.js';
-import { checkPair, decode, encode } from './core.js';
-import { forJSON } from './errors.js';
-import { compareBytes, compareMultihashes } from './format.js';
+import { checkPair, encode } from './encoding.js';
+import { errorOf, forJSON } from './errors.js';
+import { compareBytes, compareMultihashes, decodeMultihash } from './format.js';
 import { hex, unhex } from './hex.js';
+import { DIGEST_MAX } from './limits.js';
 
 /** What only this package has, to make a multihash that was checked. */
 export const MAKING = Symbol('making');
@@ -42,17 +43,21 @@ export class Multihash {
     const bytes = unhex(digest, 'digest');
     if (size !== undefined && size !== bytes.length)
       throw new RangeError(`size must be ${bytes.length}, the length of the digest, got ${shown(size)}`);
-    return Multihash.of(typeof code === 'string' && /^\d+$/.test(code) ? BigInt(code) : code, bytes);
+    const isText = typeof code === 'string' && /^\d+$/.test(code);
+    // 64 bits have at most 20 digits, and to convert many takes long
+    if (isText && code.length > 20) throw new RangeError(`code must be from 0 to 2^63 - 1, got ${shown(code)}`);
+    return Multihash.of(isText ? BigInt(code) : code, bytes);
   }
 
   /** The encoding, which is made once. */
   get bytes() {
+    if (!(#bytes in this)) return encode(this.code, this.digest); // a Proxy has no private fields
     return (this.#bytes ??= encode(this.code, this.digest));
   }
 
   /** The digest in hexadecimal. */
   get digestHex() {
-    return hex(this.digest);
+    return hex(digestOf(this, 'this multihash'));
   }
 
   /** The encoding in hexadecimal. */
@@ -67,7 +72,8 @@ export class Multihash {
 
   /** The same for console.log in Node.js. */
   [Symbol.for('nodejs.util.inspect.custom')]() {
-    return `Multihash(0x${this.code.toString(16)}, ${this.digestHex || 'empty'})`;
+    const digest = this.digest.length === this.size ? this.digestHex || 'empty' : 'detached';
+    return `Multihash(0x${this.code.toString(16)}, ${digest})`;
   }
 
   /** Whether the other value has the same code and the same digest. */
@@ -83,6 +89,17 @@ export class Multihash {
     if (typeof this.code !== 'number') throw new RangeError(`the code ${this.code} is 2^53 or more, so it is a bigint`);
     return this;
   }
+}
+
+/** The multihash that was found in the bytes, which has a copy of its digest. */
+export const multihashOf = (bytes, { code, size, next }) => new Multihash(MAKING, code, copyOf(bytes, next - size, next));
+
+/** Decodes the multihash whose encoding is the whole of the bytes. */
+export function decode(bytes) {
+  const length = checkedLength(bytes, 'bytes');
+  const found = decodeMultihash(bytes, length);
+  if (found.status !== 'ok') throw errorOf(found, bytes, 0, length, DIGEST_MAX);
+  return multihashOf(bytes, found);
 }
 
 /** Whether an object of another class, such as a digest of js-multiformats, has the same code and the same digest. */

@@ -1,8 +1,10 @@
 // MultihashReader, which decodes the multihashes of a stream one after the other.
 import { checkedLength, checkedOptions } from './arguments.js';
-import { checkedLimit, errorOf, multihashOf } from './core.js';
+import { checkedLimit } from './core.js';
+import { errorOf } from './errors.js';
 import { readMultihash } from './format.js';
 import { DIGEST_MAX } from './limits.js';
+import { multihashOf } from './multihash.js';
 import { sourceOf } from './sources.js';
 import { INCOMPLETE } from './statuses.js';
 
@@ -22,7 +24,7 @@ export class MultihashReader {
 
   /** `limit` is the maximum length of a digest; `rest` holds bytes that precede those of the source. */
   constructor(source, options = {}) {
-    const { limit = DIGEST_MAX, rest = new Uint8Array() } = checkedOptions(options);
+    const { limit = DIGEST_MAX, rest = new Uint8Array() } = checkedOptions(options, ['limit', 'rest']);
     this.#limit = checkedLimit(limit);
     this.#bytes = joined(new Uint8Array(), 0, rest, 'rest');
     this.#source = sourceOf(source, 'source');

@@ -15,7 +15,7 @@ const noBytes = ({ Multihash }) => [
   [Multihash.of(1, new Uint8Array()), 'Multihash bytes'], [new ArrayBuffer(4), 'ArrayBuffer new Uint8Array buffer'],
   [new DataView(new ArrayBuffer(4)), 'DataView view.byteLength'], [new Uint16Array(2), 'Uint16Array view.byteLength'],
   [new Int8Array(2), 'Int8Array'], [new Uint8ClampedArray(2), 'Uint8ClampedArray'],
-  [new Proxy(new Uint8Array(2), {}), ''], [Object.create(Uint8Array.prototype), ''],
+  [new Proxy(new Uint8Array(2), {}), 'Proxy'], [Object.create(Uint8Array.prototype), ''],
   [{ __proto__: new Uint8Array(2) }, ''],
 ];
 
@@ -35,6 +35,8 @@ export function bytesAlone(module) {
       fails(TypeError, () => call(wrong), `${name} ${kindOf(wrong)}`, `${name} Uint8Array ${hint}`);
     }
   }
+  for (const options of [[], new Map(), { limit: 1, rests: EXAMPLE }])
+    fails(TypeError, () => new MultihashReader(nothing, options), kindOf(options), 'options');
   for (const [value, text] of [['path', 'string createReadStream'], [EXAMPLE, 'Uint8Array read bytes']])
     fails(TypeError, () => new MultihashReader(value), text, `source ReadableStream ${text}`);
 }
@@ -112,8 +114,10 @@ export function comparison({ Multihash, compare, decode }) {
   structuredClone(multihash.digest.buffer, { transfer: [multihash.digest.buffer] });
   const [whole, empty] = [decode(EXAMPLE), { code: 22, digest: new Uint8Array() }];
   const calls = [[() => compare(multihash, whole), 'left'], [() => compare(whole, multihash), 'right'],
-    [() => multihash.equals(whole), 'left'], [() => multihash.equals(empty), 'detached']];
+    [() => multihash.equals(whole), 'left'], [() => multihash.equals(empty), 'detached'],
+    [() => multihash.digestHex, 'detached'], [() => JSON.stringify(multihash), 'detached']];
   for (const [call, word] of calls) fails(TypeError, call, 'a digest elsewhere', `digest ${word}`);
+  same(multihash[INSPECT](), 'Multihash(0x16, detached)', 'console.log of a digest elsewhere');
 }
 
 /** The fields of a multihash, and its texts. */
@@ -125,6 +129,8 @@ export function multihashes(module) {
   same(`${multihash} ${new Map([[`${multihash}`, 1]]).get(hex(EXAMPLE))}`, `${hex(EXAMPLE)} 1`, 'as text');
   for (const text of [`${multihash}`, `${multihash}`.toUpperCase()])
     same(Multihash.fromHex(text).equals(multihash), true, 'from text');
+  const proxy = new Proxy(module.decode(EXAMPLE), {});
+  same(`${proxy} ${hex(proxy.bytes)} ${proxy.equals(multihash)}`, `${hex(EXAMPLE)} ${hex(EXAMPLE)} true`, 'a Proxy');
   const noDigits = [['162', '3'], ['1g01', 'g 1'], ['0x16', 'x 1'], ['\n160', '\\n 0'], ['1\u{1f600}', '\u{1f600} 1']];
   for (const [text, words] of noDigits) {
     const error = fails(MultihashError, () => Multihash.fromHex(text), text, words);
@@ -165,6 +171,7 @@ export function wrongJSON({ Multihash, MultihashError }) {
     [TypeError, { ...json, code: undefined }, 'code number undefined'], [TypeError, { ...json, code: '' }, 'code string'],
     [TypeError, { ...json, code: '0x12' }, 'code string CODES'], [RangeError, { ...json, code: -1 }, 'code 2^53 -1'],
     [RangeError, { ...json, code: '9'.repeat(99) }, `code 2^63 ${'9'.repeat(40)}...`], [TypeError, {}, 'digest string undefined'],
+    [RangeError, { ...json, code: '18'.padStart(21, '0') }, `code 2^63 ${'18'.padStart(21, '0')}`],
     [TypeError, { ...json, digest: new Uint8Array(2) }, 'digest string Uint8Array'],
     [MultihashError, { ...json, digest: '00a' }, 'digest odd 3'], [MultihashError, { ...json, digest: '0x00' }, 'digest x 1'],
     [RangeError, { ...json, size: 3 }, 'size 2 3'], [RangeError, { ...json, size: '2' }, 'size 2 2'],

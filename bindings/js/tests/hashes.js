@@ -147,6 +147,7 @@ export async function ownFunctions({ Multihash, UnsupportedHashError, digest, ha
 export async function ownArguments({ Multihash, digest, verify }) {
   const claim = Multihash.of(0x1e, ABC);
   const wrong = [
+    [new Map([[30, summing]]), 'TypeError functions object Map Object.fromEntries'], [[summing], 'TypeError functions Array'],
     [null, 'TypeError functions object null'], [summing, 'TypeError functions object function'],
     [{ blake3: ABC }, 'TypeError functions[blake3] function Uint8Array'],
     [{ 30: null }, 'TypeError functions[30] function null'],
@@ -165,7 +166,10 @@ export async function ownArguments({ Multihash, digest, verify }) {
     says(await told(digest(source(), 'blake3', { functions })), words, 'a stream');
     if (!/string/.test(words)) same(isCancelled, true, 'the source is cancelled');
   }
-  for (const options of [null, 20]) says(await told(verify(claim, ABC, options)), 'TypeError options object', 'options');
+  for (const options of [null, 20, [], new Map()])
+    says(await told(verify(claim, ABC, options)), 'TypeError options object', 'options');
+  says(await told(verify(claim, ABC, { truncate: 20 })), 'TypeError options functions truncate', 'an option of digest');
+  says(await told(digest(ABC, 18, { length: 20 })), 'TypeError options truncate functions length', 'another option');
   const names = [['sha3', 'RangeError hash CODES sha3'], ['toString', 'RangeError hash CODES toString'],
     [undefined, 'TypeError hash number undefined'], [-1, 'RangeError hash -1'], [{}, 'TypeError hash Object']];
   for (const [hash, words] of names) says(await told(digest(ABC, hash)), words, 'a name');

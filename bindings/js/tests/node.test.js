@@ -43,16 +43,13 @@ async function webCrypto(text) {
   same(`${await theirs}`, `${await ours}`, 'more than Node.js hashes at once');
 }
 
-/** What `decode` imports, and so what a bundle with it alone holds. */
+/** No module imports itself by way of others: bundlers warn of that. */
 function imports() {
-  const found = new Set();
-  const add = (file) => {
-    if (found.has(file)) return;
-    found.add(file);
-    for (const [, other] of bytesOf(file).toString().matchAll(/ from '\.\/(.*)';/g)) add(other);
+  const follow = (file, path) => {
+    same(path.indexOf(file), -1, `${path} imports`);
+    for (const [, other] of bytesOf(file).toString().matchAll(/ from '\.\/(.*)';/g)) follow(other, [...path, file]);
   };
-  add('core.js');
-  same(`${[...found].sort()}`, 'arguments.js,core.js,errors.js,format.js,hex.js,limits.js,multihash.js,statuses.js', 'imports');
+  follow('index.js', []);
 }
 
 /** Large content leaves time for other work, and identity does not copy or compare it. */
