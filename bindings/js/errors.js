@@ -72,6 +72,12 @@ export function varintReasonOf(status, length) {
   return length === 0 ? 'the input is empty' : 'the input ends inside the varint';
 }
 
+/** Why the bytes before `end` have no frame of at most `limit` bytes. */
+export function frameReasonOf({ status, size, next }, end, limit) {
+  if (status === 'invalid_size') return `the frame has ${counted(size)}, and the limit is ${limit}`;
+  return status === 'unexpected_eof' ? truncated('frame', end - next, size) : varintReasonOf(status, end);
+}
+
 /** Why an input of that length is rejected as SCALE. */
 export function scaleReasonOf({ status, code }, input, length) {
   if (status === 'invalid_code') return tooLarge(code);

@@ -70,6 +70,25 @@ export function digest(
 export function digest(
   content: Content, hash: string | Wide, options?: { truncate?: number; functions?: Functions },
 ): Promise<Multihash>;
+/** Makes the multihash of content that arrives in parts. */
+export class Hasher {
+  /**
+   * `hash` is a name in `CODES` or a code. Throws a `RangeError` for another name, and an `UnsupportedHashError` if neither
+   * `functions` nor the platform has the function.
+   */
+  constructor(hash: string | Wide, options?: { functions?: Functions });
+  /**
+   * Appends bytes, and returns this hasher. Throws a `TypeError` after `multihash` was called. WebCrypto, of browsers,
+   * hashes no parts: there all bytes are kept in memory.
+   */
+  update(bytes: Uint8Array): this;
+  /**
+   * Returns the multihash of all bytes. Every call returns the same promise. Rejects with a `MultihashError` if `identity`
+   * got more than 255 bytes.
+   */
+  multihash(): Promise<Multihash>;
+}
+
 /**
  * Returns whether the multihash, or its encoding, is the multihash of the content: false for a truncated digest.
  * Throws an `UnsupportedHashError` if neither `functions` nor the platform has the function. The time for digests of

@@ -168,14 +168,8 @@ function codeOf(hash) {
   return CODES[hash];
 }
 
-/**
- * Returns the multihash of the content by the function of a name or a code. `functions` has functions that the platform
- * lacks.
- */
-export const digest = (content, hash, options = {}) => reading(content, async (open) => {
-  const { truncate, functions } = checkedOptions(options, ['truncate', 'functions']);
-  const code = codeOf(hash);
-  const whole = await digestOf(beginningFor(code, functions), content, open);
+/** The multihash of a digest, of which the first `truncate` bytes are kept. */
+function multihashOf(code, whole, truncate) {
   const { length } = whole;
   if (!isBytes(whole))
     throw new MultihashError(`identity takes at most ${DIGEST_MAX} bytes of content, got ${length}`,
@@ -185,7 +179,44 @@ export const digest = (content, hash, options = {}) => reading(content, async (o
   if (!Number.isInteger(size) || size < 0 || size > length)
     throw new RangeError(`truncate must be a whole number from 0 to ${length}, got ${shown(size)}`);
   return Multihash.of(code, whole.subarray(0, size));
+}
+
+/**
+ * Returns the multihash of the content by the function of a name or a code. `functions` has functions that the platform
+ * lacks.
+ */
+export const digest = (content, hash, options = {}) => reading(content, async (open) => {
+  const { truncate, functions } = checkedOptions(options, ['truncate', 'functions']);
+  const code = codeOf(hash);
+  return multihashOf(code, await digestOf(beginningFor(code, functions), content, open), truncate);
 });
+
+/** Makes the multihash of bytes that are passed in parts. */
+export class Hasher {
+  #code;
+  #hash;
+  #multihash; // once it was asked for
+
+  /** The function is that of a name or a code. `functions` has functions that the platform lacks. */
+  constructor(hash, options = {}) {
+    const { functions } = checkedOptions(options, ['functions']);
+    this.#code = codeOf(hash);
+    this.#hash = beginningFor(this.#code, functions)();
+  }
+
+  /** Appends bytes, and returns this hasher. */
+  update(bytes) {
+    const length = checkedLength(bytes, 'bytes');
+    if (this.#multihash) throw new TypeError('multihash() was called, so this hasher takes no more bytes');
+    this.#hash.update(node ? viewOf(bytes, 0, length) : new Uint8Array(bytes)); // WebCrypto hashes at the end
+    return this;
+  }
+
+  /** Returns the multihash of all bytes. */
+  multihash() {
+    return (this.#multihash ??= (async () => multihashOf(this.#code, await this.#hash.digest()))());
+  }
+}
 
 const hasher = (name) =>
   Object.freeze({ name, code: CODES[name], digest: (content, options) => digest(content, name, options) });

@@ -168,23 +168,21 @@ export interface ByteStream {
   cancel(reason?: unknown): Promise<void>;
 }
 
-/** Reads concatenated encodings from a `ReadableStream` or an async iterable. */
-export class MultihashReader implements AsyncIterable<Multihash> {
-  /** `limit` is the maximum length of a digest. `rest` has bytes that precede the source, left by another reader. */
-  constructor(source: ByteStream | AsyncIterable<Uint8Array>, options?: { limit?: Wide; rest?: Uint8Array });
-  /** A copy of the bytes received that belong to no multihash returned so far. */
+/** What both readers have: `Item` is a multihash, or a frame. */
+export interface ItemReader<Item> extends AsyncIterable<Item> {
+  /** A copy of the bytes received that belong to no item returned so far. */
   readonly rest: Uint8Array;
   /**
-   * The number of bytes of the multihashes returned so far, with those in the option `rest`: the position at which the
-   * next multihash starts, or after a `MultihashError` the invalid one.
+   * The number of bytes of the items returned so far, with those in the option `rest`: the position at which the next
+   * item starts, or after a `MultihashError` the invalid one.
    */
   readonly taken: number;
   /**
-   * Returns the next multihash, or null if the source has ended after the last one. After an error every call rejects
-   * with that error. After an error or null the source is released. An error of a Node.js `Readable` before the first
-   * call rejects that call.
+   * Returns the next item, or null if the source has ended after the last one. After an error every call rejects with
+   * that error. After an error or null the source is released. An error of a Node.js `Readable` before the first call
+   * rejects that call.
    */
-  read(): Promise<Multihash | null>;
+  read(): Promise<Item | null>;
   /**
    * Unlocks a `ReadableStream` for another reader; `rest` has the bytes received. From then on every `read`, including
    * a pending one, rejects with a `TypeError`, unless the reader had already ended. The source is not cancelled. With
@@ -199,7 +197,35 @@ export class MultihashReader implements AsyncIterable<Multihash> {
   /** Calls `cancel`, in engines that have `Symbol.asyncDispose`. */
   [Symbol.asyncDispose](): Promise<void>;
   /** Leaving the loop cancels the source. If that fails, its error is thrown only if the loop itself threw none. */
-  [Symbol.asyncIterator](): AsyncGenerator<Multihash, void, void>;
+  [Symbol.asyncIterator](): AsyncGenerator<Item, void, void>;
+}
+
+/** Reads concatenated encodings from a `ReadableStream` or an async iterable. */
+export class MultihashReader {
+  /**
+   * `limit` is the maximum length of a digest, by default 255. `rest` has bytes that precede the source, left by another
+   * reader.
+   */
+  constructor(source: ByteStream | AsyncIterable<Uint8Array>, options?: { limit?: Wide; rest?: Uint8Array });
+}
+export interface MultihashReader extends ItemReader<Multihash> {}
+
+/**
+ * Reads frames from a `ReadableStream` or an async iterable: each is a varint, and then as many bytes, such as a section
+ * of a CAR or a message of libp2p. The bytes of a frame are a copy. A stream ends between frames: otherwise the error is
+ * a `MultihashError` with `isIncomplete`. Its text, as that of each error, has the frame's number, from 0 on, and its
+ * offset. Memory grows with the bytes that arrive, not with the length that a frame claims.
+ */
+export class FrameReader {
+  /**
+   * `limit` is the maximum length of a frame in bytes, without its varint, by default 2^22: a longer one is an error with
+   * the status `invalid_size` before its bytes arrive. `rest` has bytes that precede the source, left by another reader.
+   */
+  constructor(source: ByteStream | AsyncIterable<Uint8Array>, options?: { limit?: Wide; rest?: Uint8Array });
+}
+export interface FrameReader extends ItemReader<Uint8Array> {
+  /** The number of frames returned so far: the number of the next one, or after a `MultihashError` of the invalid one. */
+  readonly count: number;
 }
 
 declare global {

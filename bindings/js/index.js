@@ -6,4 +6,4 @@ export * from './hashes.js';
 export * from './limits.js';
 export { readMany } from './many.js';
 export { Multihash, compare, decode } from './multihash.js';
-export { MultihashReader } from './reader.js';
+export { FrameReader, MultihashReader } from './readers.js';

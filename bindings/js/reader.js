@@ -1,52 +1,52 @@
-// MultihashReader, which decodes the multihashes of a stream one after the other.
-import { checkedLength, checkedOptions } from './arguments.js';
-import { checkedLimit } from './core.js';
-import { errorOf } from './errors.js';
-import { readMultihash } from './format.js';
-import { DIGEST_MAX } from './limits.js';
-import { multihashOf } from './multihash.js';
+// What reads the items of a stream one after the other, such as its multihashes or frames.
+import { checkedLength } from './arguments.js';
 import { sourceOf } from './sources.js';
 import { INCOMPLETE } from './statuses.js';
 
-/** Reads concatenated encodings from a `ReadableStream` or an async iterable of `Uint8Array`. */
-export class MultihashReader {
+/** Reads items from a `ReadableStream` or an async iterable of `Uint8Array`. */
+export class ItemReader {
   #source;
-  #limit;
-  #bytes; // what was received
-  #at = 0; // the index in it after the last multihash that was returned
-  #isShort = false; // whether the bytes end inside the next multihash
+  #find;
+  #make;
+  #bytes = new Uint8Array(); // what was received, and room for more
+  #at = 0; // the index in it after the last item that was returned
+  #end = 0; // the index after what was received
+  #isShort = false; // whether the bytes end inside the next item
   #taken = 0; // bytes of all that were returned
   #calls = 0; // pending calls
   #last = Promise.resolve();
   #isReleased = false; // by its user
   #stop; // ends the call that waits
-  #end; // what each call does once the reader has ended: it returns null, or throws an error
+  #over; // what each call does once the reader has ended: it returns null, or throws an error
 
-  /** `limit` is the maximum length of a digest; `rest` holds bytes that precede those of the source. */
-  constructor(source, options = {}) {
-    const { limit = DIGEST_MAX, rest = new Uint8Array() } = checkedOptions(options, ['limit', 'rest']);
-    this.#limit = checkedLimit(limit);
-    this.#bytes = joined(new Uint8Array(), 0, rest, 'rest');
+  /**
+   * `rest` holds bytes that precede those of the source. `find(bytes, at, end)` returns the status of the item that starts
+   * at an index, and the index `next` after it; `make(found, bytes, at, end)` returns the item, or throws why there is none.
+   */
+  constructor(source, rest, find, make) {
+    this.#find = find;
+    this.#make = make;
+    this.#append(rest, 'rest');
     this.#source = sourceOf(source, 'source');
   }
 
-  /** A copy of the bytes received that belong to no multihash returned so far. */
+  /** A copy of the bytes received that belong to no item returned so far. */
   get rest() {
-    return this.#bytes.slice(this.#at);
+    return this.#bytes.slice(this.#at, this.#end);
   }
 
-  /** The number of bytes of the multihashes returned so far. */
+  /** The number of bytes of the items returned so far. */
   get taken() {
     return this.#taken;
   }
 
   /**
-   * Returns the next multihash, or null after the last one. After an error each call rejects with that error. After an
+   * Returns the next item, or null after the last one. After an error each call rejects with that error. After an
    * error or null the source is released. Calls that overlap run one after the other.
    */
   read() {
-    const multihash = this.#ready();
-    if (multihash) return Promise.resolve(multihash);
+    const item = this.#ready();
+    if (item) return Promise.resolve(item);
     const next = this.#calls++ === 0 ? this.#next() : this.#last.then(() => this.#next());
     if (this.#calls > 0) this.#last = next.catch(() => {});
     return next;
@@ -54,7 +54,7 @@ export class MultihashReader {
 
   async #next() {
     try {
-      return this.#end ? this.#end() : (this.#received() ?? (await this.#awaited()) ?? this.#finish(() => null));
+      return this.#over ? this.#over() : (this.#received() ?? (await this.#awaited()) ?? this.#finish(() => null));
     } catch (error) {
       return this.#finish(() => {
         throw error;
@@ -65,56 +65,65 @@ export class MultihashReader {
   }
 
   #finish(end) {
-    this.#end ??= end;
+    this.#over ??= end;
     this.#source.release();
-    return this.#end();
+    return this.#over();
   }
 
-  /** The next multihash, if all of it was received. Throws if the rest of it does not follow. */
+  /** The next item, if all of it was received. Throws if the rest of it does not follow. */
   #received(isLast = false) {
     if (this.#isShort && !isLast) return undefined;
-    const end = this.#bytes.length;
-    const found = readMultihash(this.#bytes, this.#at, end, this.#limit);
-    if (found.status !== 'ok') {
-      this.#isShort = INCOMPLETE.includes(found.status);
-      if (this.#isShort && !isLast) return undefined;
-      throw errorOf(found, this.#bytes, this.#at, end, this.#limit);
-    }
+    const found = this.#find(this.#bytes, this.#at, this.#end);
+    this.#isShort = INCOMPLETE.includes(found.status);
+    if (this.#isShort && !isLast) return undefined;
+    const item = this.#make(found, this.#bytes, this.#at, this.#end);
     this.#taken += found.next - this.#at;
     this.#at = found.next;
-    return multihashOf(this.#bytes, found);
+    return item;
   }
 
-  /** The next multihash of the source, or null after the last one. */
+  /** The next item of the source, or null after the last one. */
   async #awaited() {
-    let multihash;
-    while (!multihash) {
+    let item;
+    while (!item) {
       const done = await new Promise((resolve, reject) => {
         this.#stop = resolve;
         this.#receive().then(resolve, reject);
       });
       // after a release or a cancellation meanwhile, `rest` has what was received
-      if (this.#end || (done && this.#at === this.#bytes.length)) return null;
-      multihash = this.#received(done);
+      if (this.#over || (done && this.#at === this.#end)) return null;
+      item = this.#received(done);
     }
-    return multihash;
+    return item;
   }
 
   /** Waits for a chunk of the source, and appends it to `rest`. Returns whether the source has ended instead. */
   async #receive() {
     const { done, value } = await this.#source.next();
-    if (!done) {
-      this.#bytes = joined(this.#bytes, this.#at, value, 'a chunk of the source');
-      this.#at = 0;
-      this.#isShort = false;
-    }
+    if (!done) this.#append(value, 'a chunk of the source');
     return done;
   }
 
-  /** What `read` would return, if that is a multihash and nothing needs to be awaited. */
+  /** Copies bytes to the end of `rest`. Throws a TypeError if they are no Uint8Array, or detached. */
+  #append(bytes, name) {
+    const length = checkedLength(bytes, name);
+    if (this.#end + length > this.#bytes.length) {
+      const rest = this.#bytes.subarray(this.#at, this.#end);
+      // at least doubled, so that the time of a long item in short chunks is linear
+      this.#bytes = new Uint8Array(rest.length + Math.max(rest.length, length));
+      this.#bytes.set(rest);
+      this.#end = rest.length;
+      this.#at = 0;
+    }
+    this.#bytes.set(bytes, this.#end);
+    this.#end += length;
+    this.#isShort = false;
+  }
+
+  /** What `read` would return, if that is an item and nothing needs to be awaited. */
   #ready() {
     try {
-      return this.#calls === 0 && !this.#end ? this.#received() : undefined;
+      return this.#calls === 0 && !this.#over ? this.#received() : undefined;
     } catch {
       return undefined;
     }
@@ -125,7 +134,7 @@ export class MultihashReader {
    * source is not cancelled.
    */
   release() {
-    this.#end ??= () => {
+    this.#over ??= () => {
       throw new TypeError('release() was called, so this reader reads no more');
     };
     this.#isReleased = true;
@@ -134,19 +143,19 @@ export class MultihashReader {
 
   /** Cancels the source, if it was not released. From then on `read` returns null, even if it is pending. */
   async cancel(reason) {
-    this.#end ??= () => null;
+    this.#over ??= () => null;
     if (this.#isReleased) return;
     this.#stop?.();
     await this.#source.close(reason);
   }
 
-  /** Returns each multihash; where the loop is left, the source is cancelled. */
+  /** Returns each item; where the loop is left, the source is cancelled. */
   [Symbol.asyncIterator]() {
     return new Loop(this, () => this.#ready());
   }
 }
 
-/** Iterates as an async generator does, which takes twice as long for a multihash that was received before. */
+/** Iterates as an async generator does, which takes twice as long for an item that was received before. */
 class Loop {
   #reader;
   #ready;
@@ -191,17 +200,6 @@ class Loop {
 }
 
 if (Symbol.asyncDispose) {
-  MultihashReader.prototype[Symbol.asyncDispose] = MultihashReader.prototype.cancel;
+  ItemReader.prototype[Symbol.asyncDispose] = ItemReader.prototype.cancel;
   Loop.prototype[Symbol.asyncDispose] = Loop.prototype.return;
-}
-
-/**
- * A copy of the first from an index on, and the second. Throws a TypeError if that is no Uint8Array, or is detached.
- */
-function joined(left, at, right, name) {
-  const rest = at === 0 ? left : left.subarray(at);
-  const both = new Uint8Array(rest.length + checkedLength(right, name));
-  both.set(rest);
-  both.set(right, rest.length);
-  return both;
 }

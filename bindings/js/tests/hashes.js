@@ -188,6 +188,31 @@ async function* chunks(content) {
   return memory;
 }
 
+/** A hasher makes the multihash of all bytes, which it got in parts, once. */
+export async function hashersOfParts({ Hasher, Multihash, hashers, sha256 }) {
+  const content = new Uint8Array(2500).map((_, index) => index);
+  for (const name of ALWAYS.slice(1)) {
+    const wanted = await hashers[name].digest(content);
+    for (const hash of [name, wanted.code, BigInt(wanted.code)]) {
+      const hasher = new Hasher(hash);
+      for await (const chunk of chunks(content)) same(hasher.update(chunk), hasher, 'update');
+      same((await hasher.multihash()).equals(wanted), true, name);
+      same(hasher.multihash(), hasher.multihash(), 'again');
+      says(await told((async () => hasher.update(ABC))()), 'TypeError multihash hasher', 'after the end');
+    }
+  }
+  same(`${await new Hasher('sha2-256').multihash()}`, `${await sha256.digest(new Uint8Array())}`, 'of no bytes');
+  same(`${await new Hasher('identity').update(ABC).update(ABC).multihash()}`, '0006616263616263', 'identity');
+  const functions = { blake3: summing };
+  same(`${await new Hasher(0x1e, { functions }).update(ABC).multihash()}`, `${Multihash.of(0x1e, Uint8Array.of(38, 1, 0, 0))}`, 'own');
+  const wrong = [[() => new Hasher('blake3'), 'UnsupportedHashError 0x1e'], [() => new Hasher('sha3'), 'RangeError hash CODES'],
+    [() => new Hasher('sha1', { truncate: 2 }), 'TypeError options functions truncate'],
+    [() => new Hasher('sha1').update('abc'), 'TypeError bytes string']];
+  for (const [call, words] of wrong) says(await told((async () => call())()), words, 'an argument');
+  const long = new Hasher('identity').update(new Uint8Array(200)).update(new Uint8Array(56));
+  says(await told(long.multihash()), 'MultihashError identity 255 256', 'too long for identity');
+}
+
 /** Content of streams is hashed as that of bytes. After an error the source is cancelled. */
 export async function hashStreams({ hashers, identity, sha256, verify }) {
   const content = new Uint8Array(2500).map((_, index) => index);

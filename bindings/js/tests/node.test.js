@@ -10,7 +10,7 @@ import { fileURLToPath } from 'node:url';
 import { SourceTextModule, createContext } from 'node:vm';
 import * as index from '../index.js';
 import { hex, same, says, told } from './check.js';
-import { hashStreams, hashes } from './hashes.js';
+import { hashStreams, hashersOfParts, hashes } from './hashes.js';
 import { endedAnywhere } from './stream.js';
 import { tests } from './suite.js';
 
@@ -38,7 +38,7 @@ async function webCrypto(text) {
   const theirNames = getHashes().map(short);
   for (const name of Object.keys(entry.CODES).filter((each) => theirNames.includes(short(each))))
     same(index.hashers[name]?.name, name, 'of node:crypto');
-  for (const check of [hashes, hashStreams]) await check(entry, '', text);
+  for (const check of [hashes, hashStreams, hashersOfParts]) await check(entry, '', text);
   const [ours, theirs] = [index, entry].map(({ sha256 }) => sha256.digest(new Uint8Array(2 ** 21 + 1)));
   same(`${await theirs}`, `${await ours}`, 'more than Node.js hashes at once');
 }

@@ -94,6 +94,14 @@ is<(reason?: unknown) => Promise<void>>()(reader.cancel);
 is<() => void>()(reader.release);
 is<() => Promise<void>>()(reader[Symbol.asyncDispose]);
 
+const frames = new index.FrameReader(stream, { limit: 64, rest: bytes });
+is<[source: ByteStream | AsyncIterable<Uint8Array>, options?: { limit?: Wide; rest?: Uint8Array }]>()(
+  {} as ConstructorParameters<typeof index.FrameReader>);
+is<() => Promise<Uint8Array | null>>()(frames.read);
+is<() => AsyncGenerator<Uint8Array, void, void>>()(frames[Symbol.asyncIterator]);
+is<readonly [number, number, Uint8Array]>()([frames.count, frames.taken, frames.rest] as const);
+isFixed(frames);
+
 is<string>()(index.version);
 export const entries: (typeof index)[] = [hashes];
 
@@ -161,6 +169,8 @@ export const range: RangeError = unsupported;
 is<Wide>()(unsupported.code);
 isFixed(unsupported as Omit<index.UnsupportedHashError, 'name' | 'message' | 'stack' | 'cause'>);
 verify(theirs[0]!, stream);
+is<[hash: string | Wide, options?: { functions?: hashes.Functions }]>()({} as ConstructorParameters<typeof index.Hasher>);
+is<Promise<Multihash>>()(new index.Hasher('sha2-256', { functions }).update(bytes).multihash());
 is<string | undefined>()(NAMES[18]);
 is<0x12>()(CODES['sha2-256']);
 is<number | undefined>()(CODES['blake2b-128']);
