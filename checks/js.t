@@ -1,5 +1,6 @@
 #!/usr/bin/env bash
-# Tests the package for JavaScript, as it is here and as packed: in Node.js, in browsers, its types.
+# Tests the package for JavaScript: npm test, the same tests in browsers, and what npm packs. page_programs.t installs it
+# by the command of its page.
 # shellcheck source=checks/lib/tap.sh
 . "$(dirname "$0")/lib/tap.sh"
 top=$PWD
@@ -20,14 +21,6 @@ drawn() {
   crates/vectors/verdicts.py --draw 1 3000 > "$work/drawn/verdicts.tsv"
   crates/vectors/verdicts.py --more 1 3000 | sed -n '/^order/p' >> "$work/drawn/verdicts.tsv"
   npm_test --test-name-pattern=vectors
-}
-
-# The command of README.md installs the package in a folder of a user's own.
-page_install() {
-  mkdir "$work/own"
-  cd "$work/own"
-  npm_config_offline=true npm_config_cache=$work/npm MH=$top bash -c "$(block_of "$here/README.md" sh)"
-  node --input-type=module -e "import 'verified-multihash'"
 }
 
 # What is packed is installed elsewhere and imported from CommonJS.
@@ -88,21 +81,17 @@ inspector() {
   node "$here/tests/browser.js" "$1" "file://$work/tested.html"
 }
 
-test_browser() {
-  local name=$1 tools="$node $2"
-  needs=$tools try "in $name" node "$here/tests/browser.js" "$name" tests/page.html "$here" "$vectors"
-  needs=$tools try "the packed package's page in $name" packed_page "$name"
-}
+# Runs the tests in a browser.
+in_browser() { node "$here/tests/browser.js" "$1" tests/page.html "$here" "$vectors"; }
 
 needs="$node npm" try "in Node.js" npm_test
 needs="$node npm" try "drawn inputs" drawn
-needs="$node npm" try "the page's installation" page_install
 ONLY='' needs="$node npm" try "the packed package" packed_script
 needs="$node npm esbuild" try "a bundle of the packed package" bundle
 needs="$node npm tsc" try "the packed package's types" packed_types
-test_browser chromium chromium
-test_browser firefox firefox-esr
-test_browser webkit "WebKitWebDriver xvfb-run"
+needs="$node chromium" try "in chromium" in_browser chromium
+needs="$node firefox-esr" try "in firefox" in_browser firefox
+needs="$node WebKitWebDriver xvfb-run" try "in webkit" in_browser webkit
+needs="$node chromium" try "the packed package's page in chromium" packed_page chromium
 needs="$node chromium" try "the inspector in chromium" inspector chromium
-needs="$node firefox-esr" try "the inspector in firefox" inspector firefox
 finish
