@@ -65,9 +65,8 @@ export function readHead(bytes, at, end) {
 
 /** Reads the multihash that starts at an index, with a digest of at most `limit` bytes. */
 export function readMultihash(bytes, at, end, limit) {
-  const head = readHead(bytes, at, end);
-  const { status, code, size, next } = head;
-  if (status !== 'ok') return head;
+  const { status, code, size, next } = readHead(bytes, at, end);
+  if (status !== 'ok') return failed(status, next);
   if (size > limit) return { status: 'invalid_size', code: 0, size, next };
   if (end - next < size) return failed('unexpected_eof', next);
   return { status: 'ok', code, size, next: next + size };
