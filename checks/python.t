@@ -40,20 +40,27 @@ has_licence() { diff LICENSE "$(find "$work/venv/lib" -path '*/verified_multihas
 # All tests of the wheel. CPython's debug allocator sees a write after a block.
 all_tests() { unit_tests "$here/tests" PYTHONMALLOC=debug; }
 
-# Inputs that are drawn have the results that verdicts.py computes.
+# Inputs that are drawn have the results that verdicts.py and cids.py compute.
 drawn() {
   local -x MULTIHASH_VERDICTS=$work/drawn/verdicts.tsv
   mkdir "$work/drawn"
   crates/vectors/verdicts.py --draw 1 3000 > "$work/drawn/verdicts.tsv"
-  "$python" -m unittest discover -s "$here/tests" -k Vectors
+  crates/vectors/cids.py --draw 1 3000 > "$work/drawn/cids.tsv"
+  "$python" -m unittest discover -s "$here/tests" -k Vectors -k test_cid.Cids.test_vectors
 }
 
-# The CID that ipfs_cid, a command that Debian has, prints of a small file.
+# The CIDs that ipfs_cid, a command that Debian has, prints of a small file: a block of the codec dag-pb.
 same_cid() {
   cd "$work"
   echo hello > file
-  "$python" "$top/checks/lib/cid_of.py" file > cid
-  ipfs_cid file | grep -F "\"$(cat cid)\""
+  "$python" > cids <<'END'
+from verified_multihash import hashes
+from verified_multihash.cid import CID
+
+multihash = hashes.digest(b"\n\x0c\b\2\x12\6hello\n\x18\6", "sha2-256")
+print('{"CIDv0":"%s","CIDv1":"%s"}' % (CID(0, 0x70, multihash), CID(1, 0x70, multihash)))
+END
+  ipfs_cid file | diff cids -
 }
 
 # The sdist is all that is needed.

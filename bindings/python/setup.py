@@ -19,6 +19,7 @@ COPIES = {
     "multihash_c/multihash.c": "bindings/c/src/multihash.c",
     "multihash_c/multihash.h": "bindings/c/include/multihash.h",
     "multihash_c/multihash_message.h": "bindings/c/include/multihash_message.h",
+    "tests/cids.tsv": "crates/vectors/data/cids.tsv",
     "tests/hashes.tsv": "crates/vectors/data/hashes.tsv",
     "tests/messages.tsv": "crates/vectors/data/messages.tsv",
     "tests/rows.tsv": "crates/mh_show/rows.tsv",

@@ -9,6 +9,7 @@ from typing import List, Mapping, Optional, Tuple
 import verified_multihash as vm
 from typing_extensions import assert_type
 from verified_multihash import Multihash, Status, hashes
+from verified_multihash.cid import CID, CIDError
 
 DATA = b"\x12\0"
 ARRAY = array("B", DATA)  # a buffer that mypy does not take for bytes
@@ -37,6 +38,16 @@ vm.scale_encode(18, 32)  # type: ignore[arg-type]
 vm.encoded_len(18, 32.0)  # type: ignore[arg-type]
 vm.compare(DATA, multihash)  # type: ignore[arg-type]
 vm.compare(multihash, DATA)  # type: ignore[arg-type]
+
+
+cid = CID(1, 0x55, multihash)
+assert_type((CID.parse("b"), CID.decode(ARRAY), CID.read(ARRAY)), Tuple[CID, CID, Tuple[CID, int]])
+assert_type((cid.version, cid.codec, cid.multihash, cid.text("z")), Tuple[int, int, Multihash, str])
+assert_type(CIDError("too_long", "text").status, str)
+CID(1, 0x55, DATA)  # type: ignore[arg-type]
+CID.parse(DATA)  # type: ignore[arg-type]
+CID.decode("b")  # type: ignore[arg-type]
+cid.codec = 0  # type: ignore[misc]
 
 
 class Sha256(Multihash):

@@ -1,0 +1,225 @@
+"""Content identifiers (CIDs), as bytes and as texts. The bases are tested, not proved.
+
+A CID is a version, a codec, which is the number of the content's format, and a multihash. The bytes of version 1 are the
+varints of 1 and of the codec, and the multihash. The bytes of version 0 are the multihash alone: SHA2-256, 32 bytes. Each
+CID has exactly one encoding, and one text in each base: other texts, with capitals or padding, are rejected.
+
+    from verified_multihash.cid import CID, CODECS
+
+    cid = CID.parse("bafkreifzjut3te2nhyekklss27nh3k72ysco7y32koao5eei66wof36n5e")
+    assert cid.codec == CODECS["raw"] and CID.decode(bytes(cid)) == cid
+"""
+
+from __future__ import annotations
+
+import base64
+import binascii
+import re
+from dataclasses import dataclass
+from types import MappingProxyType
+from typing import TYPE_CHECKING, Callable, Mapping, Optional
+
+from . import LENGTH_MAX as MULTIHASH_MAX
+from . import VARINT_LENGTH_MAX, Multihash, MultihashError, decode, encode_varint, read, read_varint
+
+if TYPE_CHECKING:
+    from typing import Self
+
+    from _typeshed import ReadableBuffer as Buffer
+else:
+    from . import Buffer
+
+__all__ = ["CID", "CIDError", "CODECS", "LENGTH_MAX", "TEXT_MAX"]
+
+# The codecs that most CIDs have, by their names in the multicodec table. Any other number is a codec too.
+CODECS: Mapping[str, int] = MappingProxyType(
+    {"raw": 0x55, "dag-pb": 0x70, "dag-cbor": 0x71, "libp2p-key": 0x72, "dag-json": 0x129}
+)
+
+# The maximum lengths of an encoding in bytes, and of a text in characters, which is in base16. To decode base58 takes
+# time that is quadratic in the length of the text, so a longer text is not decoded.
+LENGTH_MAX = 1 + VARINT_LENGTH_MAX + MULTIHASH_MAX
+TEXT_MAX = 1 + 2 * LENGTH_MAX
+
+_BASE58 = "123456789ABCDEFGHJKLMNPQRSTUVWXYZabcdefghijkmnopqrstuvwxyz"
+_VALUES = {digit: value for value, digit in enumerate(_BASE58)}
+_SHA256 = b"\x12\x20"  # the code, and the length of the digest
+# By the prefix of a text: the name of the base, and what is no digit of it.
+_BASES = {
+    "b": ("base32", re.compile("[^a-z2-7]")),
+    "f": ("base16", re.compile("[^0-9a-f]")),
+    "z": ("base58btc", re.compile("[^%s]" % _BASE58)),
+}
+
+
+class CIDError(ValueError):
+    """The error of a text, of bytes or of fields that are no CID. Its text says what is wrong.
+
+    `status` is the kind of the error, which has the same name in other languages:
+    `insufficient`, `overflow`, `not_minimal`, `invalid_size`, `unexpected_eof`: the version, the codec or the multihash
+    is invalid or truncated, or bytes follow it, as the Status of that name says; `__cause__` is the MultihashError. An
+    empty text is `insufficient`.
+    `unknown_base`: the text does not start with `b`, `f`, `z` or `Qm`.
+    `invalid_digit`: a character is no digit of the base.
+    `too_long`: the text has more than TEXT_MAX characters.
+    `trailing_bits`: the last digit has bits that belong to no byte, or that are not zero.
+    `wrong_prefix`: a CID of version 0 has a prefix, or a text that starts with `Qm` is of no CID of version 0.
+    `unknown_version`: the version of bytes is not 1, or that of fields neither 0 nor 1.
+    `not_version_0`: version 0 has another codec or multihash than it may have.
+    """
+
+    def __init__(self, status: str, text: str) -> None:
+        self.status = status
+        super().__init__(status, text)
+
+    def __str__(self) -> str:
+        return str(self.args[1])
+
+
+@dataclass(frozen=True, slots=True, repr=False)
+class CID:
+    """A version, which is 0 or 1, a codec below 2**63, and a multihash.
+
+    Version 0 has the codec `dag-pb` and a multihash of SHA2-256 with 32 bytes. Values are immutable and hashable.
+    `bytes(cid)` returns the encoding, and `str(cid)` the text: in base32 for version 1, `Qm..` for version 0. Raises
+    CIDError with the status `unknown_version`, `not_version_0` or, for the codec, `overflow`.
+    """
+
+    version: int
+    codec: int
+    multihash: Multihash
+
+    def __post_init__(self) -> None:
+        for name, number in (("version", self.version), ("codec", self.codec)):
+            if not isinstance(number, int):
+                raise TypeError("%s must be an int, not %s" % (name, type(number).__name__))
+        if not isinstance(self.multihash, Multihash):
+            raise TypeError("multihash must be a Multihash, not %s" % type(self.multihash).__name__)
+        if self.version not in (0, 1):
+            raise CIDError("unknown_version", "the version must be 0 or 1")
+        try:
+            encode_varint(self.codec)
+        except MultihashError as error:
+            raise CIDError("overflow", "codec: %s" % error) from error
+        if self.version == 0 and (self.codec != CODECS["dag-pb"] or bytes(self.multihash)[:2] != _SHA256):
+            raise CIDError("not_version_0", "version 0 has the codec 0x70 and a multihash of SHA2-256 with 32 bytes")
+
+    @classmethod
+    def parse(cls, text: str) -> Self:
+        """Decodes a text: `b..` (base32), `f..` (base16), `z..` (base58btc), or `Qm..` (version 0)."""
+        if not isinstance(text, str):
+            raise TypeError("text must be a str (CID.decode takes bytes), not %s" % type(text).__name__)
+        if not text:
+            raise CIDError("insufficient", "the text is empty")
+        is_version_0 = text.startswith("Qm")
+        base, start = ("z", 0) if is_version_0 else (text[0], 1)
+        if base not in _BASES:
+            raise CIDError("unknown_base", "the text must start with b, f, z or Qm")
+        name, other = _BASES[base]
+        found = other.search(text, start, TEXT_MAX)
+        if found:  # the character is not shown: it may be one that changes how the text is displayed
+            raise CIDError("invalid_digit", "the character at index %d is no digit of %s" % (found.start(), name))
+        if len(text) > TEXT_MAX:
+            raise CIDError("too_long", "the text has more than %d characters" % TEXT_MAX)
+        data = _DECODERS[base](text[start:])
+        if data.startswith(_SHA256) and not is_version_0:
+            raise CIDError("wrong_prefix", "a CID of version 0 has the text Qm.., without a prefix")
+        if is_version_0 and not data.startswith(_SHA256):
+            raise CIDError("wrong_prefix", "a text that starts with Qm must be of a CID of version 0")
+        return cls.decode(data)
+
+    @classmethod
+    def decode(cls, data: Buffer) -> Self:
+        """Decodes `data`, which must be exactly one CID."""
+        return cls._decode(_bytes_of(data), lambda rest: (decode(rest), len(rest)))[0]
+
+    @classmethod
+    def read(cls, data: Buffer) -> tuple[Self, int]:
+        """Decodes the CID at the start of `data`. Returns it and the length of its encoding."""
+        return cls._decode(_bytes_of(data, LENGTH_MAX), read)
+
+    @classmethod
+    def _decode(cls, data: bytes, decoder: Callable[[bytes], tuple[Multihash, int]]) -> tuple[Self, int]:
+        version, codec, start, part = 0, CODECS["dag-pb"], 0, "version"
+        try:
+            if not data.startswith(_SHA256):
+                version, start = read_varint(data)
+                if version != 1:
+                    raise CIDError("unknown_version", "the version must be 1, not %d" % version)
+                part = "codec"
+                codec, length = read_varint(data[start:])
+                start += length
+            part = "multihash"
+            multihash, length = decoder(data[start:])
+        except MultihashError as error:
+            raise CIDError(error.status.name.lower(), "%s: %s" % (part, error)) from error
+        return cls(version, codec, multihash), start + length
+
+    def text(self, base: str = "") -> str:
+        """Returns the text in the base of a prefix: `b` is base32, `f` base16, `z` base58btc, which has no prefix in
+        version 0. Version 0 has no other base."""
+        base = base or "zb"[self.version]
+        if base not in _ENCODERS or (self.version == 0 and base != "z"):
+            raise ValueError("base must be 'b', 'f' or 'z', and 'z' for version 0, not %.20r" % (base,))
+        return base[: self.version] + _ENCODERS[base](bytes(self))
+
+    def __bytes__(self) -> bytes:
+        start = b"\x01" + encode_varint(self.codec) if self.version == 1 else b""
+        return start + bytes(self.multihash)
+
+    def __str__(self) -> str:
+        return self.text()
+
+    def __repr__(self) -> str:
+        return "%s.parse(%r)" % (type(self).__qualname__, str(self))
+
+
+def _bytes_of(data: Buffer, most: Optional[int] = None) -> bytes:
+    """Returns the bytes of a buffer, or the first of them."""
+    try:
+        view = memoryview(data)
+    except TypeError:
+        hint = " (CID.parse takes text)" if isinstance(data, str) else ""
+        raise TypeError("data must be a bytes-like object%s, not %s" % (hint, type(data).__name__)) from None
+    is_flat = view.ndim == 1 and view.itemsize == 1
+    return view[:most].tobytes() if is_flat else view.tobytes()[:most]
+
+
+def _to_base32(data: bytes) -> str:
+    return base64.b32encode(data).decode().lower().rstrip("=")
+
+
+def _from_base32(digits: str) -> bytes:
+    try:
+        data = base64.b32decode(digits.upper() + "=" * (-len(digits) % 8))
+    except binascii.Error:
+        data = b""
+    if _to_base32(data) != digits:
+        raise CIDError("trailing_bits", "the last digit of base32 has bits of no byte")
+    return data
+
+
+def _from_base16(digits: str) -> bytes:
+    if len(digits) % 2:
+        raise CIDError("trailing_bits", "the last digit of base16 has bits of no byte")
+    return bytes.fromhex(digits)
+
+
+def _to_base58(data: bytes) -> str:
+    number, digits = int.from_bytes(data, "big"), []
+    while number:
+        number, value = divmod(number, 58)
+        digits.append(_BASE58[value])
+    return "1" * (len(data) - len(data.lstrip(b"\0"))) + "".join(reversed(digits))
+
+
+def _from_base58(digits: str) -> bytes:
+    number = 0
+    for digit in digits:
+        number = 58 * number + _VALUES[digit]
+    zeros = len(digits) - len(digits.lstrip("1"))
+    return bytes(zeros) + number.to_bytes((number.bit_length() + 7) // 8, "big")
+
+
+_ENCODERS: Mapping[str, Callable[[bytes], str]] = {"b": _to_base32, "f": bytes.hex, "z": _to_base58}
+_DECODERS: Mapping[str, Callable[[str], bytes]] = {"b": _from_base32, "f": _from_base16, "z": _from_base58}
