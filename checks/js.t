@@ -13,13 +13,14 @@ export MULTIHASH_VERDICTS=$vectors/verdicts.tsv
 # All tests, or those that words choose. No process may take more than that CPU time.
 npm_test() { (cd "$here"; ulimit -t 600; npm test -- "$@"); }
 
-# Inputs that are drawn have the results that verdicts.py computes.
+# Inputs that are drawn have the results that verdicts.py and cids.py compute.
 drawn() {
   local -x MULTIHASH_VERDICTS=$work/drawn/verdicts.tsv
   mkdir "$work/drawn"
   cp "$vectors"/{hashes,messages,values}.tsv "$work/drawn"
   crates/vectors/verdicts.py --draw 1 3000 > "$work/drawn/verdicts.tsv"
   crates/vectors/verdicts.py --more 1 3000 | sed -n '/^order/p' >> "$work/drawn/verdicts.tsv"
+  crates/vectors/cids.py --draw 1 3000 > "$work/drawn/cids.tsv"
   npm_test --test-name-pattern=vectors
 }
 
@@ -64,7 +65,7 @@ packed_types() {
   printf '%s\n' "export * from 'verified-multihash';" "// @ts-expect-error no types of pages are there" \
     "export type Page = HTMLElement;" > no_page.ts
   "${strict[@]}" --lib es2022 no_page.ts
-  printf "export * from 'verified-multihash%s';\n" '' /hashes > entries.ts
+  printf "export * from 'verified-multihash%s';\n" '' /hashes /cid > entries.ts
   tsc --noEmit --strict --target es2022 --module es2022 --moduleResolution node entries.ts
 }
 

@@ -6,6 +6,8 @@ import type { ByteStream, Status, Wide } from 'verified-multihash';
 import { CODES, NAMES, hashers, identity, sha256, sha384, sha512, verify } from 'verified-multihash';
 import type { Content } from 'verified-multihash';
 import * as hashes from 'verified-multihash/hashes';
+import { CID, CIDError, CODECS } from 'verified-multihash/cid';
+import type { CIDStatus } from 'verified-multihash/cid';
 
 type Same<A, B> = (<T>() => T extends A ? 1 : 2) extends <T>() => T extends B ? 1 : 2 ? true : false;
 /** The value has this type and no other, such as `any` or a union with more. */
@@ -181,3 +183,18 @@ CODES['blake2b-128'] = 3;
 hashers['blake2b-512'] = sha256;
 // @ts-expect-error nor is the other one
 NAMES[18] = 'sha2-256';
+
+const cid = CID.of(1, CODECS.raw, Multihash.fromHex('0000'));
+is<0x55>()(CODECS.raw);
+is<Wide>()(CID.parse('b').codec);
+is<0 | 1>()(cid.version);
+is<Multihash>()(CID.read(cid.bytes).cid.multihash);
+is<CIDStatus>()(({} as CIDError).status);
+isFixed(cid as Omit<CID, never>);
+cid.toString('z');
+// @ts-expect-error a base that is not there
+cid.toString('m');
+// @ts-expect-error a version that is none
+CID.of(2, CODECS.raw, cid.multihash);
+// @ts-expect-error a text is parsed
+CID.decode('b');

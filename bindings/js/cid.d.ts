@@ -1,0 +1,83 @@
+// What the module of content identifiers declares.
+import type { Multihash, Status as MultihashStatus, Wide } from './index.js';
+
+/**
+ * The codecs that most CIDs have, by their names in the multicodec table. Any other number below 2^63 is a codec too.
+ */
+export const CODECS: {
+  readonly raw: 0x55;
+  readonly 'dag-pb': 0x70;
+  readonly 'dag-cbor': 0x71;
+  readonly 'libp2p-key': 0x72;
+  readonly 'dag-json': 0x129;
+};
+
+/** The maximum length of an encoding, in bytes. */
+export const CID_LENGTH_MAX: 276;
+/** The maximum length of a text, in characters. A longer text is rejected before its base is decoded. */
+export const CID_TEXT_MAX: 553;
+
+/** Why a call failed, by the names that other languages have too. */
+export type CIDStatus =
+  /**
+   * The version, the codec or the multihash is invalid or truncated, or bytes follow it, as the status of that name in
+   * statuses.d.ts says; `cause` is the `MultihashError`. An empty text is `insufficient`.
+   */
+  | Exclude<MultihashStatus, 'invalid_code' | 'not_hexadecimal'>
+  /** The text does not start with `b`, `f`, `z` or `Qm`. */
+  | 'unknown_base'
+  /** A character is no digit of the base. */
+  | 'invalid_digit'
+  /** The text has more than `CID_TEXT_MAX` characters. */
+  | 'too_long'
+  /** The last digit has bits that belong to no byte, or that are not zero. */
+  | 'trailing_bits'
+  /** A CID of version 0 has a prefix, or a text that starts with `Qm` is of no CID of version 0. */
+  | 'wrong_prefix'
+  /** The version of bytes is not 1, or that of `CID.of` neither 0 nor 1. */
+  | 'unknown_version'
+  /** Version 0 has another codec or multihash than it may have. */
+  | 'not_version_0';
+
+/** The error of a text, of bytes or of fields that are no CID. Arguments of a wrong type throw a `TypeError` instead. */
+export class CIDError extends Error {
+  constructor(status: CIDStatus, message: string, options?: { cause?: unknown });
+  readonly status: CIDStatus;
+}
+
+/**
+ * A content identifier. The bytes of version 1 are the varints of 1 and of the codec, and the multihash; those of version
+ * 0 are the multihash alone, of SHA2-256 with 32 bytes. Do not write to the properties, or to the bytes of `bytes`.
+ */
+export class CID {
+  private constructor();
+  /**
+   * Makes a CID. Version 0 has the codec `dag-pb` and a multihash of SHA2-256 with 32 bytes. Throws a `CIDError` with
+   * the status `unknown_version`, `not_version_0` or, for the codec, `overflow`.
+   */
+  static of(version: 0 | 1, codec: Wide, multihash: Multihash): CID;
+  /** Decodes `bytes`, which must be exactly one CID. */
+  static decode(bytes: Uint8Array): CID;
+  /** Decodes the CID at the start of `bytes`. `taken` is the length of its encoding. */
+  static read(bytes: Uint8Array): { readonly cid: CID; readonly taken: number };
+  /**
+   * Decodes a text: `b..` (base32), `f..` (base16), `z..` (base58btc), or `Qm..` (version 0). A CID has one text in each
+   * base, and no other is accepted: no capitals, no padding.
+   */
+  static parse(text: string): CID;
+  readonly version: 0 | 1;
+  /** Below 2^63. A `number` up to `Number.MAX_SAFE_INTEGER`, and a `bigint` above. */
+  readonly codec: Wide;
+  readonly multihash: Multihash;
+  /** The encoding. It is made at first use, and then the same array each time. */
+  readonly bytes: Uint8Array;
+  /**
+   * Returns the text in the base of a prefix, by default `b`, which is base32; `f` is base16 and `z` base58btc. Version 0
+   * has the text `Qm..` alone: its base is `z`. Throws a `RangeError` for other bases.
+   */
+  toString(base?: 'b' | 'f' | 'z'): string;
+  /** Returns the text in the base that `toString` has by default. */
+  toJSON(): string;
+  /** Returns whether `other` is a CID with the same version, codec and multihash. */
+  equals(other: unknown): boolean;
+}

@@ -1,0 +1,137 @@
+// Content identifiers, as bytes and as texts. The bases are tested, not proved.
+import { checkedLength, checkedWide, shown, viewOf, wrongType } from './arguments.js';
+import { BASES } from './bases.js';
+import { decode, encodeVarint, read, readVarint } from './core.js';
+import { MultihashError } from './errors.js';
+import { LENGTH_MAX, VARINT_LENGTH_MAX } from './limits.js';
+import { MAKING, Multihash } from './multihash.js';
+
+/** The codecs that most CIDs have, by their names in the multicodec table. */
+export const CODECS = Object.freeze({
+  __proto__: null, raw: 0x55, 'dag-pb': 0x70, 'dag-cbor': 0x71, 'libp2p-key': 0x72, 'dag-json': 0x129,
+});
+
+/** The maximum length of an encoding, in bytes. */
+export const CID_LENGTH_MAX = 1 + VARINT_LENGTH_MAX + LENGTH_MAX;
+/**
+ * The maximum length of a text, in characters, which is in base16. To decode base58 takes time that is quadratic in the
+ * length of the text, so a longer text is not decoded.
+ */
+export const CID_TEXT_MAX = 1 + 2 * CID_LENGTH_MAX;
+
+/** Why a text, bytes or fields are no CID. */
+export class CIDError extends Error {
+  constructor(status, message, options) {
+    super(message, options);
+    this.status = status;
+  }
+}
+Object.defineProperty(CIDError.prototype, 'name', { value: 'CIDError', writable: true, configurable: true });
+
+/** Calls what decodes or encodes a part of a CID. */
+function ofPart(part, call) {
+  try {
+    return call();
+  } catch (cause) {
+    if (!(cause instanceof MultihashError)) throw cause;
+    throw new CIDError(cause.status, `${part}: ${cause.message}`, { cause });
+  }
+}
+
+/** Whether the bytes start with the code of SHA2-256 and the length 32, as those of version 0 do. */
+const isVersion0 = (bytes) => bytes.length > 1 && bytes[0] === 0x12 && bytes[1] === 0x20;
+
+/** The version and the codec, and the index at which the multihash starts. */
+function headOf(bytes, length) {
+  if (isVersion0(bytes)) return { version: 0, codec: CODECS['dag-pb'], start: 0 };
+  const version = ofPart('version', () => readVarint(bytes));
+  if (version.value !== 1) throw new CIDError('unknown_version', `the version must be 1, not ${version.value}`);
+  const codec = ofPart('codec', () => readVarint(viewOf(bytes, version.taken, length - version.taken)));
+  return { version: 1, codec: codec.value, start: version.taken + codec.taken };
+}
+
+/** A version, a codec and a multihash. */
+export class CID {
+  #bytes; // once they were asked for
+
+  constructor(making, version, codec, multihash) {
+    if (making !== MAKING) throw new TypeError('CID.of(version, codec, multihash) makes a CID');
+    Object.assign(this, { version, codec, multihash });
+  }
+
+  /** Makes the CID of a version, a codec and a multihash. */
+  static of(version, codec, multihash) {
+    const number = checkedWide(codec, 'codec');
+    if (!(multihash instanceof Multihash)) throw wrongType('multihash', 'a Multihash', multihash);
+    if (checkedWide(version, 'version') > 1) throw new CIDError('unknown_version', 'the version must be 0 or 1');
+    ofPart('codec', () => encodeVarint(number));
+    if (Number(version) === 0 && (number !== CODECS['dag-pb'] || !isVersion0(multihash.bytes)))
+      throw new CIDError('not_version_0', 'version 0 has the codec 0x70 and a multihash of SHA2-256 with 32 bytes');
+    return new CID(MAKING, Number(version), number, multihash);
+  }
+
+  /** Decodes the CID whose encoding is the whole of the bytes. */
+  static decode(bytes) {
+    const length = checkedLength(bytes, 'bytes');
+    const { version, codec, start } = headOf(bytes, length);
+    return CID.of(version, codec, ofPart('multihash', () => decode(viewOf(bytes, start, length - start))));
+  }
+
+  /** Decodes the CID whose encoding is a prefix of the bytes. */
+  static read(bytes) {
+    const length = checkedLength(bytes, 'bytes');
+    const { version, codec, start } = headOf(bytes, length);
+    const { multihash, taken } = ofPart('multihash', () => read(viewOf(bytes, start, length - start)));
+    return { cid: CID.of(version, codec, multihash), taken: start + taken };
+  }
+
+  /** Decodes the text of a CID. */
+  static parse(text) {
+    if (typeof text !== 'string') throw wrongType('text', 'a string', text);
+    if (text === '') throw new CIDError('insufficient', 'the text is empty');
+    const hasNoPrefix = text.startsWith('Qm');
+    const [base, start] = hasNoPrefix ? [BASES.z, 0] : [BASES[text[0]], 1];
+    if (!base) throw new CIDError('unknown_base', 'the text must start with b, f, z or Qm');
+    const at = text.slice(start, CID_TEXT_MAX).search(base.other);
+    if (at >= 0) // the character is not shown: it may be one that changes how the text is displayed
+      throw new CIDError('invalid_digit', `the character at index ${start + at} is no digit of ${base.name}`);
+    if (text.length > CID_TEXT_MAX) throw new CIDError('too_long', `the text has more than ${CID_TEXT_MAX} characters`);
+    const bytes = base.decode(text.slice(start));
+    if (!bytes) throw new CIDError('trailing_bits', `the last digit of ${base.name} has bits of no byte`);
+    if (isVersion0(bytes) && !hasNoPrefix)
+      throw new CIDError('wrong_prefix', 'a CID of version 0 has the text Qm.., without a prefix');
+    if (hasNoPrefix && !isVersion0(bytes))
+      throw new CIDError('wrong_prefix', 'a text that starts with Qm must be of a CID of version 0');
+    return CID.decode(bytes);
+  }
+
+  /** The encoding, which is made once. */
+  get bytes() {
+    return (this.#bytes ??= this.version === 0 ? this.multihash.bytes :
+      Uint8Array.of(1, ...encodeVarint(this.codec), ...this.multihash.bytes));
+  }
+
+  /** The text, in the base of a prefix. */
+  toString(base = this.version === 0 ? 'z' : 'b') {
+    if (!BASES[base] || (this.version === 0 && base !== 'z'))
+      throw new RangeError(`base must be 'b', 'f' or 'z', and 'z' for version 0, got ${shown(base)}`);
+    const digits = BASES[base].encode(this.bytes);
+    return this.version === 0 ? digits : base + digits;
+  }
+
+  /** The text, for JSON.stringify. */
+  toJSON() {
+    return this.toString();
+  }
+
+  /** The same for console.log in Node.js. */
+  [Symbol.for('nodejs.util.inspect.custom')]() {
+    return `CID(${this})`;
+  }
+
+  /** Whether the other value is a CID with the same version, codec and multihash. */
+  equals(other) {
+    return other instanceof CID && other.version === this.version && other.codec === this.codec &&
+      this.multihash.equals(other.multihash);
+  }
+}
