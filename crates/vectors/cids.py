@@ -93,7 +93,7 @@ def parsed(text: str) -> tuple[str, str]:
 def escaped(text: str) -> str:
     """Returns a text as a column has it: a dash if it is empty, other bytes of UTF-8 than printable ASCII as \\xHH."""
     shown = (chr(byte) if 32 < byte < 127 and byte != 92 else f"\\x{byte:02x}" for byte in text.encode())
-    return "".join(shown) or "-"
+    return "\\x2d" if text == "-" else "".join(shown) or "-"
 
 
 def unescaped(column: str) -> str:
