@@ -118,7 +118,7 @@ def command_error(clone: Path) -> str:
 
 def page_errors(page: str, folder: Path, before: str) -> Iterator[str]:
     """Runs the programs of a language's page. One verifies content by a CID, which the block before it sets: it rejects
-    other content."""
+    other content, and may say so by the status 1."""
     verifies = False
     for program in programs(page):
         if program.after[0] == "text":
@@ -127,7 +127,8 @@ def page_errors(page: str, folder: Path, before: str) -> Iterator[str]:
             yield from program.errors(folder, known, wanted)
             if is_by_cid:
                 other = {"true\n": "false\n"}.get(wanted, "False\n")
-                yield from program.errors(folder, known.replace("hello world", "other content"), other)
+                rejecting = program._replace(command=f"{program.command} || [ $? = 1 ]")
+                yield from rejecting.errors(folder, known.replace("hello world", "other content"), other)
             verifies |= is_by_cid
     if not verifies:
         yield "no program verifies content by a CID"
