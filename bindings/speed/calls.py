@@ -100,5 +100,5 @@ def nanoseconds(call: Callable[[], Any]) -> float:
 
 for name, (count, ours, plain) in ROWS.items():
     rounds = [[nanoseconds(each) for each in (ours, plain, lambda: None)] for _ in range(ROUNDS)]
-    mine, theirs, nothing = map(min, zip(*rounds))
+    mine, theirs, nothing = (min(times) for times in zip(*rounds))
     print(name, *("%.1f" % ((least - nothing) / count) for least in (mine, theirs)))
