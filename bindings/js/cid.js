@@ -39,7 +39,7 @@ function ofPart(part, call) {
 }
 
 /** Whether the bytes start with the code of SHA2-256 and the length 32, as those of version 0 do. */
-const isVersion0 = (bytes) => bytes.length > 1 && bytes[0] === 0x12 && bytes[1] === 0x20;
+const isVersion0 = (bytes) => bytes[0] === 0x12 && bytes[1] === 0x20;
 
 /** The version and the codec, and the index at which the multihash starts. */
 function headOf(bytes, length) {
@@ -56,7 +56,9 @@ export class CID {
 
   constructor(making, version, codec, multihash) {
     if (making !== MAKING) throw new TypeError('CID.of(version, codec, multihash) makes a CID');
-    Object.assign(this, { version, codec, multihash });
+    this.version = version;
+    this.codec = codec;
+    this.multihash = multihash;
   }
 
   /** Makes the CID of a version, a codec and a multihash. */

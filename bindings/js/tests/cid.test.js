@@ -98,6 +98,7 @@ test('values', () => {
   }
   for (const other of [OLD, CID.of(1, 0x70, HELLO), CID.of(1, 0x55, Multihash.of(0x12, HELLO.digest.subarray(1))), null, {}])
     same(RAW.equals(other), false, `${other}`);
+  same(OLD.equals(CID.of(1, 0x70, HELLO)), false, 'the other version');
   same(CID.of(1n, 0x55n, HELLO).equals(RAW), true, 'bigints');
 });
 
