@@ -94,6 +94,15 @@ class Cids(unittest.TestCase):
             self.assertRaises(TypeError, CID.decode, wrong)
             self.assertRaises(TypeError, CID.read, wrong)
         self.assertRaises(TypeError, CID.parse, b"b")
+        for call in (CID.decode, CID.read):
+            part = bytearray(bytes(RAW)[:9])
+            try:
+                call(part)
+            except CIDError as error:
+                part += bytes(RAW)[9:]  # an error holds no view of the buffer
+                self.assertEqual(error.status, "unexpected_eof")
+            self.assertEqual(CID.decode(part), RAW)
+        self.assertEqual(CID.decode(memoryview(b"\1\0\x55\0\0\0\0\0")[::2]), CID(1, 0x55, Multihash(0, b"")))
         for cid, base in ((CID(0, 0x70, HELLO), "b"), (RAW, "m"), (RAW, "base32"), (RAW, "bf")):
             self.assertRaises(ValueError, cid.text, base)
 

@@ -131,18 +131,18 @@ class CID:
     @classmethod
     def decode(cls, data: Buffer) -> Self:
         """Decodes `data`, which must be exactly one CID."""
-        return cls._decode(_bytes_of(data), lambda rest: (decode(rest), len(rest)))[0]
+        return cls._decode(_copy_of(data), lambda rest: (decode(rest), len(rest)))[0]
 
     @classmethod
     def read(cls, data: Buffer) -> tuple[Self, int]:
         """Decodes the CID at the start of `data`. Returns it and the length of its encoding."""
-        return cls._decode(_bytes_of(data, LENGTH_MAX), read)
+        return cls._decode(_copy_of(data, LENGTH_MAX), read)
 
     @classmethod
-    def _decode(cls, data: bytes, decoder: Callable[[bytes], tuple[Multihash, int]]) -> tuple[Self, int]:
+    def _decode(cls, data: memoryview, decoder: Callable[[memoryview], tuple[Multihash, int]]) -> tuple[Self, int]:
         version, codec, start, part = 0, CODECS["dag-pb"], 0, "version"
         try:
-            if not data.startswith(_SHA256):
+            if data[:2] != _SHA256:
                 version, start = read_varint(data)
                 if version != 1:
                     raise CIDError("unknown_version", "the version must be 1, not %d" % version)
@@ -174,15 +174,15 @@ class CID:
         return "%s.parse(%r)" % (type(self).__qualname__, str(self))
 
 
-def _bytes_of(data: Buffer, most: Optional[int] = None) -> bytes:
-    """Returns the bytes of a buffer, or the first of them."""
+def _copy_of(data: Buffer, most: Optional[int] = None) -> memoryview:
+    """Returns a copy of a buffer, or of its first bytes, so that an error does not keep the buffer from being resized."""
     try:
         view = memoryview(data)
     except TypeError:
         hint = " (CID.parse takes text)" if isinstance(data, str) else ""
         raise TypeError("data must be a bytes-like object%s, not %s" % (hint, type(data).__name__)) from None
     is_flat = view.ndim == 1 and view.itemsize == 1
-    return view[:most].tobytes() if is_flat else view.tobytes()[:most]
+    return memoryview(view[:most].tobytes() if is_flat else view.tobytes()[:most])
 
 
 def _to_base32(data: bytes) -> str:
