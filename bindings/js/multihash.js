@@ -117,12 +117,10 @@ function digestOf({ digest, size }, name) {
   return digest;
 }
 
-const orderOf = (left, right) =>
-  compareMultihashes(left.code, digestOf(left, 'left'), left.size, right.code, digestOf(right, 'right'), right.size);
-
 /** Compares by code, then by digest length, then by the first digest byte that differs: -1, 0 or 1. */
 export function compare(left, right) {
   if (!(left instanceof Multihash)) throw wrongType('left', 'a Multihash', left);
   if (!(right instanceof Multihash)) throw wrongType('right', 'a Multihash', right);
-  return orderOf(left, right);
+  const [one, other] = [digestOf(left, 'left'), digestOf(right, 'right')];
+  return compareMultihashes(left.code, one, left.size, right.code, other, right.size);
 }
