@@ -1,15 +1,15 @@
 #!/usr/bin/env python3
-"""For `tools/generate rust`: writes the modules of the Rust package verified-multihash into a folder. They are the proved
-source without its contracts.
+"""For `tools/generate rust`: writes the modules of the Rust package verified-multihash that are proved into a folder:
+the source without its contracts.
 
     tools/rust_source.py FOLDER
 
-Removed are what begins as a line of CUT: ghost items and fields, `impl Model`, `Write for Vec`, contracts and attributes;
-the modules that need JSON or have no code; examples; and from other lines WORDS: the bound `Drop`, the parameter of
-`fmt::Formatter`, and the allocator, of which Rust has one. What a ghost field restricts stays so: the field is public in
-the crate alone; a struct without such a field is made there alone. Types of values outside multihash get what Rust
-derives, and errors may get more cases. Added are MADE, FIRST, ROOT or INNER, and what vectors need. What is left of
-Rattle is an error, and so is a public function that requires something, since in Rust nothing keeps that.
+Removed are what begins as a line of CUT: ghost items and fields, `impl Model`, contracts and attributes; `to_bytes`,
+which is by hand, since vectors of Rust are other ones; examples; and from other lines WORDS: the bound `Drop`, the
+parameter of `fmt::Formatter`, and the allocator, of which Rust has one. What a ghost field restricts stays so: the field
+is public in the crate alone; a struct without such a field is made there alone. Types of values outside multihash get
+what Rust derives, and errors may get more cases. Added are MADE, INNER, and of IMPORTS what a module uses. What is left
+of Rattle is an error, and so is a public function that requires something, since in Rust nothing keeps that.
 """
 import re
 import sys
@@ -18,48 +18,39 @@ from pathlib import Path
 import rt_source
 
 TOP = Path(__file__).resolve().parents[1]
-# The crates, and what comes in a path before the names of each: the first is the package's root.
-CRATES = {"multihash": "", "form": "form::"}
-LEFT_OUT = ("json", "laws", "exposed")
+# The crates, and what comes in a path before the names of each.
+CRATES = {"multihash": "proved::", "form": "form::"}
+# Modules that have no code, need JSON, or are by hand in Rust: errors, since one of Rust has its source, readers and
+# writers, which are those of `std::io`, and lists and the form of the public `Multihash`.
+LEFT_OUT = {
+    "multihash": (
+        "lib",
+        "exposed",
+        "laws",
+        "json",
+        "error",
+        "list",
+        "no_std_io",
+        "no_std_io/impls",
+        "no_std_io/error",
+        "no_std_io/slice_writer",
+    ),
+    "form": ("exposed", "laws", "of_multihash"),
+}
 MADE = "// Made by tools/generate rust.\n"
-# What Rattle has without an import, and its `std`.
-FIRST = "use crate::rattle::{std, *};\n"
-# In place of the documentation of the crate: this is the package's page.
-ROOT = """\
-#![cfg_attr(any(feature = "std", not(doctest)), doc = include_str!("../README.md"))]
-#![no_std]
-#![forbid(unsafe_code)]
-#![warn(missing_docs)]
-#![allow(dead_code, unused_imports, unstable_name_collisions, clippy::all)]
-
-#[cfg(feature = "alloc")]
-extern crate alloc;
-// Not by its own name, which is Rattle's `std` in `rattle`: to Rust below 1.72 a path could be either.
-#[cfg(feature = "std")]
-extern crate std as host;
-
-pub mod codes;
-mod explain;
-#[cfg(feature = "alloc")]
-pub mod form;
-#[cfg(feature = "std")]
-mod io;
-mod rattle;
-#[cfg(feature = "serde")]
-mod serde;
-mod stream;
-mod text;
-#[doc(hidden)]
-pub mod upstream;
-
-pub use crate::explain::DecodeError;
-#[cfg(feature = "std")]
-pub use crate::io::{with_io, Io};
-pub use crate::stream::Decoder;
-#[cfg(feature = "std")]
-pub use crate::stream::Reader;
-pub use crate::text::TextError;
-"""
+# What a module is allowed, with the reason, since it is as it is in Rattle.
+ALLOWED = {
+    "lib": "#![allow(clippy::module_inception)] // the module of the trait has the crate's name\n",
+    "varint/word": "#![allow(clippy::len_zero, clippy::incompatible_msrv)] // `first_chunk` is that of `rattle` below 1.77\n",
+}
+# What Rattle has without an import, and what a module has that uses it.
+IMPORTS = (
+    (r"\bstd::", "use crate::rattle::std;\n"),
+    (r"\bVec\b", "use alloc::vec::Vec;\n"),
+    (r"\.(?:push|reserve)_or_fail\(", "use crate::rattle::OrFail;\n"),
+    (r"\bError::(?:unexpected_eof|write_zero)\(", "use crate::rattle::Faults;\n"),
+    (r"\.first_chunk\b", "#[allow(unused_imports)] // Rust has it from 1.77 on\nuse crate::rattle::Arrays;\n"),
+)
 # In place of the documentation of the module `form`: its page, and what is by hand.
 INNER = """\
 #![cfg_attr(any(feature = "std", not(doctest)), doc = include_str!("../FORMATS.md"))]
@@ -68,17 +59,17 @@ BY_HAND = """\
 #[doc(hidden)]
 pub mod values;
 
-#[cfg(feature = "std")]
-pub use values::with_io;
-"""
-# A function that returns a vector, and what comes before it and in it: there the functions of a vector may fail.
-OF_VECTOR = re.compile(r"(?m)^( *)((?:pub )?fn [^{;]*\bVec<[^{;]*\{\n)")
-WITH_VECTOR = r'\1#[cfg(feature = "alloc")]' "\n" r"\1\2\1    use crate::rattle::fallible::Vec;" "\n"
+pub use values::to_bytes;"""
+# A function that is by hand.
+TO_BYTES = re.compile(r"(?m)(?:^ *//[^!].*\n)*^( *)pub fn to_bytes\b(?:.*\n)*?\1\}\n|, to_bytes(?=\};)")
 # What a line begins with that is removed, with the next ones until its brackets are closed; and what those lines before
 # it begin with that are removed too: the comments and attributes of an item, comments and empty lines of a contract.
 NONE, OF_CONTRACT = "$.", r" *//| *$"
 CUT = (
-    (rf"(?:pub )?ghost |impl\b.* (?:Model for|for Vec<)|(?:pub )?mod (?:{'|'.join(LEFT_OUT)});", r" *//(?!!)| *#\["),
+    (
+        r"(?:pub )?ghost |impl\b.* Model for|(?:pub )?mod (?:exposed|laws|of_multihash);|const ALLOCATES\b",
+        r" *//(?!!)| *#\[",
+    ),
     (r"(?:requires|ensures)\b", OF_CONTRACT),
     (r"#!?\[tactic\(|#\[derive\(Drop\)\]|use std::(?:marker::Model|alloc::Global);", NONE),
 )
@@ -88,9 +79,10 @@ WORDS = re.compile(
     r"|(?<=\n) *_?alloc: Global,\n|, _?alloc: Global(?=\))|(?<=\()_?alloc: Global(?:, )?|(?<=\()alloc(?:, |(?=\)))"
 )
 # What is written in another way: calls of a vector that may fail, by names that Rust's vector does not have; a trait
-# whose functions return `Self`, which only the crate's types implement.
+# whose functions return `Self`, which only the crate's types implement; functions that Rust can call in a constant.
 OTHER = (
     (re.compile(r"\.(push|reserve)(?=\([^;\n]*\)\?)"), r".\1_or_fail"),
+    (re.compile(r"\bpub fn (?=(?:code|size)\(&self\))"), "pub const fn "),
     (re.compile(r"(?m)^(pub trait \w+)(?= \{\n(?:.*\n)*?[^}\n]*\bResult<Self,)"), r"\1: super::values::Part"),
 )
 # The attribute of a type of values, which is not `Clone` if its memory is freed; and an error.
@@ -159,49 +151,49 @@ def derived(attribute: re.Match[str]) -> str:
 
 def erased(path: Path, crate: str) -> str:
     """Returns a module without what is removed, and with what is added. Ends the program at what is no Rust."""
-    text = EXAMPLE.sub("", path.read_text("utf-8"))
+    text = TO_BYTES.sub("", EXAMPLE.sub("", path.read_text("utf-8")))
     if refused := REQUIRES.search(rt_source.TEXT.sub("", text)):
         sys.exit(f"{path.relative_to(TOP)}: {refused[1]} is public, and requires something")
     text = RESTRICTED.sub(closed, text)
-    if CRATES[crate]:
+    if crate != "multihash":
         text = OF_ERROR.sub("#[non_exhaustive]\n", OF_VALUE.sub(derived, text))
     text = without_words(re.sub(r"\n *\{\n", " {\n", without_parts(text)))
     for pattern, other in OTHER:
         text = pattern.sub(other, text)
     if left := RATTLE.search(rt_source.TEXT.sub("", text)):
         sys.exit(f"{path.relative_to(TOP)}: no Rust: {left[0]}")
-    text = OF_VECTOR.sub(WITH_VECTOR.partition("\n")[2] if CRATES[crate] else WITH_VECTOR, text)
     # empty lines that are then doubled, or at the start or the end of a block
     text = re.sub(r"(?<=\{\n)\n|\n(?=\n *\})", "", re.sub(r"\n{3,}", "\n\n", text))
-    if CRATES[crate]:
-        text = PATH.sub(lambda of: f"crate::{CRATES.get(of[1], CRATES[crate])}", text)
+    text = PATH.sub(lambda of: f"crate::{CRATES[crate if of[1] == 'crate' else of[1]]}", text)
     about = "".join(re.findall(r"(?m)^//!.*\n", text))
-    return placed(about, text.removeprefix(about), path.name == "lib.rt", crate)
+    name = str(path.relative_to(TOP / "crates" / crate / "src").with_suffix(""))
+    return placed(about, text.removeprefix(about), name)
 
 
-def placed(about: str, code: str, is_root: bool, crate: str) -> str:
-    """Returns a module of a crate with what comes first in it."""
-    if is_root and not CRATES[crate]:
-        return MADE + ROOT + FIRST + code.lstrip("\n")
-    if is_root and crate == "form":
-        return MADE + INNER + FIRST + BY_HAND + code
-    return about + MADE + FIRST + code
+def placed(about: str, code: str, name: str) -> str:
+    """Returns a module with what comes first in it."""
+    first = MADE + ALLOWED.get(name, "")
+    if name == "lib":
+        return first + INNER + BY_HAND + code
+    used = rt_source.TEXT.sub("", code)
+    imports = "".join(line for pattern, line in IMPORTS if re.search(pattern, used))
+    return about + first + imports + ("" if code.startswith("\n") else "\n") + code
 
 
-def place_of(crate: str, source: Path) -> Path:
+def place_of(crate: str, module: Path) -> Path:
     """Returns where a module of a crate is in the package."""
-    module = CRATES[crate].replace("::", "/")
-    is_module = module and source.name == "lib.rt"
-    return Path(module).with_suffix(".rs") if is_module else Path(module, source.with_suffix(".rs"))
+    folder = Path(CRATES[crate].removesuffix("::"))
+    return folder.with_suffix(".rs") if str(module) == "lib" else Path(folder, module).with_suffix(".rs")
 
 
 if __name__ == "__main__":
     if len(sys.argv) != 2:
         sys.exit(__doc__)
-    for crate in CRATES:
+    for crate, left_out in LEFT_OUT.items():
         folder = TOP / "crates" / crate / "src"
         for source in folder.rglob("*.rt"):
-            if source.stem not in LEFT_OUT:
-                to = Path(sys.argv[1], place_of(crate, source.relative_to(folder)))
+            module = source.relative_to(folder).with_suffix("")
+            if str(module) not in left_out:
+                to = Path(sys.argv[1], place_of(crate, module))
                 to.parent.mkdir(parents=True, exist_ok=True)
                 to.write_text(erased(source, crate), "utf-8")

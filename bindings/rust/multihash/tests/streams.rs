@@ -14,9 +14,6 @@ use std::io;
 
 use io::{Read, Write};
 
-const HAS_STD: bool = cfg!(feature = "std");
-const INSUFFICIENT: &str = if HAS_STD { "unexpected end of file" } else { "not enough input bytes" };
-const UNEXPECTED_EOF: &str = "failed to fill whole buffer";
 const NO_ROOM: &str = "failed to write whole buffer";
 
 type Value = Multihash<200>;
@@ -44,10 +41,6 @@ fn each_byte(event: Event, check: impl Fn(&Case, Slow<&[u8]>, Slow<Vec<u8>>)) {
             check(&case, Slow { bytes: &stream[..], at, event }, Slow { bytes: Vec::new(), at, event });
         }
     }
-}
-
-fn texts(error: &Error) -> (String, Option<String>) {
-    (error.to_string(), error.source().map(ToString::to_string))
 }
 
 /// After a failure nothing more was read or written. As upstream, writers continue after an interrupt, and
@@ -100,53 +93,56 @@ fn panicking() {
     }
 }
 
+/// The source of the error of an input that ends is that of a reader that ends.
+fn check_end(error: &Error) {
+    let source = error.source().and_then(|it| it.downcast_ref::<io::Error>()).expect("its source");
+    #[cfg(feature = "std")]
+    assert_eq!(source.kind(), io::ErrorKind::UnexpectedEof);
+    #[cfg(not(feature = "std"))]
+    assert_eq!(source.to_string(), "failed to fill whole buffer");
+}
+
 #[test]
 fn ends() {
     let end: Event = || Ok(0);
     each_byte(end, |case, mut reader, mut writer| {
-        let text = if case.is_head { INSUFFICIENT } else { UNEXPECTED_EOF };
-        let source = if HAS_STD || !case.is_head { Some(text.into()) } else { None };
         for failure in [Value::read(&mut reader as &mut dyn Read), Value::from_bytes(&case.encoding[..case.at])] {
-            assert_eq!(texts(&failure.expect_err("an end")), (text.into(), source.clone()));
+            check_end(&failure.expect_err("an end"));
         }
         let mut out = [0; 204];
         for failure in [case.value.write(&mut writer as &mut dyn Write), case.value.write(&mut out[..case.at])] {
-            assert_eq!(texts(&failure.expect_err("it is full")), (NO_ROOM.into(), Some(NO_ROOM.into())));
+            let failure = failure.expect_err("it is full");
+            let source = failure.source().expect("its source").to_string();
+            assert_eq!((&*failure.to_string(), &*source), (NO_ROOM, NO_ROOM));
         }
         for written in [&out[..case.at], &writer.bytes] {
             assert_eq!(written, &case.encoding[..case.at]);
         }
     });
-    let mut rest = &b"\x12\x03ab"[..];
-    assert!(Value::read(&mut rest).is_err() && (HAS_STD || rest == b"ab")); // a digest that is cut is not consumed
 }
 
-/// `Debug` and `source`. `Display` has no width and no precision, but that of `no_std_io` does, as upstream.
+/// `Debug`, and `Display`, which has no width and no precision, as upstream.
 #[test]
 fn shown() {
     let of = |bytes: &[u8]| Multihash::<4>::from_bytes(bytes).expect_err("no multihash");
     for (bytes, shown) in [
         (&b"\x12\x05abcde"[..], "InvalidSize(5)"),
-        (b"\x92\x00\x00", "Varint(NotMinimal)"),
-        (&[0xff; 12], "Varint(Overflow)"),
-        (b"\x12", if HAS_STD { "Io(Kind(UnexpectedEof))" } else { "Varint(Insufficient)" }),
+        (b"\x92\x00\x00", "NotMinimal"),
+        (&[0xff; 12], "Overflow"),
+        (b"\x12", "Insufficient("),
+        (b"\x12\x03ab", "Io("),
     ] {
         let error = of(bytes);
-        assert_eq!(format!("{error:?}"), format!("Error {{ kind: {shown} }}"));
-        assert_eq!(error.source().is_some(), shown.starts_with("Io"));
+        assert!(format!("{error:?}").starts_with(&format!("Error {{ kind: {shown}")), "{error:?}");
+        assert_eq!(error.source().is_some(), shown.ends_with('('));
     }
-    let large = Value::wrap(1 << 63, b"").expect_err("too large");
-    assert_eq!(format!("{large:?}"), "Error { kind: InvalidCode(9223372036854775808) }");
     let cut = of(b"\x12\x03ab");
-    assert_eq!(format!("{cut:99.9}"), UNEXPECTED_EOF);
-    let source = cut.source().and_then(|it| it.downcast_ref::<io::Error>()).expect("its source");
-    #[cfg(feature = "std")]
-    assert_eq!(source.kind(), io::ErrorKind::UnexpectedEof);
+    assert_eq!(format!("{cut:99.9}"), "the input ends inside the digest (2 of 3 bytes)");
     #[cfg(not(feature = "std"))]
     {
-        assert_eq!(format!("{source:9.6}"), "failed   ");
-        assert_eq!(format!("{source:?}"), format!("Error {{ kind: UnexpectedEof, error: {UNEXPECTED_EOF:?} }}"));
         let full = Value::default().write(&mut [][..]).expect_err("it is full");
-        assert!(format!("{full:?}").ends_with(&format!("Io(Error {{ kind: WriteZero, error: {NO_ROOM:?} }}) }}")));
+        let source = full.source().expect("its source");
+        assert_eq!(format!("{source:9.6}"), "failed   ");
+        assert_eq!(format!("{source:?}"), format!("Error {{ kind: WriteZero, error: {NO_ROOM:?} }}"));
     }
 }

@@ -7,15 +7,5 @@ use multihash::no_std_io as io;
 #[cfg(feature = "std")]
 use std::io;
 
-use io::{Error, Read};
-use multihash::Multihash;
+use multihash::{Error, Multihash};
 use support::{check, check_value};
-
-fn same<const A: usize, const B: usize>(a: &Multihash<A>, b: &Multihash<B>) -> bool {
-    a == b
-}
-
-#[cfg(feature = "alloc")]
-fn bytes<const S: usize>(multihash: &Multihash<S>) -> Vec<u8> {
-    Vec::from(*multihash)
-}

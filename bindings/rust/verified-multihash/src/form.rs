@@ -1,12 +1,10 @@
 // Made by tools/generate rust.
+#![allow(clippy::module_inception)] // the module of the trait has the crate's name
 #![cfg_attr(any(feature = "std", not(doctest)), doc = include_str!("../FORMATS.md"))]
-use crate::rattle::{std, *};
 #[doc(hidden)]
 pub mod values;
 
-#[cfg(feature = "std")]
-pub use values::with_io;
-
+pub use values::to_bytes;
 mod all;
 mod array;
 mod block;
@@ -20,7 +18,6 @@ mod error;
 mod fixed;
 mod form;
 mod number;
-mod of_multihash;
 mod stream;
 mod tag;
 mod whole;
@@ -40,4 +37,4 @@ pub use form::Form;
 pub use number::Number;
 pub use stream::Stream;
 pub use tag::Tag;
-pub use whole::{encoded_len, from_bytes, read, read_front, to_bytes};
+pub use whole::{encoded_len, from_bytes, read, read_front};

@@ -1,9 +1,7 @@
-// Made by tools/generate rust.
 #![cfg_attr(any(feature = "std", not(doctest)), doc = include_str!("../README.md"))]
 #![no_std]
 #![forbid(unsafe_code)]
 #![warn(missing_docs)]
-#![allow(dead_code, unused_imports, unstable_name_collisions, clippy::all)]
 
 #[cfg(feature = "alloc")]
 extern crate alloc;
@@ -11,44 +9,42 @@ extern crate alloc;
 #[cfg(feature = "std")]
 extern crate std as host;
 
+mod adapter;
 pub mod codes;
-mod explain;
+mod error;
 #[cfg(feature = "alloc")]
 pub mod form;
-#[cfg(feature = "std")]
-mod io;
+pub mod list;
+mod multihash;
+#[cfg(not(feature = "std"))]
+pub mod no_std_io;
+mod proved;
 mod rattle;
-#[cfg(feature = "serde")]
+#[cfg(all(feature = "serde", not(feature = "serde-codec")))]
+mod serde;
+#[cfg(feature = "serde-codec")]
+#[path = "serde_codec.rs"]
 mod serde;
 mod stream;
 mod text;
-#[doc(hidden)]
-pub mod upstream;
 
-pub use crate::explain::DecodeError;
+// For a dependent of `multihash` without `std`, beside another one with it.
 #[cfg(feature = "std")]
-pub use crate::io::{with_io, Io};
+#[doc(hidden)]
+pub use host::io as no_std_io;
+
+pub use crate::error::Error;
+pub use crate::multihash::Multihash;
+pub use crate::proved::{varint, Head};
 pub use crate::stream::Decoder;
 #[cfg(feature = "std")]
 pub use crate::stream::Reader;
 pub use crate::text::TextError;
-use crate::rattle::{std, *};
-mod binary;
-mod compare;
-mod error;
-mod head;
-pub mod list;
-mod multihash;
-pub mod no_std_io;
-mod scale;
-pub mod varint;
 
-pub use crate::error::Error;
-pub use crate::head::Head;
-pub use crate::multihash::Multihash;
+/// The result of a call.
+#[deprecated(note = "name the error: `Result<Value, Error>`")]
+pub type Result<Value> = core::result::Result<Value, Error>;
 
-/// The result of this library's calls.
-pub type Result<T> = std::result::Result<T, Error>;
-
-/// [`Multihash`] under its former name.
-pub type MultihashGeneric<const CAPACITY: usize> = Multihash<CAPACITY>;
+/// An earlier name of [`Multihash`].
+#[deprecated(note = "use `Multihash`")]
+pub type MultihashGeneric<const S: usize> = Multihash<S>;

@@ -1,136 +1,272 @@
-//! The type: its fields, their limits, and the functions that make a value or return a part of it.
-// Made by tools/generate rust.
-use crate::rattle::{std, *};
+//! The type, with upstream's functions and names, over the proved one.
+use crate::no_std_io::{Read, Write};
+use crate::proved::{self, varint};
+use crate::Error;
+use core::cmp::Ordering;
+use core::fmt;
+use core::hash::{Hash, Hasher};
 
-use crate::{Error, varint};
-use std::fmt;
-
-/// A code below 2^63 and a digest of at most `min(S, 255)` bytes, in a buffer of the capacity `S`.
-#[derive(Clone, Copy)]
-pub struct Multihash<const S: usize> {
-    // First, so that in a `Result` no part of it straddles two words.
-    pub(crate) digest: [u8; S],
-    pub(crate) code: u64,
-    // A machine word, so that no padding after the digest is copied.
-    pub(crate) size: usize,
-}
+/// A code, which names the hash function, and a digest of at most `S` bytes.
+///
+/// `S` is the longest digest that you accept: 64 suffices for SHA2-512 and BLAKE2b-512, 32 for SHA2-256. The code
+/// is below 2^63, and the digest has at most 255 bytes. Values of different `S` with the same code and digest are
+/// equal and have the same hash.
+#[derive(Clone, Copy, Default)]
+pub struct Multihash<const S: usize>(pub(crate) proved::Multihash<S>);
 
 impl<const S: usize> Multihash<S> {
-    /// Returns the multihash of a code and a digest.
+    /// Makes a multihash of a code and a digest.
     ///
     /// # Errors
     ///
-    /// - [`Error::invalid_size`] with the digest's length if it exceeds `min(S, 255)`.
-    /// - Otherwise [`Error::invalid_code`] with the code if it is 2^63 or more.
-    pub fn wrap(code: u64, digest: &[u8]) -> Result<Self, Error> {
-        let len = digest.len();
-        if !Self::is_valid_size(len as u64) {
-            return Err(Error::from_size(len as u64));
+    /// For a digest of more than `S` bytes or more than 255, and for a code of 2^63 or more.
+    ///
+    /// # Examples
+    ///
+    /// ```
+    /// # use verified_multihash::{Error, Multihash};
+    /// const ABC: Result<Multihash<32>, Error> = Multihash::wrap(0x12, b"abc");
+    /// let multihash = ABC?;
+    /// assert_eq!((multihash.code(), multihash.digest()), (0x12, &b"abc"[..]));
+    /// # Ok::<(), Error>(())
+    /// ```
+    // By hand, since no function of Rattle is `const`.
+    pub const fn wrap(code: u64, digest: &[u8]) -> Result<Self, Error> {
+        let size = digest.len();
+        if size > S || size > 255 {
+            return Err(Error::too_long(size as u64, S, None));
         }
         if code > varint::MAX {
             return Err(Error::from_code(code));
         }
-        Ok(Self::of_digest(code, digest))
+        let (mut value, mut at) = (proved::Multihash { digest: [0; S], code, size }, 0);
+        while at < size {
+            value.digest[at] = digest[at];
+            at += 1;
+        }
+        Ok(Self(value))
     }
 
     /// Returns the code, which names the hash function: less than 2^63.
-    pub fn code(&self) -> u64 {
-        self.code
+    pub const fn code(&self) -> u64 {
+        self.0.code()
     }
 
-    /// Returns the digest's length in bytes, at most `min(S, 255)`.
-    pub fn size(&self) -> u8 {
-        self.size as u8
+    /// Returns the length of the digest in bytes, at most `S` and at most 255.
+    pub const fn size(&self) -> u8 {
+        self.0.size()
     }
 
     /// Returns the bytes of the digest.
     pub fn digest(&self) -> &[u8] {
-        prefix(&self.digest, self.size)
+        self.0.digest()
     }
 
-    /// Returns the same code with the first `size` bytes of the digest, or with all of it if it is
-    /// shorter.
-    ///
-    /// The caller must decide whether the shorter digest is still secure.
-    pub fn truncate(&self, size: u8) -> Self {
-        // Copied as one value: a literal of its fields would copy the digest by way of the stack.
-        let mut truncated = *self;
-        truncated.size = self.size.min(usize::from(size));
-        truncated
-    }
-
-    /// Returns the same code and digest in a buffer of the capacity `R`.
+    /// Reads the next multihash, and stops right after it.
     ///
     /// # Errors
     ///
-    /// [`Error::invalid_size`] with the digest's length if it exceeds `R`.
+    /// The bytes that were read before an error are consumed.
+    ///
+    /// - The reader's error, if it fails. Of one that is interrupted too, if that is before the digest.
+    /// - An error if the next bytes are not a multihash with a digest of at most `S` bytes. No byte of a digest
+    ///   that is too long is read.
+    ///
+    /// # Examples
+    ///
+    /// ```
+    /// # #[cfg(feature = "std")]
+    /// use std::io::BufRead; // `BufReader` and `Cursor` are such readers too
+    /// # #[cfg(feature = "std")]
+    /// # {
+    /// let mut reader = &b"\x12\x03abc\x12\x03def"[..];
+    /// let mut digests = vec![];
+    /// while !reader.fill_buf()?.is_empty() {
+    ///     digests.push(verified_multihash::Multihash::<64>::read(&mut reader)?.digest().to_vec());
+    /// }
+    /// assert_eq!(digests, [b"abc", b"def"]);
+    /// # }
+    /// # Ok::<(), Box<dyn std::error::Error>>(())
+    /// ```
+    pub fn read<R: Read>(mut r: R) -> Result<Self, Error> {
+        match proved::Multihash::read(&mut r) {
+            Ok(value) => Ok(Self(value)),
+            Err(error) => Err(error.in_stream(S)),
+        }
+    }
+
+    /// Reads the next multihash, as [`Multihash::read`] does, but returns `None` at the end of the input.
+    ///
+    /// # Errors
+    ///
+    /// Those of [`Multihash::read`], but for an input that ends before the multihash.
+    pub fn read_next<R: Read>(mut r: R) -> Result<Option<Self>, Error> {
+        match proved::Multihash::read_next(&mut r) {
+            Ok(value) => Ok(value.map(Self)),
+            Err(error) => Err(error.in_stream(S)),
+        }
+    }
+
+    /// Decodes the multihash whose encoding is the whole of `bytes`.
+    ///
+    /// # Errors
+    ///
+    /// If `bytes` is not an encoding, or encodes a digest of more than `S` bytes.
+    ///
+    /// # Examples
+    ///
+    /// ```
+    /// # use verified_multihash::{Error, Multihash};
+    /// assert_eq!(Multihash::<64>::from_bytes(b"\x12\x03abc")?.digest(), b"abc");
+    /// let error = Multihash::<64>::from_bytes(b"\x12\x03abc, and more").unwrap_err();
+    /// assert_eq!(error.to_string(), "10 bytes follow the multihash");
+    /// # Ok::<(), Error>(())
+    /// ```
+    pub fn from_bytes(bytes: &[u8]) -> Result<Self, Error> {
+        match proved::Multihash::from_bytes(bytes) {
+            Ok(value) => Ok(Self(value)),
+            Err(error) => Err(error.in_bytes(bytes, S)),
+        }
+    }
+
+    /// Writes the encoding, and returns its length.
+    ///
+    /// # Errors
+    ///
+    /// The writer's error, if it fails. A prefix of the encoding may have been written.
+    ///
+    /// # Examples
+    ///
+    /// ```
+    /// # #[cfg(feature = "alloc")]
+    /// # {
+    /// let mut bytes = Vec::new();
+    /// assert_eq!(verified_multihash::Multihash::<64>::wrap(0x12, b"abc")?.write(&mut bytes)?, 5);
+    /// assert_eq!(bytes, b"\x12\x03abc");
+    /// # }
+    /// # Ok::<(), verified_multihash::Error>(())
+    /// ```
+    pub fn write<W: Write>(&self, mut w: W) -> Result<usize, Error> {
+        self.0.write(&mut w)
+    }
+
+    /// Returns the length of the encoding in bytes, at most 266.
+    pub fn encoded_len(&self) -> usize {
+        self.0.encoded_len()
+    }
+
+    /// Returns the encoding.
+    #[cfg(feature = "alloc")]
+    pub fn to_bytes(&self) -> alloc::vec::Vec<u8> {
+        let mut bytes = alloc::vec::Vec::with_capacity(self.encoded_len());
+        self.write(&mut bytes).expect("a vector grows");
+        bytes
+    }
+
+    /// Returns the multihash with the first `size` bytes of the digest, or with all if it has fewer.
+    ///
+    /// The caller must decide whether the shorter digest is still secure. [`Multihash::into_inner`] and `Debug`
+    /// still expose the bytes that were removed.
+    pub fn truncate(&self, size: u8) -> Self {
+        Self(self.0.truncate(size))
+    }
+
+    /// Returns the multihash with capacity for a digest of at most `R` bytes.
+    ///
+    /// # Errors
+    ///
+    /// For a digest of more than `R` bytes.
+    // By hand: the proved one takes Rust's compiler twice the instructions.
     pub fn resize<const R: usize>(&self) -> Result<Multihash<R>, Error> {
-        if self.size > R {
-            return Err(Error::from_size(self.size as u64));
+        let mut result = Ok(Multihash::default());
+        match &mut result {
+            Ok(Multihash(resized)) if self.0.size <= R => {
+                resized.code = self.0.code;
+                resized.size = self.0.size;
+                resized.digest[..self.0.size].copy_from_slice(&self.0.digest[..self.0.size]);
+            }
+            _ => result = Err(Error::too_long(self.size().into(), R, None)),
         }
-        Ok(Multihash::of_digest(self.code, self.digest()))
+        result
     }
 
-    /// Returns the code, the digest padded with zeros to `S` bytes, and the digest's length in bytes.
+    /// Returns the code, the array that starts with the digest, and the length of the digest.
     pub fn into_inner(self) -> (u64, [u8; S], u8) {
-        (self.code, Self::array_of(self.digest()), self.size())
+        (self.code(), self.0.digest, self.size())
     }
 
-    // Whether a digest of that many bytes fits the buffer.
-    #[inline(always)]
-    pub(crate) fn is_valid_size(size: u64) -> bool {
-        size <= S as u64 && size <= 255
+    /// Writes the SCALE encoding, nine bytes and the digest, and returns its length: the code in eight bytes, least
+    /// significant first, the length of the digest in one byte, and the digest.
+    ///
+    /// # Errors
+    ///
+    /// The writer's error, if it fails. A prefix of the encoding may have been written.
+    pub fn scale_encode<W: Write>(&self, mut w: W) -> Result<usize, Error> {
+        self.0.scale_encode(&mut w)
     }
 
-    // The multihash of a code and a digest that fit.
-    #[inline(always)]
-    pub(crate) fn of_digest(code: u64, digest: &[u8]) -> Self {
-        Self::in_buffer(code, digest.len(), Self::array_of(digest))
-    }
-
-    // The multihash of a buffer whose first bytes are the digest.
-    #[inline(always)]
-    pub(crate) fn in_buffer(code: u64, size: usize, buffer: [u8; S]) -> Self {
-        Multihash {
-            code,
-            digest: buffer,
-            size,
+    /// Reads the multihash whose SCALE encoding comes next, and stops right after it.
+    ///
+    /// # Errors
+    ///
+    /// The reader's error, if it fails, and an error if the input ends before, if the code is 2^63 or more, or if the
+    /// digest has more than `S` bytes. The bytes that were read before an error are consumed, and none of a digest that
+    /// is too long.
+    pub fn scale_decode<R: Read>(mut r: R) -> Result<Self, Error> {
+        match proved::Multihash::scale_decode(&mut r) {
+            Ok(value) => Ok(Self(value)),
+            Err(error) => Err(error.in_stream(S)),
         }
-    }
-
-    // The digest followed by zeros.
-    #[inline(always)]
-    fn array_of(digest: &[u8]) -> [u8; S] {
-        let mut array = [0; S];
-        array[..digest.len()].copy_from_slice(digest);
-        array
     }
 }
 
-/// Prints the code, the size and the digest, and no byte after the digest.
 impl<const S: usize> fmt::Debug for Multihash<S> {
-    fn fmt(&self, f: &mut fmt::Formatter) -> fmt::Result {
-        f.debug_struct("Multihash")
-            .field("code", &self.code())
-            .field("size", &self.size())
-            .field("digest", &self.digest())
-            .finish()
+    fn fmt(&self, f: &mut fmt::Formatter<'_>) -> fmt::Result {
+        let (code, digest, size) = self.into_inner();
+        f.debug_struct("Multihash").field("code", &code).field("size", &size).field("digest", &digest).finish()
     }
 }
 
-/// The code 0 and the empty digest.
-impl<const S: usize> Default for Multihash<S> {
-    fn default() -> Self {
-        Multihash {
-            code: 0,
-            size: 0,
-            digest: [0; S],
-        }
+impl<const A: usize, const B: usize> PartialEq<Multihash<B>> for Multihash<A> {
+    fn eq(&self, other: &Multihash<B>) -> bool {
+        self.0.same_as(&other.0)
     }
 }
 
-// The first `len` bytes. A slice that is passed in is known to hold bytes.
-#[inline(always)]
-fn prefix(bytes: &[u8], len: usize) -> &[u8] {
-    &bytes[..len]
+impl<const S: usize> Eq for Multihash<S> {}
+
+/// By code, then by digest length, then by the first digest byte that differs.
+impl<const S: usize> Ord for Multihash<S> {
+    fn cmp(&self, other: &Self) -> Ordering {
+        self.0.cmp(&other.0)
+    }
+}
+
+impl<const S: usize> PartialOrd for Multihash<S> {
+    fn partial_cmp(&self, other: &Self) -> Option<Ordering> {
+        Some(self.cmp(other))
+    }
+}
+
+/// Hashes as the pair of the code and the digest, `(u64, &[u8])`, does.
+impl<const S: usize> Hash for Multihash<S> {
+    fn hash<H: Hasher>(&self, state: &mut H) {
+        self.0.hash(state);
+    }
+}
+
+#[cfg(feature = "alloc")]
+impl<const S: usize> From<Multihash<S>> for alloc::vec::Vec<u8> {
+    fn from(multihash: Multihash<S>) -> Self {
+        multihash.to_bytes()
+    }
+}
+
+/// From an encoding, as [`Multihash::from_bytes`].
+impl<const S: usize> TryFrom<&[u8]> for Multihash<S> {
+    type Error = Error;
+
+    fn try_from(bytes: &[u8]) -> Result<Self, Error> {
+        Self::from_bytes(bytes)
+    }
 }

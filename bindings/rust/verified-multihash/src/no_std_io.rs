@@ -1,12 +1,137 @@
-//! Readers and writers that need no operating system, and their error.
-// Made by tools/generate rust.
-use crate::rattle::{std, *};
+//! Readers and writers for targets without `std`: the part of `std::io` that this crate uses.
+use core::fmt;
 
-mod error;
-mod impls;
-mod slice_writer;
-mod traits;
+/// The error of a reader or a writer of this module.
+#[derive(Debug)]
+pub struct Error {
+    kind: ErrorKind,
+    error: &'static str,
+}
 
-pub use error::Error;
-pub use slice_writer::SliceWriter;
-pub use traits::{Read, Write};
+#[derive(Clone, Copy, Debug, PartialEq)]
+pub(crate) enum ErrorKind {
+    UnexpectedEof,
+    WriteZero,
+    #[cfg(feature = "alloc")]
+    OutOfMemory,
+    Other,
+}
+
+impl Error {
+    /// Returns an error of the reader or the writer itself, with its text.
+    pub const fn other(text: &'static str) -> Self {
+        Self { kind: ErrorKind::Other, error: text }
+    }
+
+    pub(crate) fn kind(&self) -> ErrorKind {
+        self.kind
+    }
+}
+
+impl From<ErrorKind> for Error {
+    fn from(kind: ErrorKind) -> Self {
+        let error = match kind {
+            ErrorKind::UnexpectedEof => "failed to fill whole buffer",
+            ErrorKind::WriteZero => "failed to write whole buffer",
+            #[cfg(feature = "alloc")]
+            ErrorKind::OutOfMemory => "out of memory",
+            ErrorKind::Other => "other error",
+        };
+        Self { kind, error }
+    }
+}
+
+impl fmt::Display for Error {
+    fn fmt(&self, f: &mut fmt::Formatter<'_>) -> fmt::Result {
+        self.error.fmt(f)
+    }
+}
+
+impl core::error::Error for Error {}
+
+/// A source of bytes, like `std::io::Read`.
+pub trait Read {
+    /// Reads up to `buf.len()` bytes into the front of `buf`, and returns their number. It returns 0 at the end.
+    fn read(&mut self, buf: &mut [u8]) -> Result<usize, Error>;
+
+    /// Fills `buf`. The bytes that were read before an error are consumed.
+    fn read_exact(&mut self, mut buf: &mut [u8]) -> Result<(), Error> {
+        while !buf.is_empty() {
+            match self.read(buf)? {
+                0 => return Err(ErrorKind::UnexpectedEof.into()),
+                count => buf = &mut buf[count..],
+            }
+        }
+        Ok(())
+    }
+}
+
+/// A sink of bytes, like `std::io::Write`.
+pub trait Write {
+    /// Writes some of the first bytes of `buf`, and returns their number. It returns 0 if the sink is full.
+    fn write(&mut self, buf: &[u8]) -> Result<usize, Error>;
+
+    /// Writes all of `buf`. Some of its first bytes may have been written before an error.
+    fn write_all(&mut self, mut buf: &[u8]) -> Result<(), Error> {
+        while !buf.is_empty() {
+            match self.write(buf)? {
+                0 => return Err(ErrorKind::WriteZero.into()),
+                count => buf = &buf[count..],
+            }
+        }
+        Ok(())
+    }
+}
+
+impl<R: Read + ?Sized> Read for &mut R {
+    fn read(&mut self, buf: &mut [u8]) -> Result<usize, Error> {
+        R::read(self, buf)
+    }
+
+    fn read_exact(&mut self, buf: &mut [u8]) -> Result<(), Error> {
+        R::read_exact(self, buf)
+    }
+}
+
+impl<W: Write + ?Sized> Write for &mut W {
+    fn write(&mut self, buf: &[u8]) -> Result<usize, Error> {
+        W::write(self, buf)
+    }
+}
+
+/// Consumes the bytes from the front of the slice. A `read_exact` that fails consumes none.
+impl Read for &[u8] {
+    fn read(&mut self, buf: &mut [u8]) -> Result<usize, Error> {
+        let (front, rest) = self.split_at(self.len().min(buf.len()));
+        buf[..front.len()].copy_from_slice(front);
+        *self = rest;
+        Ok(front.len())
+    }
+
+    fn read_exact(&mut self, buf: &mut [u8]) -> Result<(), Error> {
+        if self.len() < buf.len() {
+            return Err(ErrorKind::UnexpectedEof.into());
+        }
+        self.read(buf).map(|_| ())
+    }
+}
+
+/// Overwrites the front of the slice, and advances past what was written.
+impl Write for &mut [u8] {
+    fn write(&mut self, buf: &[u8]) -> Result<usize, Error> {
+        let length = self.len().min(buf.len());
+        let (front, rest) = core::mem::take(self).split_at_mut(length);
+        front.copy_from_slice(&buf[..length]);
+        *self = rest;
+        Ok(length)
+    }
+}
+
+/// Appends to the vector.
+#[cfg(feature = "alloc")]
+impl Write for alloc::vec::Vec<u8> {
+    fn write(&mut self, buf: &[u8]) -> Result<usize, Error> {
+        self.extend_from_slice(buf);
+        Ok(buf.len())
+    }
+}

@@ -1,4 +1,4 @@
-//! For serde: hexadecimal in formats for people, such as JSON, and bytes in others. It is written by hand.
+//! For serde: hexadecimal in formats for people, such as JSON, and bytes in others.
 use crate::text::LENGTH_MAX;
 use crate::Multihash;
 use core::fmt;

@@ -1,8 +1,8 @@
-//! Multihashes from an input that arrives in parts. It is written by hand, over the proved [`Multihash::read`].
+//! Multihashes from an input that arrives in parts.
 #[cfg(feature = "std")]
 use crate::host::io::{self, BufRead, ErrorKind};
 use crate::text::LENGTH_MAX;
-use crate::{DecodeError, Head, Multihash};
+use crate::{Error, Head, Multihash};
 
 /// Decodes concatenated multihashes from parts of an input, and keeps one that is incomplete until its rest arrives.
 ///
@@ -50,7 +50,7 @@ impl<const S: usize> Decoder<S> {
     ///
     /// If the next bytes are not a multihash with a digest of at most `S` bytes. The part was consumed up to and
     /// including the byte that determines the error, and each later call returns the same error.
-    pub fn decode(&mut self, part: &mut &[u8]) -> Result<Option<Multihash<S>>, DecodeError> {
+    pub fn decode(&mut self, part: &mut &[u8]) -> Result<Option<Multihash<S>>, Error> {
         if self.length == 0 {
             let mut rest = *part;
             if let Ok(multihash) = Multihash::read(&mut rest) {
@@ -63,7 +63,7 @@ impl<const S: usize> Decoder<S> {
 
     /// Decodes a multihash that is not whole in the part.
     #[cold]
-    fn decode_kept(&mut self, part: &mut &[u8]) -> Result<Option<Multihash<S>>, DecodeError> {
+    fn decode_kept(&mut self, part: &mut &[u8]) -> Result<Option<Multihash<S>>, Error> {
         let head = loop {
             match Head::read_front(self.kept()) {
                 Err(error) if error.is_insufficient() && !part.is_empty() => self.receive(part, self.length + 1),
@@ -71,7 +71,7 @@ impl<const S: usize> Decoder<S> {
             }
         };
         match head {
-            Ok(head) if head.digest_len <= Multihash::<S>::LIMIT => {
+            Ok(head) if head.digest_len <= S.min(255) as u64 => {
                 self.receive(part, head.digest_offset + head.digest_len as usize);
             }
             _ => {} // more of the part is not needed
@@ -82,7 +82,7 @@ impl<const S: usize> Decoder<S> {
                 Ok(Some(multihash))
             }
             Err(error) if error.is_incomplete() => Ok(None),
-            Err(error) => Err(Multihash::<S>::explain(self.kept(), error)),
+            Err(error) => Err(error.in_bytes(self.kept(), S)),
         }
     }
 
@@ -100,9 +100,9 @@ impl<const S: usize> Decoder<S> {
     ///
     /// If the input ends inside a multihash: the error is incomplete, the bytes are still kept, and more parts may follow.
     /// After an error of [`Decoder::decode`] that error.
-    pub fn finish(&self) -> Result<(), DecodeError> {
+    pub fn finish(&self) -> Result<(), Error> {
         match Multihash::<S>::read(&mut self.kept()) {
-            Err(error) if self.length > 0 => Err(Multihash::<S>::explain(self.kept(), error)),
+            Err(error) if self.length > 0 => Err(error.in_bytes(self.kept(), S)),
             _ => Ok(()),
         }
     }
@@ -179,7 +179,7 @@ impl<R: BufRead, const S: usize> Reader<R, S> {
     /// - `InvalidData` if the next bytes are not a multihash with a digest of at most `S` bytes. Each later call returns
     ///   the same error.
     ///
-    /// The last two are made of a [`DecodeError`], which [`io::Error::get_ref`] returns.
+    /// The last two are made of an [`Error`], which [`io::Error::get_ref`] returns.
     pub fn read_next(&mut self) -> io::Result<Option<Multihash<S>>> {
         if !self.kept().is_empty() {
             self.decoder.decode(&mut &[][..])?; // the error of an earlier call
@@ -215,14 +215,5 @@ impl<R: BufRead, const S: usize> Iterator for Reader<R, S> {
         let next = self.read_next();
         self.has_failed = next.is_err();
         next.transpose()
-    }
-}
-
-/// The kind is `UnexpectedEof` if the input is incomplete, and otherwise `InvalidData`.
-#[cfg(feature = "std")]
-impl From<DecodeError> for io::Error {
-    fn from(error: DecodeError) -> Self {
-        let kind = if error.is_incomplete() { ErrorKind::UnexpectedEof } else { ErrorKind::InvalidData };
-        Self::new(kind, error)
     }
 }

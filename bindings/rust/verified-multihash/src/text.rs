@@ -1,6 +1,6 @@
-//! Hexadecimal texts, and the conversion from bytes. It is written by hand.
+//! Hexadecimal texts.
 use crate::rattle::std;
-use crate::{DecodeError, Error, Multihash};
+use crate::{Error, Multihash};
 use core::{fmt, str};
 
 /// The maximum length of an encoding in bytes.
@@ -47,7 +47,7 @@ pub enum TextError {
     /// The text has an odd number of digits.
     OddLength(usize),
     /// The bytes are not a multihash.
-    NotMultihash(DecodeError),
+    NotMultihash(Error),
 }
 
 impl fmt::Display for TextError {
@@ -84,20 +84,13 @@ impl<const S: usize> str::FromStr for Multihash<S> {
         // no bytes after these are of an encoding, and their number is known
         let length = text.len() / 2;
         let bytes = &bytes[..length.min(LENGTH_MAX)];
-        let error = match Self::read(&mut &*bytes) {
-            Ok(multihash) if multihash.encoded_len() == length => return Ok(multihash),
-            Ok(multihash) => Error::from_size((length - multihash.encoded_len()) as u64),
-            Err(error) => error,
-        };
-        Err(TextError::NotMultihash(Self::explain(bytes, error)))
-    }
-}
-
-/// From an encoding, as `from_bytes`, with an error that says where the bytes are wrong.
-impl<const S: usize> TryFrom<&[u8]> for Multihash<S> {
-    type Error = DecodeError;
-
-    fn try_from(bytes: &[u8]) -> Result<Self, DecodeError> {
-        Self::from_bytes(bytes).map_err(|error| Self::explain(bytes, error))
+        match Self::read(bytes) {
+            Ok(multihash) if multihash.encoded_len() == length => Ok(multihash),
+            Ok(multihash) => {
+                let end = multihash.encoded_len();
+                Err(TextError::NotMultihash(Error::trailing((length - end) as u64, end)))
+            }
+            Err(error) => Err(TextError::NotMultihash(error.in_bytes(bytes, S))),
+        }
     }
 }

@@ -7,8 +7,26 @@ use draw::{Draw, Fails, Slow};
 use std::fmt::Debug;
 use std::panic::{catch_unwind, AssertUnwindSafe};
 use verified_multihash::form::*;
-use verified_multihash::no_std_io::{Error, Read, SliceWriter, Write};
 use verified_multihash::{form, Multihash};
+
+#[cfg(feature = "std")]
+use std::io;
+#[cfg(not(feature = "std"))]
+use verified_multihash::no_std_io as io;
+
+use io::{Error, Read, Write};
+
+/// The error of a reader or a writer itself.
+fn other(text: &'static str) -> Error {
+    #[cfg(feature = "std")]
+    return Error::new(io::ErrorKind::Other, text);
+    #[cfg(not(feature = "std"))]
+    return Error::other(text);
+}
+
+fn unexpected_eof() -> Error {
+    Read::read_exact(&mut &b""[..], &mut [0]).expect_err("there are no bytes")
+}
 
 type Cid = Both<Tag<1>, Both<Number, Multihash<64>>>;
 type Identifier = Choice<Case<Both<Number, Multihash<64>>, 1, Tagged<Both<Tag<32>, Bytes<32>>, 0x12>>>;
@@ -65,11 +83,11 @@ fn check_prefixes<T: Form + PartialEq + Debug>(value: &T, bytes: &[u8]) {
         assert!(from_bytes::<T>(cut).expect_err("a prefix").is_incomplete());
         assert!(read::<T, _>(&mut Slow(cut)).expect_err("a prefix").is_incomplete());
         let mut out = vec![0xa5; bytes.len()];
-        assert!(value.write(&mut SliceWriter::new(&mut out[..length])).is_err());
+        assert!(value.write(&mut &mut out[..length]).is_err());
         assert_eq!((&out[..length], out[length]), (cut, 0xa5));
         let mut fails = Fails(bytes, length);
         match read::<T, _>(&mut fails) {
-            Err(FormError::Failed(error)) => assert!(error.io().expect("the reader's").is_other()),
+            Err(FormError::Failed(error)) => assert_eq!(error.io().expect("the reader's").to_string(), "reader"),
             other => panic!("{other:?}"),
         }
         assert_eq!(fails.0.len(), bytes.len() - length);
@@ -192,9 +210,8 @@ impl Read for Lawless<'_> {
         Ok(match self.0.below(12) {
             _ if self.1 > 5000 => 0,
             0 => 0,
-            1 => return Err(Error::other("lawless")),
-            2 => return Err(Error::unexpected_eof()),
-            3 => return Err(Error::out_of_memory()),
+            1 => return Err(other("lawless")),
+            2 | 3 => return Err(unexpected_eof()),
             4 => buf.len() + 1 + self.0.below(5) as usize,
             5 => usize::MAX,
             6 => self.0.below(buf.len() as u64 + 1) as usize,
@@ -204,15 +221,18 @@ impl Read for Lawless<'_> {
 }
 
 impl Write for Lawless<'_> {
-    const ALLOCATES: bool = false;
-
     fn write(&mut self, buf: &[u8]) -> Result<usize, Error> {
         match self.0.below(8) {
             0 => Ok(0),
             1 => Ok(buf.len() + 1),
-            2 => Err(Error::unexpected_eof()),
+            2 => Err(unexpected_eof()),
             _ => Ok(buf.len()),
         }
+    }
+
+    #[cfg(feature = "std")]
+    fn flush(&mut self) -> Result<(), Error> {
+        unreachable!("nothing flushes")
     }
 }
 
@@ -291,13 +311,14 @@ fn limits() {
 #[cfg(feature = "std")]
 #[test]
 fn kinds() {
-    use std::io::ErrorKind;
-    let kind = |bytes: &[u8]| with_io(bytes, read::<Node, _>).expect_err("no node").kind();
+    use io::ErrorKind;
+    let kind = |mut bytes: &[u8]| Error::from(read::<Node, _>(&mut bytes).expect_err("no node")).kind();
     assert_eq!(kind(b"\x01\xe9\x07"), ErrorKind::InvalidData); // 1,001 links
     assert_eq!(kind(b"\x80\0"), ErrorKind::InvalidData);
     assert_eq!(kind(b"\x01\x01\x12\x03ab"), ErrorKind::UnexpectedEof);
-    let full = &mut [0; 2][..];
-    let error = with_io(full, |to: &mut verified_multihash::Io<&mut [u8]>| node(&mut Draw(3)).write(to));
-    assert_eq!(error.expect_err("it is full").kind(), ErrorKind::WriteZero);
-    assert_eq!(with_io(&b"\x01\0\0"[..], read::<Node, _>).expect("a node").first.get(), 1);
+    let full = node(&mut Draw(3)).write(&mut &mut [0; 2][..]).expect_err("it is full");
+    assert_eq!(Error::from(full).kind(), ErrorKind::WriteZero);
+    assert_eq!(read::<Node, _>(&mut io::Cursor::new(b"\x01\0\0")).expect("a node").first.get(), 1);
+    let mut file: Box<dyn Read> = Box::new(&b"\x01\0\0"[..]);
+    assert_eq!(read::<Node, _>(&mut file).expect("a node").first.get(), 1);
 }

@@ -2,7 +2,7 @@
 #![cfg(feature = "std")]
 use std::io::{Cursor, ErrorKind};
 use verified_multihash::form::{
-    all_from_bytes, from_bytes, to_bytes, with_io, BigEndian, Block, Bytes, Form, FormError, Number, Stream,
+    all_from_bytes, from_bytes, to_bytes, BigEndian, Block, Bytes, Form, FormError, Number, Stream,
 };
 use verified_multihash::{codes, form, Multihash};
 
@@ -70,22 +70,21 @@ fn entry(number: u32) -> Entry {
 
 /// Reads all entries of a log, and the kind of the error that ends it.
 fn entries(bytes: &[u8]) -> (Vec<Entry>, Option<ErrorKind>) {
-    let mut found = Vec::new();
-    let result = with_io(bytes, |file| {
-        let mut log = Stream::new(file);
-        while let Some(entry) = log.read_next::<Entry>()? {
-            found.push(entry);
+    let (mut found, mut log) = (Vec::new(), Stream::new(bytes));
+    loop {
+        match log.read_next::<Entry>() {
+            Ok(Some(entry)) => found.push(entry),
+            Ok(None) => return (found, None),
+            Err(error) => return (found, Some(std::io::Error::from(error).kind())),
         }
-        Ok(())
-    });
-    (found, result.err().map(|error| error.kind()))
+    }
 }
 
 #[test]
 fn log() {
     let mut file = Cursor::new(Vec::new());
     for number in 0..3 {
-        with_io(&mut file, |file| entry(number).write(file)).expect("memory");
+        entry(number).write(&mut file).expect("memory");
     }
     let bytes = file.into_inner();
     let all = [entry(0), entry(1), entry(2)];

@@ -5,35 +5,41 @@ mod slow;
 
 use slow::{Event, Slow};
 use std::io::{self, BufReader, ErrorKind};
-use verified_multihash::{list, no_std_io, with_io, DecodeError, Error, Io, Multihash, Reader};
+use verified_multihash::{list, varint, Error, Multihash, Reader};
 
 type Value = Multihash<200>;
+type Reads = fn(&mut Slow<&[u8]>) -> Result<Value, Error>;
+type Writes = dyn Fn(&mut Slow<Vec<u8>>) -> Result<(), Error>;
 
-/// Reads and writes two encodings, with an event before each byte of the second, and calls `check` with the result.
-fn each_byte(event: Event, is_failure: bool, check: impl Fn(io::Result<()>, usize, bool)) {
+/// Reads and writes two encodings, in binary, as a list and in SCALE, with an event before each byte of the second, and
+/// calls `check` with the result, and whether it was read.
+fn each_byte(event: Event, check: impl Fn(Result<(), Error>, bool)) {
     let value = Value::wrap(0x100, &[7; 150]).expect("it fits");
-    let encoding = value.to_bytes().expect("memory");
-    let both = [&encoding[..], &encoding].concat();
-    for at in 0..encoding.len() {
-        let mut reader = Slow { bytes: &both[..], at: encoding.len() + at, event };
-        assert_eq!(with_io(&mut reader, Value::read_next).expect("it is whole"), Some(value));
-        let read = with_io(&mut reader, Value::read).map(|read| assert_eq!(read, value));
-        let mut writer = Slow { bytes: Vec::new(), at: encoding.len() + at, event };
-        assert_eq!(with_io(&mut writer, |to: &mut Io<_>| value.write(to)).expect("it is whole"), encoding.len());
-        let written = with_io(&mut writer, |writer| list::write_list(&[value], writer));
-        let length = encoding.len() + if is_failure { at } else { encoding.len() };
-        assert_eq!((reader.bytes, &writer.bytes[..]), (&both[length..], &both[..length]));
-        check(read, at, true);
-        check(written, at, false);
+    let scale = |out: &mut Slow<Vec<u8>>| value.scale_encode(out).map(|_| ());
+    let calls: [(Reads, &Writes); 3] = [
+        (|input| Value::read(input), &|out| value.write(out).map(|_| ())),
+        (|input| list::read_list(input, 1).map(|list| list[0]), &|out| list::write_list(&[value], out)),
+        (|input| Value::scale_decode(input), &scale),
+    ];
+    for (read, write) in calls {
+        let mut whole = Slow { bytes: Vec::new(), at: usize::MAX, event };
+        write(&mut whole).expect("memory");
+        let both = [&whole.bytes[..], &whole.bytes].concat();
+        let length = whole.bytes.len();
+        for at in 0..length {
+            let mut reader = Slow { bytes: &both[..], at: length + at, event };
+            assert_eq!(read(&mut reader).expect("it is whole"), value);
+            check(read(&mut reader).map(|read| assert_eq!(read, value)), true);
+            let mut writer = Slow { bytes: Vec::new(), at: length + at, event };
+            write(&mut writer).expect("it is whole");
+            check(write(&mut writer), false);
+            let end = length + at;
+            assert_eq!((reader.bytes, &writer.bytes[..]), (&both[end..], &both[..end]));
+        }
     }
 }
 
-#[test]
-fn interrupted() {
-    each_byte(|| Err(ErrorKind::Interrupted.into()), false, |result, _, _| result.expect("it is called again"));
-}
-
-/// The error is the reader's or the writer's own, whatever its kind.
+/// The source of the error, and what `?` makes of it, are the reader's or the writer's own, whatever its kind.
 #[test]
 fn failing() {
     for event in [
@@ -43,8 +49,11 @@ fn failing() {
         || Err(ErrorKind::WouldBlock.into()),
     ] {
         let wanted = event().expect_err("a failure");
-        each_byte(event, true, |result, _, _| {
+        each_byte(event, |result, _| {
             let error = result.expect_err("a failure");
+            assert_eq!((error.to_string(), error.consumed()), (wanted.to_string(), None));
+            assert_eq!(error.io().map(io::Error::kind), Some(wanted.kind()));
+            let error = io::Error::from(error);
             assert_eq!((error.kind(), error.raw_os_error()), (wanted.kind(), wanted.raw_os_error()));
             assert_eq!(error.to_string(), wanted.to_string());
         });
@@ -54,16 +63,35 @@ fn failing() {
 /// At the end of the input, and if a writer is full.
 #[test]
 fn ends() {
-    each_byte(|| Ok(0), true, |result, at, is_reader| {
+    each_byte(|| Ok(0), |result, is_reader| {
         let error = result.expect_err("the end");
-        let (kind, text) = match is_reader {
-            true if at < 4 => (ErrorKind::UnexpectedEof, "not enough input bytes"),
-            true => (ErrorKind::UnexpectedEof, "failed to fill whole buffer"),
-            false => (ErrorKind::WriteZero, "failed to write whole buffer"),
-        };
-        assert_eq!((error.kind(), error.to_string()), (kind, text.into()));
+        assert_eq!(error.is_incomplete(), is_reader);
+        let kind = if is_reader { ErrorKind::UnexpectedEof } else { ErrorKind::WriteZero };
+        assert_eq!(io::Error::from(error).kind(), kind);
     });
-    assert_eq!(with_io(io::empty(), Box::new(Value::read_next) as Box<dyn FnOnce(&mut _) -> _>).expect("end"), None);
+    assert_eq!(Value::read_next(io::empty()).expect("the end"), None);
+    assert_eq!(varint::read_next(&mut io::empty()).expect("the end"), None);
+}
+
+/// Each kind of reader and writer of `std::io`.
+#[test]
+fn readers() {
+    use std::io::{Read, Seek, Write};
+    use std::net::{TcpListener, TcpStream};
+    let value = Value::wrap(0x12, b"abc").expect("it fits");
+    let listener = TcpListener::bind("127.0.0.1:0").expect("a port");
+    let mut sender = TcpStream::connect(listener.local_addr().expect("its address")).expect("a connection");
+    let (mut receiver, _) = listener.accept().expect("a connection");
+    value.write(&mut sender).expect("it is sent");
+    assert_eq!(Value::read(&mut receiver).expect("it is received"), value);
+    value.write(&mut sender as &mut dyn Write).expect("it is sent");
+    assert_eq!(Value::read(&mut receiver as &mut dyn Read).expect("it is received"), value);
+    let mut file = io::Cursor::new(Vec::new());
+    value.write(&mut file).expect("memory");
+    list::write_list(&[value; 2], &mut file).expect("memory");
+    file.rewind().expect("its start");
+    let boxed: Box<dyn Read> = Box::new(BufReader::new(file));
+    assert_eq!(list::read_list::<200, _>(boxed, 3).expect("they are whole"), [value; 3]);
 }
 
 #[test]
@@ -71,8 +99,7 @@ fn kinds() {
     let of = |error: Error| {
         let text = error.to_string();
         let io = io::Error::from(error);
-        let source = io.get_ref().and_then(|source| source.downcast_ref::<Error>());
-        assert_eq!(source.map(Error::to_string), (io.kind() != ErrorKind::OutOfMemory).then_some(text));
+        assert_eq!(io.get_ref().and_then(|source| source.downcast_ref::<Error>()).map(Error::to_string), Some(text));
         io.kind()
     };
     for bytes in [&b"\x12\xff\x01"[..], b"\x92\x00", &[0xff; 9], b"\x00\x00\x00"] {
@@ -80,22 +107,9 @@ fn kinds() {
     }
     assert_eq!(of(Value::wrap(u64::MAX, b"").expect_err("too large")), ErrorKind::InvalidData);
     assert_eq!(of(Value::from_bytes(b"\x12\x03ab").expect_err("an end")), ErrorKind::UnexpectedEof);
-    let failed = list::read_list::<4, _>(&mut &b""[..], usize::MAX);
-    assert_eq!(of(failed.expect_err("out of memory")), ErrorKind::OutOfMemory);
-    assert_eq!(of(no_std_io::Error::other("mine").into()), ErrorKind::Other);
-}
-
-/// The error of a call that failed because of the bytes, after one of the stream that `call` did not return.
-#[test]
-fn last_error() {
-    let event: Event = || Err(ErrorKind::WouldBlock.into());
-    let source = Slow { bytes: &[0xff; 20][..], at: 0, event };
-    let read = |source: &mut Io<_>| {
-        assert!(Value::read(source).expect_err("a failure").io().is_some());
-        Value::read(source)
-    };
-    let error = with_io(source, read).expect_err("no multihash");
-    assert_eq!((error.kind(), error.to_string()), (ErrorKind::InvalidData, "input bytes exceed maximum".into()));
+    assert_eq!(of(Value::from_bytes(b"\x12").expect_err("an end")), ErrorKind::UnexpectedEof);
+    let failed = list::read_list::<4, _>(&b""[..], usize::MAX).expect_err("out of memory");
+    assert_eq!(io::Error::from(failed).kind(), ErrorKind::OutOfMemory);
 }
 
 /// A reader continues after a source that fails, is interrupted or ends before any byte, and loses none.
@@ -108,7 +122,7 @@ fn continued() {
         (|| Ok(0), Some(ErrorKind::UnexpectedEof)),
     ];
     let value = Value::wrap(0x100, &[7; 150]).expect("it fits");
-    let encoding = value.to_bytes().expect("memory");
+    let encoding = value.to_bytes();
     let both = [&encoding[..], &encoding].concat();
     for (event, kind) in events {
         for at in 0..both.len() {
@@ -140,8 +154,8 @@ fn malformed() {
     for source in [&b"abcde"[..], b""] {
         *reader.get_mut() = source;
         let error = reader.read_next().expect_err("it is too long");
-        let inner = error.get_ref().and_then(|inner| inner.downcast_ref::<DecodeError>()).expect("it");
-        assert_eq!((error.kind(), inner.error().invalid_size()), (ErrorKind::InvalidData, Some(5)));
+        let inner = error.get_ref().and_then(|inner| inner.downcast_ref::<Error>()).expect("it");
+        assert_eq!((error.kind(), inner.invalid_size()), (ErrorKind::InvalidData, Some(5)));
         assert_eq!(error.to_string(), "the digest has 5 bytes, and the limit is 4");
     }
     let found: io::Result<Vec<Multihash<4>>> = Reader::new(&b"\0\0\x12\x01a"[..]).collect();

@@ -1,5 +1,5 @@
 //! Texts of values and of errors, and serde.
-use verified_multihash::{DecodeError, Error, Multihash, TextError};
+use verified_multihash::{varint, Decoder, Error, Head, Multihash, TextError};
 
 type Value = Multihash<64>;
 
@@ -42,7 +42,7 @@ fn rejected() {
         assert_eq!(text.parse::<Multihash<255>>().expect_err("no multihash").to_string(), wanted);
     }
     let error = "00".repeat(300).parse::<Value>().expect_err("bytes follow");
-    assert!(matches!(error, TextError::NotMultihash(error) if error.error().invalid_size() == Some(298)));
+    assert!(matches!(error, TextError::NotMultihash(error) if error.invalid_size() == Some(298)));
     let error = TextError::NotHexadecimal { index: 0, character: '"' };
     assert_eq!(error.to_string(), r#"the text has "\"" at index 0, which is no hexadecimal digit"#);
 }
@@ -58,48 +58,59 @@ fn messages() {
     }
     for line in std::fs::read_to_string(path).expect("the list").lines().skip(1) {
         let columns: Vec<&str> = line.split('\t').collect();
+        if columns[1] == "scale_decode" {
+            continue; // it reads from a stream
+        }
         let digits = columns[3].trim_matches('-');
         let input: Vec<u8> = (0..digits.len() / 2)
             .map(|at| u8::from_str_radix(&digits[2 * at..2 * at + 2], 16).expect("hexadecimal"))
             .collect();
-        let explained = match columns[2] {
-            "0" => explained::<0>(columns[1], &input),
-            "2" => explained::<2>(columns[1], &input),
-            "64" => explained::<64>(columns[1], &input),
-            "255" => explained::<255>(columns[1], &input),
-            _ => explained::<300>(columns[1], &input),
+        let error = match columns[2] {
+            "0" => error::<0>(columns[1], &input),
+            "2" => error::<2>(columns[1], &input),
+            "64" => error::<64>(columns[1], &input),
+            "255" => error::<255>(columns[1], &input),
+            _ => error::<300>(columns[1], &input),
         };
-        assert_eq!(explained.to_string(), columns[5]);
+        assert_eq!(error.to_string(), columns[5]);
     }
 }
 
-fn explained<const S: usize>(call: &str, input: &[u8]) -> DecodeError {
-    let of = |result: Result<Multihash<S>, Error>| result.expect_err("no multihash");
-    match call {
-        "read" => Multihash::<S>::explain(input, of(Multihash::read(&mut &input[..]))),
-        "from_bytes" => Multihash::<S>::explain(input, of(Multihash::from_bytes(input))),
-        "scale_decode" => Multihash::<S>::explain_scale(input, of(Multihash::scale_decode(&mut &input[..]))),
+fn error<const S: usize>(call: &str, input: &[u8]) -> Error {
+    let result: Result<Multihash<S>, Error> = match call {
+        "read" => {
+            let (mut decoder, mut rest) = (Decoder::new(), input);
+            match decoder.decode(&mut rest) {
+                Ok(None) if decoder.kept().is_empty() => Multihash::from_bytes(b""),
+                Ok(None) => Err(decoder.finish().expect_err("it is incomplete")),
+                decoded => decoded.map(|found| found.expect("it is whole")),
+            }
+        }
+        "from_bytes" => Multihash::from_bytes(input),
         name => panic!("a call that this test does not have: {name}"),
-    }
+    };
+    result.expect_err("no multihash")
 }
 
-/// Errors that are not of the bytes keep their texts, and no pair of an input and an error panics.
+/// Errors that are not of an encoding.
 #[test]
 fn other_errors() {
-    let full = || Value::default().write(&mut &mut [][..]).expect_err("it is full");
-    for text in [Value::explain(b"", full()).to_string(), Value::explain_scale(b"", full()).to_string()] {
-        assert_eq!(text, "failed to write whole buffer");
-    }
-    let large = Value::wrap(1 << 63, b"").expect_err("too large");
-    assert_eq!(Value::explain(b"", large).to_string(), "the code 9223372036854775808 is 2^63 or more");
-    let long = Multihash::<4>::scale_decode(&mut &b"\x12\0\0\0\0\0\0\0\x05abcde"[..]).expect_err("too long");
-    let text = Multihash::<4>::explain_scale(b"\x12\0\0\0\0\0\0\0\x05abcde", long).to_string();
-    assert_eq!(text, "the digest has 5 bytes, and the limit is 4");
-    let inputs = [&b""[..], b"\x12", b"\x80", b"\x12\x03ab", b"\x12\x03abcd", &[0xff; 20], b"\x80\0", b"\x12\xff\x01"];
-    for input in inputs {
-        for bytes in inputs {
-            let _ = Value::explain(input, Value::from_bytes(bytes).expect_err("no multihash")).to_string();
-            let _ = Value::explain_scale(input, Value::from_bytes(bytes).expect_err("no multihash")).to_string();
+    let text = |error: Error| error.to_string();
+    assert_eq!(text(Value::default().write(&mut [][..]).expect_err("it is full")), "failed to write whole buffer");
+    let large = "the code 9223372036854775808 is 2^63 or more";
+    assert_eq!(text(Value::wrap(1 << 63, b"").expect_err("too large")), large);
+    assert_eq!(text(varint::len(1 << 63).expect_err("too large")), large);
+    let long = "the digest has 5 bytes, and the limit is 4";
+    assert_eq!(text(Multihash::<4>::scale_decode(&b"\x12\0\0\0\0\0\0\0\x05abcde"[..]).expect_err("too long")), long);
+    assert_eq!(text(Multihash::<4>::wrap(18, b"abcde").expect_err("too long")), long);
+    assert_eq!(text(Multihash::<5>::wrap(18, b"abcde").expect("it fits").resize::<4>().expect_err("too long")), long);
+    for (input, wanted) in [
+        (&b"\x80"[..], "the input ends before the end of a varint"),
+        (b"\x80\0", "the varint is not minimal: it ends in a zero byte"),
+        (&[0xff; 9], "the varint has more than nine bytes"),
+    ] {
+        for error in [varint::read(&mut &*input).err(), varint::read_front(input).err(), Head::read_front(input).err()] {
+            assert_eq!(text(error.expect("no varint")), wanted);
         }
     }
 }

@@ -1,31 +1,21 @@
 //! The test vectors, compared with what each function returns.
 mod support;
 
+#[cfg(feature = "std")]
+use std::io;
+#[cfg(not(feature = "std"))]
+use verified_multihash::no_std_io as io;
+
 use support::{bytes_of, check_error, check_result};
-use verified_multihash::no_std_io::{Error, Read, SliceWriter};
-use verified_multihash::{varint, Decoder, Head, Multihash, TextError};
-
-fn same<const A: usize, const B: usize>(a: &Multihash<A>, b: &Multihash<B>) -> bool {
-    a.same_as(b)
-}
-
-#[cfg(feature = "alloc")]
-fn bytes<const S: usize>(multihash: &Multihash<S>) -> Vec<u8> {
-    multihash.to_bytes().expect("memory")
-}
+use verified_multihash::{varint, Decoder, Error, Head, Multihash, TextError};
 
 /// What upstream's package lacks too: other readers, both varints, and SCALE.
 fn check<const S: usize>(input: &[u8], columns: [&str; 5]) {
     support::check::<S>(input, columns);
     let [read, taken, _, scale, scale_taken] = columns;
-    let mut rest = input;
-    let found = Multihash::<S>::read(&mut rest);
-    assert_eq!(found.as_ref().map_or_else(|error| error.is_incomplete(), |_| false), taken == "-");
+    let found = Multihash::<S>::read(input);
     let count = taken.parse().unwrap_or(input.len());
-    // a slice keeps a truncated digest
-    let offset = Head::read_front(input).map_or(0, |head| head.digest_offset);
-    assert_eq!(rest.len(), input.len() - if read == "unexpected_eof" { offset } else { count });
-    match Multihash::<S>::read_next(&mut &input[..]) {
+    match Multihash::<S>::read_next(input) {
         Ok(next) => assert!(next.map_or(input.is_empty(), |next| found.map_or(false, |found| found == next))),
         Err(error) => check_error(&error, read),
     }
@@ -43,14 +33,14 @@ fn check<const S: usize>(input: &[u8], columns: [&str; 5]) {
 
 /// The bytes, and their text, are converted as `from_bytes` decodes. The text of a value is that of its encoding.
 fn check_conversions<const S: usize>(input: &[u8], whole: &str) {
-    check_result(&Multihash::<S>::try_from(input).map_err(verified_multihash::Error::from), whole);
+    check_result(&Multihash::<S>::try_from(input), whole);
     let text: String = input.iter().map(|byte| format!("{byte:02x}")).collect();
     match text.parse::<Multihash<S>>() {
         Ok(found) => {
-            check_result(&Ok::<_, verified_multihash::Error>(found), whole);
+            check_result(&Ok(found), whole);
             assert_eq!((text.to_uppercase().parse().ok(), found.to_string()), (Some(found), text));
         }
-        Err(TextError::NotMultihash(error)) => check_error(error.error(), whole),
+        Err(TextError::NotMultihash(error)) => check_error(&error, whole),
         Err(error) => panic!("{error}"),
     }
 }
@@ -66,12 +56,12 @@ fn check_cid<const S: usize>(input: &[u8], [read, taken, whole]: [&str; 3]) {
             assert_eq!(cid.second.first.get(), 0x55);
             cid.second.second
         });
-        let text = |error| match error {
-            FormError::Failed(error) => error.to_string(),
-            FormError::Trailing(count) => format!("Invalid multihash size {count}."),
-            error => panic!("{error}"),
-        };
-        check_result(&found.map_err(text), column);
+        match found {
+            Err(FormError::Trailing(count)) => assert_eq!(format!("invalid_size {count}"), column),
+            Err(FormError::Failed(error)) => check_error(&error, column),
+            Err(error) => panic!("{error}"),
+            Ok(found) => check_result(&Ok(found), column),
+        }
         assert_eq!(is_incomplete, taken == "-");
     };
     let cid = [b"\x01\x55", input].concat();
@@ -99,7 +89,7 @@ fn check_parts<const S: usize>(input: &[u8], length: usize, column: &str, count:
         match decoded {
             Ok(None) => assert!(rest.is_empty() && decoder.kept() == &input[..consumed]),
             Ok(Some(found)) => {
-                check_result(&Ok::<_, verified_multihash::Error>(found), column);
+                check_result(&Ok(found), column);
                 assert_eq!((consumed, decoder.kept()), (count, &b""[..]));
                 return;
             }
@@ -107,7 +97,7 @@ fn check_parts<const S: usize>(input: &[u8], length: usize, column: &str, count:
                 assert_eq!((consumed, decoder.kept()), (count, &input[..count]));
                 let again = decoder.decode(&mut &b"\0"[..]).expect_err("the same");
                 for error in [error, again, decoder.finish().expect_err("the same")] {
-                    check_error(error.error(), column);
+                    check_error(&error, column);
                 }
                 return;
             }
@@ -115,7 +105,7 @@ fn check_parts<const S: usize>(input: &[u8], length: usize, column: &str, count:
     }
     match decoder.finish() {
         Ok(()) => assert!(input.is_empty()),
-        Err(error) => check_error(error.error(), column),
+        Err(error) => check_error(&error, column),
     }
     assert_eq!((decoder.kept(), consumed), (input, input.len()));
 }
@@ -126,33 +116,32 @@ fn check_heads(input: &[u8], column: &str, count: usize) {
     let code = varint::read(&mut bytes);
     let both = code.and_then(|code| varint::read(&mut bytes).map(|length| (code, length)));
     let offset = input.len() - bytes.len();
-    match Head::read_front(input) {
-        Ok(head) => {
-            assert_eq!(head.digest_offset, offset);
-            assert_eq!(both.ok(), Some((head.code, head.digest_len)));
+    match (Head::read_front(input), both) {
+        (Ok(head), Ok(both)) => {
+            assert_eq!((head.code, head.digest_len, head.digest_offset), (both.0, both.1, offset));
             let is_read = column.starts_with("pair");
             assert!(is_read || column == "unexpected_eof" || count == offset);
             assert!(!is_read || count as u64 == offset as u64 + head.digest_len);
             check_varint(head.code, input);
         }
-        Err(error) => {
+        (Err(error), Err(other)) => {
             assert_eq!(offset, count);
-            for error in [error, both.expect_err("an error")] {
-                check_error(&error, column);
-            }
+            check_error(&error, column);
+            check_error(&other, column);
         }
+        _ => panic!("one of them fails"),
     }
 }
 
 /// A number is written as the varint that the input starts with, or the part of it for which there is capacity.
 fn check_varint(number: u64, input: &[u8]) {
     let mut out = [0xa5; 10];
-    let length = varint::write(number, &mut SliceWriter::new(&mut out)).expect("enough capacity");
+    let length = varint::write(number, &mut &mut out[..]).expect("enough capacity");
     assert_eq!(varint::read_front(input).ok(), Some((number, &input[length..])));
     assert_eq!((&out[..length], out[length]), (&input[..length], 0xa5));
     assert_eq!(varint::len(number).ok(), Some(length));
     let mut short = [0xa5; 9];
-    assert!(varint::write(number, &mut SliceWriter::new(&mut short[..length - 1])).is_err());
+    assert!(varint::write(number, &mut &mut short[..length - 1]).is_err());
     assert_eq!((&short[..length - 1], short[length - 1]), (&out[..length - 1], 0xa5));
 }
 
@@ -160,7 +149,7 @@ fn check_varint(number: u64, input: &[u8]) {
 fn check_value<const S: usize>(code: u64, digest: &[u8], columns: [&str; 2]) {
     if let Some(multihash) = support::check_value::<S>(code, digest, columns) {
         let mut out = [0xa5; 264];
-        let length = multihash.scale_encode(&mut SliceWriter::new(&mut out)).expect("enough capacity");
+        let length = multihash.scale_encode(&mut out[..]).expect("enough capacity");
         assert_eq!(&out[..length], bytes_of(columns[1]));
     }
 }

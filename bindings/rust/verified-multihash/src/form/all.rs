@@ -1,6 +1,7 @@
 //! Values that fill an input, one after another.
 // Made by tools/generate rust.
-use crate::rattle::{std, *};
+use alloc::vec::Vec;
+use crate::rattle::OrFail;
 
 use crate::form::{Form, FormError, read_front};
 
@@ -10,7 +11,6 @@ use crate::form::{Form, FormError, read_front};
 ///
 /// Out of memory, or the first error of [`Form::read`].
 pub fn all_from_bytes<T: Form>(bytes: &[u8]) -> Result<Vec<T>, FormError> {
-    use crate::rattle::fallible::Vec;
     let mut items = Vec::new();
     let mut rest = bytes;
     while !rest.is_empty() {
@@ -29,7 +29,6 @@ pub fn all_from_bytes<T: Form>(bytes: &[u8]) -> Result<Vec<T>, FormError> {
 pub fn head_and_all_from_bytes<H: Form, T: Form>(
     bytes: &[u8],
 ) -> Result<(H, Vec<T>), FormError> {
-    use crate::rattle::fallible::Vec;
     let (head, rest) = read_front::<H>(bytes)?;
     let items = all_from_bytes::<T>(rest)?;
     Ok((head, items))

@@ -1,9 +1,9 @@
 //! Exactly `N` bytes, without a length before them.
 // Made by tools/generate rust.
-use crate::rattle::{std, *};
+use crate::rattle::Faults;
 
 use crate::form::{Form, FormError};
-use crate::no_std_io::{self, Read, Write};
+use crate::proved::no_std_io::{self, Read, Write};
 
 /// `N` bytes, with no length before them. `N` is at least 1, since no encoding is empty.
 ///

@@ -1,10 +1,11 @@
 //! A block of bytes with its length before it.
 // Made by tools/generate rust.
-use crate::rattle::{std, *};
+use alloc::vec::Vec;
+use crate::rattle::OrFail;
 
 use crate::form::{Form, FormError};
-use crate::no_std_io::{Read, Write};
-use crate::varint;
+use crate::proved::no_std_io::{Read, Write};
+use crate::proved::varint;
 
 // The most bytes that are read at once.
 const CHUNK: usize = 256;
@@ -27,7 +28,6 @@ impl<const MAX: usize> Block<MAX> {
     ///
     /// [`FormError::TooLong`] if there are more than `MAX` bytes.
     pub fn new(bytes: Vec<u8>) -> Result<Self, FormError> {
-        use crate::rattle::fallible::Vec;
         if bytes.len() > MAX {
             return Err(FormError::TooLong(bytes.len() as u64));
         }
@@ -54,7 +54,6 @@ impl<const MAX: usize> Form for Block<MAX> {
 
 // Reads that many bytes.
 fn read_bytes<R: Read>(r: &mut R, len: usize) -> Result<Vec<u8>, FormError> {
-    use crate::rattle::fallible::Vec;
     let mut bytes = Vec::new();
     let mut chunk = [0; CHUNK];
     while bytes.len() < len {

@@ -1,9 +1,8 @@
 //! Two parts, one after the other.
 // Made by tools/generate rust.
-use crate::rattle::{std, *};
 
 use crate::form::{Form, FormError};
-use crate::no_std_io::{Read, Write};
+use crate::proved::no_std_io::{Read, Write};
 
 /// One part, and then the other. The encoding is the encodings of both.
 ///

@@ -1,7 +1,7 @@
 //! A writer that counts bytes and keeps none.
 // Made by tools/generate rust.
-use crate::rattle::{std, *};
-use crate::no_std_io::{Error, Write};
+
+use crate::proved::no_std_io::{Error, Write};
 
 /// A writer that counts the bytes, up to `u64::MAX`.
 #[derive(Clone, Copy, Debug, PartialEq, Eq, PartialOrd, Ord, Hash)]
@@ -11,8 +11,6 @@ pub struct ByteCount {
 }
 
 impl Write for ByteCount {
-    const ALLOCATES: bool = false;
-
     fn write(&mut self, buf: &[u8]) -> Result<usize, Error> {
         self.count = self.count.saturating_add(buf.len() as u64);
         Ok(buf.len())

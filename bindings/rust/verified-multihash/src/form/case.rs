@@ -1,10 +1,9 @@
 //! Cases of a choice: a tag and what follows it, and other cases.
 // Made by tools/generate rust.
-use crate::rattle::{std, *};
 
 use crate::form::cases::Cases;
 use crate::form::{Form, FormError, Number};
-use crate::no_std_io::{Read, Write};
+use crate::proved::no_std_io::{Read, Write};
 
 /// An `A` with the tag `M`, or one of the other cases `C`.
 #[derive(Clone, Debug, PartialEq, Eq, PartialOrd, Ord, Hash)]

@@ -1,9 +1,8 @@
 //! The trait of the cases of a choice.
 // Made by tools/generate rust.
-use crate::rattle::{std, *};
 
 use crate::form::{FormError, Number};
-use crate::no_std_io::{Read, Write};
+use crate::proved::no_std_io::{Read, Write};
 
 /// A value that has a tag, which determines how the value is encoded: what a [`Choice`](crate::form::Choice) is made of.
 /// [`Case`](crate::form::Case) and [`Tagged`](crate::form::Tagged) implement it.

@@ -1,10 +1,10 @@
 //! One of any number of formats, which the tag at the start of the encoding determines.
 // Made by tools/generate rust.
-use crate::rattle::{std, *};
+
 use crate::form::cases::Cases;
 use crate::form::{Form, FormError, Number};
-use crate::no_std_io::{Read, Write};
-use crate::varint;
+use crate::proved::no_std_io::{Read, Write};
+use crate::proved::varint;
 
 /// One of the cases of `C`, such as `Case<Bytes<4>, 4, Tagged<Bytes<2>, 6>>`. The encoding is the varint of its
 /// tag, and the encoding of its value.

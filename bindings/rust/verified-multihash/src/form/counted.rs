@@ -1,10 +1,11 @@
 //! Items with their number before them.
 // Made by tools/generate rust.
-use crate::rattle::{std, *};
+use alloc::vec::Vec;
+use crate::rattle::OrFail;
 
 use crate::form::{Form, FormError};
-use crate::no_std_io::{Read, Write};
-use crate::varint;
+use crate::proved::no_std_io::{Read, Write};
+use crate::proved::varint;
 
 /// At most `MAX` items. The encoding is the varint of their number, and the encodings of the items in order.
 ///
@@ -50,7 +51,6 @@ pub fn read_items<T: Form, R: Read>(
     r: &mut R,
     count: usize,
 ) -> Result<Vec<T>, FormError> {
-    use crate::rattle::fallible::Vec;
     let mut items = Vec::new();
     for _ in 0..count {
         let item = T::read(r)?;

@@ -1,8 +1,8 @@
 //! The error of reading and writing forms.
 // Made by tools/generate rust.
-use crate::rattle::{std, *};
+use crate::rattle::std;
 
-use crate::{Error, no_std_io};
+use crate::proved::{Error, no_std_io};
 use std::alloc::{AllocError, AllocFailed};
 use std::fmt;
 

@@ -1,9 +1,9 @@
 //! Numbers of a fixed number of bytes.
 // Made by tools/generate rust.
-use crate::rattle::{std, *};
+use crate::rattle::Faults;
 
 use crate::form::{Form, FormError};
-use crate::no_std_io::{self, Read, Write};
+use crate::proved::no_std_io::{self, Read, Write};
 
 /// A number below 256^`N` in `N` bytes, the highest of them first. `N` is 1 to 8.
 ///

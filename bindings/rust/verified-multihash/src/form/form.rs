@@ -1,9 +1,8 @@
 //! The trait of types whose values have exactly one encoding each.
 // Made by tools/generate rust.
-use crate::rattle::{std, *};
 
 use crate::form::FormError;
-use crate::no_std_io::{Read, Write};
+use crate::proved::no_std_io::{Read, Write};
 
 /// A value with one encoding, which is not empty and no prefix of another one.
 ///

@@ -1,10 +1,9 @@
 //! A number below 2^63, as its varint.
 // Made by tools/generate rust.
-use crate::rattle::{std, *};
 
 use crate::form::{Form, FormError};
-use crate::no_std_io::{Read, Write};
-use crate::varint;
+use crate::proved::no_std_io::{Read, Write};
+use crate::proved::varint;
 
 /// A number below 2^63. Its encoding is its varint.
 ///

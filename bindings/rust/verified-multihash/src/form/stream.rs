@@ -1,9 +1,10 @@
 //! Values one after another, up to the end of the input.
 // Made by tools/generate rust.
-use crate::rattle::{std, *};
+use alloc::vec::Vec;
+use crate::rattle::OrFail;
 
 use crate::form::{Form, FormError, read};
-use crate::no_std_io::{Error, Read};
+use crate::proved::no_std_io::{Error, Read};
 
 /// A reader that reports the end of its input, for which it may have to read one byte ahead.
 pub struct Stream<R> {
@@ -61,7 +62,6 @@ impl<R: Read> Stream<R> {
         n: usize,
         list: &mut Vec<T>,
     ) -> Result<(), FormError> {
-        use crate::rattle::fallible::Vec;
         for _ in 0..n {
             let value = match self.read_next::<T>()? {
                 Some(value) => value,

@@ -1,10 +1,9 @@
 //! A fixed number, as a varint.
 // Made by tools/generate rust.
-use crate::rattle::{std, *};
 
 use crate::form::{Form, FormError};
-use crate::no_std_io::{Read, Write};
-use crate::varint;
+use crate::proved::no_std_io::{Read, Write};
+use crate::proved::varint;
 
 /// The number `N`, which is below 2^63, such as a version or the code of a format. Its encoding is its varint.
 ///

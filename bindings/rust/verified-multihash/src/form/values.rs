@@ -1,8 +1,11 @@
-//! Values of the parts, written by hand: they keep the limits that ghost fields state in the proved source. And `form!`,
-//! which makes your own types formats.
-use crate::form::{BigEndian, Block, Both, Bytes, Case, Cases, Choice, Counted, FormError, LittleEndian};
-use crate::form::{Number, Others, Tag, Tagged};
-use crate::varint;
+//! Values of the parts: they keep the limits that ghost fields state in the proved source. And `form!`, which makes your
+//! own types formats.
+use crate::form::{encoded_len, BigEndian, Block, Both, Bytes, Case, Cases, Choice, Counted, Form, FormError};
+use crate::form::{LittleEndian, Number, Others, Tag, Tagged};
+use crate::proved;
+pub use crate::proved::no_std_io::{Read, Write};
+use crate::rattle::AllocError;
+use crate::{varint, Multihash};
 use alloc::vec::Vec;
 use core::ops::Deref;
 
@@ -30,7 +33,7 @@ parts! {
     [const N: usize] BigEndian<N> = 0;
     [const N: usize] LittleEndian<N> = 0;
     [const MAX: usize] Block<MAX> = 0;
-    [const S: usize] crate::Multihash<S> = 0;
+    [const S: usize] Multihash<S> = 0;
     [A: Part, B: Part] Both<A, B> = above(A::DEPTH, B::DEPTH);
     [T: Part, const MAX: usize] Counted<T, MAX> = above(T::DEPTH, 0);
     [C: Cases] Choice<C> = above(C::DEPTH, 0);
@@ -95,6 +98,12 @@ impl<const N: u64> Tag<N> {
     pub const fn new() -> Self {
         let () = Self::IN_RANGE;
         Tag {}
+    }
+}
+
+impl<const N: u64> Default for Tag<N> {
+    fn default() -> Self {
+        Self::new()
     }
 }
 
@@ -184,6 +193,35 @@ impl<A, const M: u64, C: Cases> Case<A, M, C> {
     }
 }
 
+/// `read` returns the errors of [`Multihash::read`].
+impl<const S: usize> Form for Multihash<S> {
+    fn write<W: Write>(&self, w: &mut W) -> Result<(), FormError> {
+        self.0.write(w)?;
+        Ok(())
+    }
+
+    fn read<R: Read>(r: &mut R) -> Result<Self, FormError> {
+        match proved::Multihash::read(r) {
+            Ok(value) => Ok(Self(value)),
+            Err(error) => Err(error.in_stream(S).into()),
+        }
+    }
+}
+
+/// Returns the encoding, in a vector made by one allocation of its length.
+///
+/// # Errors
+///
+/// Out of memory.
+// By hand, since a vector of Rust is another one as a writer.
+pub fn to_bytes<T: Form>(value: &T) -> Result<Vec<u8>, FormError> {
+    let mut bytes = Vec::new();
+    let length = usize::try_from(encoded_len(value)).map_err(|_| AllocError)?;
+    bytes.try_reserve_exact(length).map_err(|_| AllocError)?;
+    value.write(&mut bytes)?;
+    Ok(bytes)
+}
+
 /// Makes a struct or an enum of yours a [`Form`](crate::form::Form): the fields of a struct one after another, as
 /// [`Both`](crate::form::Both) has them; of an enum the varint of the tag and the value of the case, as
 /// [`Choice`](crate::form::Choice) has them. [The module](mod@crate::form) has examples.
@@ -240,12 +278,12 @@ macro_rules! form {
         }
 
         impl $crate::form::Form for $name {
-            fn write<W: $crate::no_std_io::Write>(
+            fn write<W: $crate::form::values::Write>(
                 &$self,
                 $w: &mut W,
             ) -> ::core::result::Result<(), $crate::form::FormError> $write
 
-            fn read<R: $crate::no_std_io::Read>(
+            fn read<R: $crate::form::values::Read>(
                 $r: &mut R,
             ) -> ::core::result::Result<Self, $crate::form::FormError> $read
         }
@@ -274,27 +312,4 @@ impl From<FormError> for crate::host::io::Error {
             error => Self::new(crate::host::io::ErrorKind::InvalidData, error),
         }
     }
-}
-
-/// Calls a function with a reader or a writer of `std::io`, such as a file, as [`with_io`](crate::with_io) does.
-///
-/// # Errors
-///
-/// Those of [`with_io`](crate::with_io), or the error that `call` returned.
-#[cfg(feature = "std")]
-pub fn with_io<T, V>(
-    stream: T,
-    call: impl FnOnce(&mut crate::Io<T>) -> Result<V, FormError>,
-) -> crate::host::io::Result<V> {
-    let mut other = None;
-    let result = crate::with_io(stream, |io| {
-        call(io).map_err(|error| match error {
-            FormError::Failed(error) => error,
-            error => {
-                other = Some(error);
-                crate::Error::insufficient() // in place of it
-            }
-        })
-    });
-    result.map_err(|error| other.map_or(error, Into::into))
 }

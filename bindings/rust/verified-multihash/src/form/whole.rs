@@ -1,9 +1,8 @@
 //! The functions that read and write a value of any form. Their contracts follow from those of the trait.
 // Made by tools/generate rust.
-use crate::rattle::{std, *};
 
 use crate::form::{ByteCount, Form, FormError};
-use crate::no_std_io::Read;
+use crate::proved::no_std_io::Read;
 
 /// Reads the value whose encoding comes next, as [`Form::read`] does.
 ///
@@ -40,18 +39,6 @@ pub fn read_front<T: Form>(bytes: &[u8]) -> Result<(T, &[u8]), FormError> {
     let mut rest = bytes;
     let value = read::<T, &[u8]>(&mut rest)?;
     Ok((value, rest))
-}
-
-/// Returns the encoding.
-///
-/// # Errors
-///
-/// Out of memory.
-pub fn to_bytes<T: Form>(value: &T) -> Result<Vec<u8>, FormError> {
-    use crate::rattle::fallible::Vec;
-    let mut bytes = Vec::with_capacity(encoded_len(value) as usize)?;
-    value.write(&mut bytes)?;
-    Ok(bytes)
 }
 
 /// Returns the number of bytes of the encoding, or `u64::MAX` if it has more. It writes the value to a [`ByteCount`].

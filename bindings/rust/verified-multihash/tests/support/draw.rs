@@ -1,6 +1,6 @@
 //! Drawn values and inputs, and readers, for the tests of formats.
 use verified_multihash::form::Number;
-use verified_multihash::no_std_io::{Error, Read};
+use super::io::{Error, Read};
 use verified_multihash::Multihash;
 
 /// Returns one byte a call.
@@ -20,7 +20,7 @@ impl Read for Fails<'_> {
     fn read(&mut self, buf: &mut [u8]) -> Result<usize, Error> {
         if self.1 == 0 {
             self.1 = usize::MAX;
-            return Err(Error::other("reader"));
+            return Err(super::other("reader"));
         }
         let length = buf.len().min(1);
         self.1 -= length;

@@ -1,9 +1,11 @@
 //! Reads the varint at the front of a slice from one word of 128 bits, with its first bytes.
 // Made by tools/generate rust.
-use crate::rattle::{std, *};
+#![allow(clippy::len_zero, clippy::incompatible_msrv)] // `first_chunk` is that of `rattle` below 1.77
+#[allow(unused_imports)] // Rust has it from 1.77 on
+use crate::rattle::Arrays;
 
 use super::{LAST_BYTE_LIMIT, MAX_CONTINUATION, MAX_LEN};
-use crate::Error;
+use crate::proved::Error;
 
 // The bytes of a word.
 const WORD_LEN: usize = 16;

@@ -1,9 +1,8 @@
 //! The SCALE encoding: the code in eight bytes, least significant first, the digest's length in one byte, the digest.
 // Made by tools/generate rust.
-use crate::rattle::{std, *};
 
-use crate::no_std_io::{self, Read, Write};
-use crate::{Error, Multihash, varint};
+use crate::proved::no_std_io::{self, Read, Write};
+use crate::proved::{Error, Multihash, varint};
 
 impl<const S: usize> Multihash<S> {
     /// Appends the SCALE encoding to `w`: nine bytes and the digest. Returns the number of bytes.

@@ -1,9 +1,9 @@
 //! The binary encoding: the varint of the code, the varint of the digest's length, and the digest.
 // Made by tools/generate rust.
-use crate::rattle::{std, *};
+use crate::rattle::Faults;
 
-use crate::no_std_io::{self, Read, Write};
-use crate::{Error, Head, Multihash, varint};
+use crate::proved::no_std_io::{self, Read, Write};
+use crate::proved::{Error, Head, Multihash, varint};
 
 impl<const S: usize> Multihash<S> {
     /// Reads the multihash whose encoding comes next. It consumes exactly that encoding and leaves what
@@ -106,19 +106,6 @@ impl<const S: usize> Multihash<S> {
         let code = varint::len_in_range(self.code());
         let size = varint::len_in_range(u64::from(self.size()));
         code + size + usize::from(self.size())
-    }
-
-    /// Returns the encoding, in a vector made by one allocation of exactly its length.
-    ///
-    /// # Errors
-    ///
-    /// [`Error::io`] if out of memory.
-    #[cfg(feature = "alloc")]
-    pub fn to_bytes(&self) -> Result<Vec<u8>, Error> {
-        use crate::rattle::fallible::Vec;
-        let mut bytes = Vec::with_capacity(self.encoded_len())?;
-        self.write(&mut bytes)?;
-        Ok(bytes)
     }
 
     // Reads a digest of that size into the front of the buffer.

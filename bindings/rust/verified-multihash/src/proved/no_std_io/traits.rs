@@ -1,6 +1,6 @@
 //! Traits of readers and writers, and the laws that every implementation keeps.
 // Made by tools/generate rust.
-use crate::rattle::{std, *};
+use crate::rattle::Faults;
 
 use super::Error;
 
@@ -54,9 +54,6 @@ pub trait Read {
 /// it has failed. A call that fails with an error of the writer itself raises the count, except one that
 /// is out of memory where it allocates, and no other call changes it.
 pub trait Write {
-    /// Whether a call may allocate, and so return [`Error::out_of_memory`] without counting a failure.
-    const ALLOCATES: bool;
-
     /// Appends some of the first bytes of `buf`, and returns their number, which is at most the length of
     /// `buf`. It returns 0 for a non-empty buffer only if it is full then.
     ///

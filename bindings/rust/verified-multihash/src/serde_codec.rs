@@ -1,4 +1,5 @@
-//! The encoding as bytes for serde.
+//! For serde as upstream: bytes in each format.
+use crate::text::LENGTH_MAX;
 use crate::Multihash;
 use core::fmt;
 use serde::de::{Error, SeqAccess, Visitor};
@@ -19,9 +20,6 @@ impl<'de, const S: usize> Deserialize<'de> for Multihash<S> {
         deserializer.deserialize_bytes(Bytes)
     }
 }
-
-/// The maximum length of an encoding in bytes.
-const LENGTH_MAX: usize = 266;
 
 struct Bytes<const S: usize>;
 

@@ -5,12 +5,11 @@
 //! and the length of a multihash, the version and the codec of a content identifier, the parts of a
 //! multiaddr.
 // Made by tools/generate rust.
-use crate::rattle::{std, *};
 
 pub(crate) mod word;
 
-use crate::Error;
-use crate::no_std_io::{self, Read, Write};
+use crate::proved::Error;
+use crate::proved::no_std_io::{self, Read, Write};
 
 // The most continuation bytes of a varint.
 const MAX_CONTINUATION: usize = 8;

@@ -1,9 +1,8 @@
 //! The two varints at the front of an encoding, for callers that keep the digest where it is.
 // Made by tools/generate rust.
-use crate::rattle::{std, *};
 
-use crate::Error;
-use crate::varint::word;
+use crate::proved::Error;
+use crate::proved::varint::word;
 
 /// The code and the digest's length at the front of an encoding.
 #[derive(Clone, Copy, Debug, PartialEq, Eq)]

@@ -1,8 +1,8 @@
 //! Comparison and hashing.
 // Made by tools/generate rust.
-use crate::rattle::{std, *};
+use crate::rattle::std;
 
-use crate::Multihash;
+use crate::proved::Multihash;
 use std::cmp::Ordering;
 use std::hash::{Hash, Hasher};
 
