@@ -104,7 +104,7 @@ rust_switch() {
   local feature
   block_of bindings/rust/multihash/README.md toml | sed 's,path/of/bindings/rust,../..,' \
     >> "$work/rust/tests/program/Cargo.toml"
-  prints_all "input bytes exceed maximum" tests/program cargo run
+  prints_all "the varint has more than nine bytes" tests/program cargo run
   for feature in scale-codec arb; do
     rejects "multihash has no feature $feature here" in_crate multihash cargo build --features "$feature"
   done
@@ -114,8 +114,31 @@ rust_switch() {
     in_crate multihash cargo rustc --no-default-features --features serde-codec --crate-type staticlib
 }
 
+# Wrong edits of the package, which the comparison with the proved source refuses: a module, an edit, and the function that
+# it names.
+wrong_edits() {
+  local module edit name
+  while IFS='|' read -r module edit name; do
+    rm -rf "$work/wrong"
+    cp -r bindings/rust/verified-multihash "$work/wrong"
+    sed -i "$edit" "$work/wrong/src/$module.rs"
+    rejects "/$module.rs: fn $name:" python3 checks/lib/proved_text.py "$work/wrong"
+  done <<'EOF'
+proved/varint|/if byte == 0 {/,/}/d|read_after
+proved/varint/word|s/!low & HIGH_BITS/low \& HIGH_BITS/|read_word
+proved/binary|/if digest.len() > len {/,/}/d|from_bytes
+proved/binary|/let code = varint::write_in_range/{h;d};/let size = varint::write_in_range/G|write
+proved/scale|s/size > S/size >= S/|scale_decode
+proved/compare|s/if self.size != other.size {/if false {/|cmp
+form/block|s/if len > MAX as u64/#[cfg(any())]\n&/|read
+form/counted|s/for _ in 0..count {/for _ in 0..=count {/|read_items
+form/tag|s/varint::write(N, w)?;/&&/|write
+EOF
+}
+
 rust_lints() {
   in_crate verified-multihash cargo clippy --all-targets --features serde
+  in_crate verified-multihash cargo clippy --no-default-features --all-targets
   in_crate multihash cargo clippy --all-targets --features serde
   in_crate multihash cargo clippy --no-default-features --all-targets
 }
@@ -129,7 +152,8 @@ needs=$bare try "the tests without std" without_std
 needs="/usr/bin/cargo /usr/bin/rustc $crates" try "the tests with Debian's Rust" debians_rust
 needs="$cargo $registry/cid-0.5* $registry/multihash-0.11* $registry/unsigned-varint-0.5*" try "beside other crates" \
   tests tests/neighbours cargo test
-try "the proved source" python3 checks/lib/removed.py
+try "the proved source" python3 checks/lib/proved_text.py
+try "wrong edits of the proved source are refused" wrong_edits
 needs=$cargo try "the packed packages" rust_packed
 needs=$bare try "the switch from upstream's package" rust_switch
 needs="$bare cargo-clippy" try "lints" rust_lints

@@ -41,6 +41,7 @@ MADE = "// Made by tools/generate rust.\n"
 # What a module is allowed, with the reason, since it is as it is in Rattle.
 ALLOWED = {
     "lib": "#![allow(clippy::module_inception)] // the module of the trait has the crate's name\n",
+    "no_std_io/traits": "#![allow(rustdoc::broken_intra_doc_links)] // to kinds of the error that readers have in Rattle\n",
     "varint/word": "#![allow(clippy::len_zero, clippy::incompatible_msrv)] // `first_chunk` is that of `rattle` below 1.77\n",
 }
 # What Rattle has without an import, and what a module has that uses it.

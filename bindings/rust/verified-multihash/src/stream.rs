@@ -23,7 +23,7 @@ use crate::{Error, Head, Multihash};
 ///     }
 /// }
 /// decoder.finish()?; // an error if the input ended inside a multihash
-/// assert_eq!(found, [Multihash::wrap(0x12, b"abc")?, Multihash::wrap(0x12, b"def")?]);
+/// assert_eq!(found, [Multihash::<32>::wrap(0x12, b"abc")?, Multihash::wrap(0x12, b"def")?]);
 /// # Ok::<(), verified_multihash::Error>(())
 /// ```
 #[derive(Clone, Debug)]

@@ -50,8 +50,8 @@ fn pairs() -> impl Iterator<Item = (u64, Vec<u8>)> {
 fn encodings_are_those_of_multihash_0_11() {
     for (code, digest) in pairs() {
         let (theirs, ours) = (wrap(AnyCode(code), &digest), Multihash::<255>::wrap(code, &digest).unwrap());
-        assert_eq!(ours.to_bytes().unwrap(), theirs.to_vec());
-        let theirs = MultihashGeneric::<AnyCode>::from_bytes(ours.to_bytes().unwrap()).unwrap();
+        assert_eq!(ours.to_bytes(), theirs.to_vec());
+        let theirs = MultihashGeneric::<AnyCode>::from_bytes(ours.to_bytes()).unwrap();
         assert_eq!((theirs.algorithm().0, theirs.digest()), (code, &digest[..]));
         assert_eq!(Multihash::<255>::from_bytes(theirs.as_bytes()).unwrap(), ours);
     }
@@ -102,7 +102,7 @@ fn multihashes_of_cids_are_those_of_cid() {
         let theirs = cid::Cid::try_from(text).expect("a CID");
         let ours = Multihash::<64>::from_bytes(theirs.hash().as_bytes()).unwrap();
         assert_eq!((ours.code(), ours.digest()), (u64::from(theirs.hash().algorithm()), theirs.hash().digest()));
-        let hash = MultihashGeneric::from_bytes(ours.to_bytes().unwrap()).unwrap();
+        let hash = MultihashGeneric::from_bytes(ours.to_bytes()).unwrap();
         assert_eq!(cid::Cid::new(theirs.version(), theirs.codec(), hash).unwrap().to_string(), text);
         // a CID of version 1 is a version, a codec and a multihash
         if theirs.version() == cid::Version::V1 {

@@ -1,5 +1,6 @@
 //! Traits of readers and writers, and the laws that every implementation keeps.
 // Made by tools/generate rust.
+#![allow(rustdoc::broken_intra_doc_links)] // to kinds of the error that readers have in Rattle
 use crate::rattle::Faults;
 
 use super::Error;
