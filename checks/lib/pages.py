@@ -27,8 +27,8 @@ DECLARED = (
     ("CMakeLists.txt", r"^ *(?:option\(|set\((?=\w+ OFF CACHE))(\w+)", "bindings/c/PACKAGING.md"),
     (f"{JS}/index.d.ts", r"^export (?:function|class) (\w+)", f"{JS}/README.md"),
     (f"{JS}/hashes.d.ts", r"^export (?:function|const) (\w+)", f"{JS}/README.md"),
-    (f"{RUST}/verified-multihash/Cargo.toml", r"^(std|alloc|serde) = \[", VERIFIED),
-    (f"{RUST}/multihash/Cargo.toml", r"^([\w-]+) = \[\"?(?:\]|dep:|ver|serde)", SHIM),
+    (f"{RUST}/verified-multihash/Cargo.toml", r"^(std|alloc|serde|serde-codec) = \[", VERIFIED),
+    (f"{RUST}/multihash/Cargo.toml", r"^([\w-]+) = \[\"?(?:\]|ver|serde)", SHIM),
     ("crates/multihash/src/error.rt", r"pub fn (\w+)\(&self\)", FORMAT),
     ("crates.txt", r"^(\w+)[: ]", "docs/ARCHITECTURE.md"),
     ("bindings/c/examples/mh_show.c", r"(?:return |fail\()\"([\w ]+)\"", "crates/mh_show/mh_show.1"),
@@ -101,7 +101,7 @@ def link_errors() -> Iterator[str]:
 
 def name_errors() -> Iterator[str]:
     """Returns what a source declares and its page does not name, and the public names of the library that neither the
-    Rust package multihash nor DIFFERENCES.md nor FORMAT.md has."""
+    type for Rust nor DIFFERENCES.md nor FORMAT.md has."""
     for source, form, page in DECLARED:
         names = {*re.findall(form, read(source), re.M)}
         missing = [name for name in names if not re.search(rf"(?<![\w-])(?:-D)?{name}(?![\w-])", read(page))]
@@ -110,7 +110,7 @@ def name_errors() -> Iterator[str]:
     library = [path for path in paths() if re.match(r"crates/multihash/src/.*(?<!laws)(?<!exposed)\.rt", path)]
     public = re.compile(r"^ *pub (?:fn|struct|enum|trait|type|mod|const) (\w+)", re.M)
     names = {name for path in library for name in public.findall(read(path))}
-    upstream = [path for path in paths() if path.startswith(f"{RUST}/multihash/src/")]
+    upstream = [f"{RUST}/verified-multihash/src/{module}.rs" for module in ("error", "multihash", "no_std_io")]
     known = {*re.findall(r"\w+", "".join(map(read, [*upstream, DIFFERENCES, FORMAT])))}
     yield from (f"{DIFFERENCES} does not have {name}" for name in sorted(names - known))
 

@@ -115,4 +115,4 @@ if __name__ == "__main__":
     errors = [difference(path, source) for path, source in sources.items()]
     unknown = {*PACKAGE.rglob("*.rs")} - {*sources}
     errors += [f"{path} has no source" for path in unknown if "Made by tools/generate rust" in path.read_text("utf-8")]
-    sys.exit("\n".join(filter(None, errors)) or (0 if sources else "no module"))
+    sys.exit("\n".join(filter(None, errors)) or None)

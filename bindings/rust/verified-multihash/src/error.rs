@@ -98,6 +98,13 @@ impl Error {
         Self::new(Kind::NotMinimal)
     }
 
+    /// Returns the error of an input without a byte.
+    #[cold]
+    pub(crate) fn empty() -> Self {
+        let place = Place { part: Part::Code, there: 0, whole: 0, consumed: Some(0) };
+        Self { place, ..Self::insufficient() }
+    }
+
     /// Returns the error of a digest that is longer than a capacity.
     pub(crate) const fn too_long(size: u64, capacity: usize, consumed: Option<u16>) -> Self {
         let whole = if capacity < 255 { capacity as u8 } else { 255 };

@@ -89,8 +89,16 @@ impl<const S: usize> Multihash<S> {
     /// # Ok::<(), Box<dyn std::error::Error>>(())
     /// ```
     pub fn read<R: Read>(mut r: R) -> Result<Self, Error> {
-        match proved::Multihash::read(&mut r) {
-            Ok(value) => Ok(Self(value)),
+        Self::read_from(&mut r)
+    }
+
+    /// Reads by a reader of the proved source: all others are some.
+    // The proved `read` does not say whether the input is empty.
+    #[inline(always)]
+    pub(crate) fn read_from<R: proved::no_std_io::Read>(r: &mut R) -> Result<Self, Error> {
+        match proved::Multihash::read_next(r) {
+            Ok(Some(value)) => Ok(Self(value)),
+            Ok(None) => Err(Error::empty()),
             Err(error) => Err(error.in_stream(S)),
         }
     }

@@ -4,6 +4,7 @@ pub use self::head::Head;
 pub use self::multihash::Multihash;
 pub use crate::error::Error;
 
+#[allow(dead_code)] // the public type reads by `read_next`
 mod binary;
 mod compare;
 mod head;

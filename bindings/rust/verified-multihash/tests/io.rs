@@ -9,21 +9,20 @@ use verified_multihash::{list, varint, Error, Multihash, Reader};
 
 type Value = Multihash<200>;
 type Reads = fn(&mut Slow<&[u8]>) -> Result<Value, Error>;
-type Writes = dyn Fn(&mut Slow<Vec<u8>>) -> Result<(), Error>;
+type Writes = fn(&Value, &mut Slow<Vec<u8>>) -> Result<(), Error>;
 
 /// Reads and writes two encodings, in binary, as a list and in SCALE, with an event before each byte of the second, and
 /// calls `check` with the result, and whether it was read.
 fn each_byte(event: Event, check: impl Fn(Result<(), Error>, bool)) {
     let value = Value::wrap(0x100, &[7; 150]).expect("it fits");
-    let scale = |out: &mut Slow<Vec<u8>>| value.scale_encode(out).map(|_| ());
-    let calls: [(Reads, &Writes); 3] = [
-        (|input| Value::read(input), &|out| value.write(out).map(|_| ())),
-        (|input| list::read_list(input, 1).map(|list| list[0]), &|out| list::write_list(&[value], out)),
-        (|input| Value::scale_decode(input), &scale),
+    let calls: [(Reads, Writes); 3] = [
+        (|input| Value::read(input), |value, out| value.write(out).map(|_| ())),
+        (|input| list::read_list(input, 1).map(|list| list[0]), |value, out| list::write_list(&[*value], out)),
+        (|input| Value::scale_decode(input), |value, out| value.scale_encode(out).map(|_| ())),
     ];
     for (read, write) in calls {
         let mut whole = Slow { bytes: Vec::new(), at: usize::MAX, event };
-        write(&mut whole).expect("memory");
+        write(&value, &mut whole).expect("memory");
         let both = [&whole.bytes[..], &whole.bytes].concat();
         let length = whole.bytes.len();
         for at in 0..length {
@@ -31,8 +30,8 @@ fn each_byte(event: Event, check: impl Fn(Result<(), Error>, bool)) {
             assert_eq!(read(&mut reader).expect("it is whole"), value);
             check(read(&mut reader).map(|read| assert_eq!(read, value)), true);
             let mut writer = Slow { bytes: Vec::new(), at: length + at, event };
-            write(&mut writer).expect("it is whole");
-            check(write(&mut writer), false);
+            write(&value, &mut writer).expect("it is whole");
+            check(write(&value, &mut writer), false);
             let end = length + at;
             assert_eq!((reader.bytes, &writer.bytes[..]), (&both[end..], &both[..end]));
         }

@@ -2,7 +2,6 @@
 //! own types formats.
 use crate::form::{encoded_len, BigEndian, Block, Both, Bytes, Case, Cases, Choice, Counted, Form, FormError};
 use crate::form::{LittleEndian, Number, Others, Tag, Tagged};
-use crate::proved;
 pub use crate::proved::no_std_io::{Read, Write};
 use crate::rattle::AllocError;
 use crate::{varint, Multihash};
@@ -201,10 +200,7 @@ impl<const S: usize> Form for Multihash<S> {
     }
 
     fn read<R: Read>(r: &mut R) -> Result<Self, FormError> {
-        match proved::Multihash::read(r) {
-            Ok(value) => Ok(Self(value)),
-            Err(error) => Err(error.in_stream(S).into()),
-        }
+        Ok(Self::read_from(r)?)
     }
 }
 
