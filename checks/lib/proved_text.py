@@ -3,7 +3,8 @@
     proved_text.py [PACKAGE]
 
 All of the source has to be there, in its order, and nothing else, in each function and between them. Left out are
-comments; of Rattle contracts, ghosts, marks for proofs, and what LEFT_OUT and OF_RATTLE find; of Rust what ADDED finds.
+comments, `(crate)` and derives; of Rattle contracts, ghosts, marks for proofs, and what OF_RATTLE finds; of Rust
+what ADDED finds.
 """
 
 import re
@@ -25,14 +26,12 @@ CONTRACT = re.compile(r"(?:requires|ensures) (?:\* )?(?:\w+ )?$")
 MARK = re.compile(r"# (?:! )?$")
 KEPT = re.compile(r"# (?:! )?\[ (?!tactic|derive|non_exhaustive|allow\b|cfg_attr \( any .*FORMATS|doc \( hidden)")
 GHOST = re.compile(r"(?:pub )?ghost ")
-# what Rust has in another way: the allocator, the drop of values, and the parameter of a formatter
+# what Rust has in another way: the allocator, the drop of values, the parameter of a formatter; a constant that only
+# contracts know; the modules that are not there, and a function that is by hand
 OF_RATTLE = re.compile(
-    r"\buse std :: (?:alloc :: Global|marker :: Model) ; |(?:, )?\b_?alloc : Global (?=\))|\b_?alloc : Global , |(?<=\( )alloc (?:, )?"
-    r"|< W : fmt :: Write > |(?<=Formatter )< W > |(?<=T ): Drop |\+ Drop "
-)
-# a function that is by hand, a constant that only contracts know, and the modules that are not there
-LEFT_OUT = re.compile(
-    r"const ALLOCATES : bool (?:= [^;]*)?; |(?:pub )?mod (?:exposed|laws|of_multihash) ; |, to_bytes (?=\} ;)"
+    r"\buse std :: (?:alloc :: Global|marker :: Model) ; |(?:, )?\b_?alloc : Global (?=\))|\b_?alloc : Global , "
+    r"|(?<=\( )alloc (?:, )?|< W : fmt :: Write > |(?<=Formatter )< W > |(?<=T ): Drop |\+ Drop "
+    r"|const ALLOCATES : bool (?:= [^;]*)?; |(?:pub )?mod (?:exposed|laws|of_multihash) ; |, to_bytes (?=\} ;)"
 )
 TO_BYTES = re.compile(r"pub fn to_bytes \( & self|pub fn to_bytes < T")
 # imports of what Rattle has without one, who implements a trait, constant functions, and names of functions that may fail
@@ -82,12 +81,14 @@ def parts(path: Path, left_out: re.Pattern[str]) -> dict[str, Words]:
     """Returns the words of each function, and those between functions, by its name and number."""
     words, kept, at = words_of(path), [], 0
     while at < len(words):
-        end = end_of_left_out(words, at)
+        end = end_of_left_out(words, at) if path.suffix == ".rt" or words[at] == "#" else at
         kept += [words[at]] if end == at else []
         at = max(end, at + 1)
-    text = BOTH.sub("", left_out.sub("", LEFT_OUT.sub("", " ".join(kept) + " ")))
+    text = BOTH.sub("", left_out.sub("", " ".join(kept) + " "))
     pieces = re.split(r"(?<= )fn (?=\w)", text)
-    return {f"{number} {piece.split()[0] if number else ''}": piece.split() for number, piece in enumerate(pieces)}
+    return {
+        f"{number} {piece.partition(' ')[0] if number else ''}": piece.split() for number, piece in enumerate(pieces)
+    }
 
 
 def difference(path: Path, source: Path) -> str:

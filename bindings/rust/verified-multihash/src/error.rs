@@ -3,7 +3,7 @@ use crate::no_std_io as io;
 use crate::proved::varint;
 use crate::rattle::std;
 #[cfg(feature = "alloc")]
-use crate::rattle::{AllocError, AllocFailed};
+use crate::rattle::AllocError;
 use core::fmt;
 use io::ErrorKind;
 
@@ -226,13 +226,6 @@ impl From<io::Error> for Error {
 impl From<AllocError> for Error {
     fn from(_: AllocError) -> Self {
         io::Error::from(ErrorKind::OutOfMemory).into()
-    }
-}
-
-#[cfg(feature = "alloc")]
-impl<T> From<AllocFailed<T>> for Error {
-    fn from(_: AllocFailed<T>) -> Self {
-        AllocError.into()
     }
 }
 
