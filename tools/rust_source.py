@@ -60,7 +60,7 @@ BY_HAND = """\
 #[doc(hidden)]
 pub mod values;
 
-pub use values::to_bytes;"""
+pub use values::{to_bytes, Position};"""
 # A function that is by hand.
 TO_BYTES = re.compile(r"(?m)(?:^ *//[^!].*\n)*^( *)pub fn to_bytes\b(?:.*\n)*?\1\}\n|, to_bytes(?=\};)")
 # What a line begins with that is removed, with the next ones until its brackets are closed; and what those lines before

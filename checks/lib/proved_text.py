@@ -36,7 +36,7 @@ OF_RATTLE = re.compile(
 TO_BYTES = re.compile(r"pub fn to_bytes \( & self|pub fn to_bytes < T")
 # imports of what Rattle has without one, who implements a trait, constant functions, and names of functions that may fail
 ADDED = re.compile(
-    r"use (?:crate :: rattle|alloc) :: [^;]*; |pub mod values ; pub use values :: to_bytes ; |: super :: values :: Part "
+    r"use (?:crate :: rattle|alloc) :: [^;]*; |pub mod values ; pub use values :: \{ to_bytes , Position \} ; |: super :: values :: Part "
     r"|(?<=pub )const (?=fn (?:code|size) \( & self \))|_or_fail\b"
 )
 BOTH = re.compile(r"\bcrate :: (?:proved :: |form :: )?|\bmultihash :: |(?<=pub )\( crate \) |, (?=\) (?:->|;|\{))")

@@ -4,7 +4,7 @@
 #[doc(hidden)]
 pub mod values;
 
-pub use values::to_bytes;
+pub use values::{to_bytes, Position};
 mod all;
 mod array;
 mod block;

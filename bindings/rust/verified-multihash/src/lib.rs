@@ -20,10 +20,7 @@ mod multihash;
 pub mod no_std_io;
 mod proved;
 mod rattle;
-#[cfg(all(feature = "serde", not(feature = "serde-codec")))]
-mod serde;
-#[cfg(feature = "serde-codec")]
-#[path = "serde_codec.rs"]
+#[cfg(any(feature = "serde", feature = "serde-codec"))]
 mod serde;
 mod stream;
 mod text;

@@ -1,26 +1,29 @@
-//! For serde: hexadecimal in formats for people, such as JSON, and bytes in others.
+//! For serde: bytes, and with the feature `serde` alone hexadecimal in formats for people, such as JSON.
 use crate::text::LENGTH_MAX;
 use crate::Multihash;
 use core::fmt;
-use serde::de::{Error, Visitor};
+use serde::de::{Error, SeqAccess, Unexpected, Visitor};
 use serde::{ser, Deserialize, Deserializer, Serialize, Serializer};
 
-/// The encoding: in hexadecimal if the format is human readable, otherwise as bytes.
+/// Whether each format has bytes, as upstream. Formats without bytes, such as JSON, have a sequence of numbers.
+const HAS_BYTES: bool = cfg!(feature = "serde-codec");
+
+/// The encoding: in hexadecimal if the format is human readable, otherwise, or with the feature `serde-codec`, as bytes.
 impl<const S: usize> Serialize for Multihash<S> {
     fn serialize<T: Serializer>(&self, serializer: T) -> Result<T::Ok, T::Error> {
-        if serializer.is_human_readable() {
+        if !HAS_BYTES && serializer.is_human_readable() {
             return serializer.collect_str(self);
         }
         let mut bytes = [0; LENGTH_MAX];
-        let length = self.write(&mut &mut bytes[..]).map_err(ser::Error::custom)?;
+        let length = self.write(&mut bytes[..]).map_err(ser::Error::custom)?;
         serializer.serialize_bytes(&bytes[..length])
     }
 }
 
-/// From a text of hexadecimal digits, or from bytes, whichever the format has.
+/// From what [`Serialize`] makes.
 impl<'de, const S: usize> Deserialize<'de> for Multihash<S> {
     fn deserialize<D: Deserializer<'de>>(deserializer: D) -> Result<Self, D::Error> {
-        if deserializer.is_human_readable() {
+        if !HAS_BYTES && deserializer.is_human_readable() {
             deserializer.deserialize_str(Encoding)
         } else {
             deserializer.deserialize_bytes(Encoding)
@@ -30,18 +33,44 @@ impl<'de, const S: usize> Deserialize<'de> for Multihash<S> {
 
 struct Encoding<const S: usize>;
 
+impl<const S: usize> Encoding<S> {
+    /// The numbers of a sequence that are read before its length is an error: those of the longest encoding, and for
+    /// capacities above 255, whose values have no longer one, as many as upstream reads.
+    const READ: usize = 10 + S + (S / 128 == 1) as usize;
+}
+
 impl<'de, const S: usize> Visitor<'de> for Encoding<S> {
     type Value = Multihash<S>;
 
     fn expecting(&self, f: &mut fmt::Formatter<'_>) -> fmt::Result {
-        f.write_str("a multihash")
+        f.write_str(if HAS_BYTES { "a valid Multihash in bytes" } else { "a multihash" }) // the first is upstream's
     }
 
     fn visit_str<E: Error>(self, text: &str) -> Result<Multihash<S>, E> {
+        if HAS_BYTES {
+            return Err(E::invalid_type(Unexpected::Str(text), &self));
+        }
         text.parse().map_err(E::custom)
     }
 
     fn visit_bytes<E: Error>(self, bytes: &[u8]) -> Result<Multihash<S>, E> {
-        bytes.try_into().map_err(E::custom)
+        Multihash::from_bytes(bytes).map_err(E::custom)
+    }
+
+    fn visit_seq<A: SeqAccess<'de>>(self, mut numbers: A) -> Result<Multihash<S>, A::Error> {
+        let (mut bytes, mut length) = ([0; LENGTH_MAX], 0);
+        while let Some(byte) = numbers.next_element()? {
+            if length == Self::READ {
+                return Err(A::Error::invalid_length(length + 1, &self));
+            }
+            if let Some(place) = bytes.get_mut(length) {
+                *place = byte;
+            }
+            length += 1;
+        }
+        match bytes.get(..length) {
+            Some(bytes) => self.visit_bytes(bytes),
+            None => Err(A::Error::invalid_length(length, &self)),
+        }
     }
 }

@@ -101,6 +101,8 @@ fn check_input<T: Form + PartialEq + Debug>(input: &[u8], draw: &mut Draw) -> bo
     let (found, slowly) = (read::<T, _>(&mut rest), read::<T, _>(&mut slow));
     assert_eq!(text(&found), text(&slowly));
     let taken = input.len() - slow.0.len();
+    let mut counted = Position::new(Slow(input));
+    assert_eq!((text(&read::<T, _>(&mut counted)), counted.offset), (text(&found), taken as u64));
     match found {
         Ok(found) => {
             assert_eq!(to_bytes(&found).expect("memory"), input[..taken]);

@@ -1,5 +1,5 @@
 //! The feature `serde`: JSON, and a format of bytes.
-#![cfg(feature = "serde")]
+#![cfg(all(feature = "serde", not(feature = "serde-codec")))]
 use serde::de::value::{BytesDeserializer, Error, StrDeserializer};
 use serde::de::{Deserializer, IntoDeserializer, Visitor};
 use serde::ser::{Impossible, Serializer};

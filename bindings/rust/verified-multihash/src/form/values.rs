@@ -3,6 +3,7 @@
 use crate::form::{encoded_len, BigEndian, Block, Both, Bytes, Case, Cases, Choice, Counted, Form, FormError};
 use crate::form::{LittleEndian, Number, Others, Tag, Tagged};
 pub use crate::proved::no_std_io::{Read, Write};
+use crate::no_std_io as io;
 use crate::rattle::AllocError;
 use crate::{varint, Multihash};
 use alloc::vec::Vec;
@@ -204,6 +205,31 @@ impl<const S: usize> Form for Multihash<S> {
     }
 }
 
+/// A reader that counts the bytes that were read: after an error of [`Form::read`] or [`Stream`](crate::form::Stream) they
+/// end with the one that shows it, or with the input.
+#[derive(Clone, Debug)]
+pub struct Position<R> {
+    /// The reader.
+    pub inner: R,
+    /// How many bytes were read.
+    pub offset: u64,
+}
+
+impl<R> Position<R> {
+    /// Returns a reader that is at the offset 0.
+    pub fn new(inner: R) -> Self {
+        Position { inner, offset: 0 }
+    }
+}
+
+impl<R: io::Read> io::Read for Position<R> {
+    fn read(&mut self, buf: &mut [u8]) -> Result<usize, io::Error> {
+        let count = self.inner.read(buf)?;
+        self.offset = self.offset.saturating_add(count as u64);
+        Ok(count)
+    }
+}
+
 /// Returns the encoding, in a vector made by one allocation of its length.
 ///
 /// # Errors
@@ -301,11 +327,11 @@ pub const fn check_tags(tags: &[u64]) {
 
 /// The kind is that of the multihash's error, and `InvalidData` for the errors that only formats have.
 #[cfg(feature = "std")]
-impl From<FormError> for crate::host::io::Error {
+impl From<FormError> for io::Error {
     fn from(error: FormError) -> Self {
         match error {
             FormError::Failed(error) => error.into(),
-            error => Self::new(crate::host::io::ErrorKind::InvalidData, error),
+            error => Self::new(io::ErrorKind::InvalidData, error),
         }
     }
 }
