@@ -10,7 +10,7 @@ ulimit -c 0
 top=$PWD
 c=$top/bindings/c
 source=$c/src/multihash.c
-tests=("$c"/tests/{test,verdicts,cid,models,inputs}.c)
+tests=("$c"/tests/{test,verdicts,cid,inputs}.c)
 data=$top/crates/vectors/data
 # what Clang needs for sanitizers
 clang_runtime=$(clang --rtlib=compiler-rt -print-libgcc-file-name 2> /dev/null || true)

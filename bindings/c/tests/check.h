@@ -23,15 +23,9 @@ typedef multihash_encoded (*encoder)(uint64_t, const uint8_t *, size_t, uint8_t 
 uint8_t *buffer(size_t length);
 uint8_t *copy_of(const uint8_t *bytes, size_t length);
 void release(uint8_t *bytes);
+uint8_t *marked(size_t length);
+void check_marks(const uint8_t *bytes, size_t from, size_t length);
 uint8_t *sparse(uint64_t length);
-
-/* models.c */
-void check_decodings(const uint8_t *bytes, size_t length, size_t limit);
-void check_many(const uint8_t *bytes, size_t length, size_t room);
-void check_encodings(uint64_t code, const uint8_t *digest, size_t length, size_t room);
-void check_length(uint64_t code, size_t length);
-void check_varint(const uint8_t *bytes, size_t length);
-void check_number(uint64_t value, size_t room);
 
 /* verdicts.c */
 void replay(const char *name);

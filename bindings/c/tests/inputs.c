@@ -27,6 +27,22 @@ uint8_t *copy_of(const uint8_t *bytes, size_t length)
     return copy;
 }
 
+/* The value of each byte that a call must not write. */
+#define MARK 0xa5
+
+uint8_t *marked(size_t length)
+{
+    uint8_t *bytes = buffer(length);
+    if (length > 0) memset(bytes, MARK, length);
+    return bytes;
+}
+
+/* Nothing was written from that index on. */
+void check_marks(const uint8_t *bytes, size_t from, size_t length)
+{
+    for (size_t i = from; i < length; i++) CHECK(bytes[i] == MARK);
+}
+
 /* Zeros, with memory only where they are accessed. Null where no buffer can have that length, none is known, or a
  * limit is below it. */
 uint8_t *sparse(uint64_t length)

@@ -1,33 +1,66 @@
-/* The tests of the library: each function is compared with the models, over the test vectors, streams and large buffers;
- * and messages. They are for other compilers and machines: `proof` checks the source for all inputs. C11 and C++17. Exits
- * with status 1 at the first error.
+/* The tests of the library: test vectors, streams, varints, large buffers and messages. They are for what compilers make
+ * of it: `proof` checks the source for all inputs. C11 and C++17. Exits with status 1 at the first error.
  *
  *   test LIST..     LIST is a list of crates/vectors/data; one of CIDs has cids in its name */
 #include "check.h"
 #include "multihash_message.h"
 #include "multihash_names.h"
 
+enum { ITEMS = 36 };
+
 /* Encodings one after another, of codes and digests of several lengths: all prefixes, with room for each number. */
 static void check_streams(void)
 {
-    static const uint64_t codes[] = {0, 127, 128, 16384, INT64_MAX};
+    static const uint64_t codes[] = {0, 127, 128, 0x1012, 16384, INT64_MAX};
     static const size_t lengths[] = {0, 1, 32, 127, 128, 255};
     static const uint8_t digest[MULTIHASH_DIGEST_MAX] = {0};
-    static uint8_t bytes[30 * MULTIHASH_LENGTH_MAX];
-    size_t length = 0;
-    for (size_t i = 0; i < 5; i++) {
-        for (size_t k = 0; k < 6; k++) {
-            length += multihash_encode(codes[i], digest, lengths[k], bytes + length, sizeof bytes - length).length;
-        }
+    static uint8_t bytes[ITEMS * MULTIHASH_LENGTH_MAX];
+    multihash_item items[ITEMS]; /* has no padding */
+    size_t starts[ITEMS + 1] = {0}, whole = 0;
+    for (size_t i = 0; i < ITEMS; i++) {
+        size_t at = starts[i], length = lengths[i % 6];
+        starts[i + 1] = at + multihash_encode(codes[i / 6], digest, length, bytes + at, sizeof bytes - at).length;
+        multihash_item item = {codes[i / 6], starts[i + 1] - length, length};
+        items[i] = item;
     }
-    for (size_t part = 0; part <= length; part++) {
+    for (size_t part = 0; part <= starts[ITEMS]; part++) {
         uint8_t *input = copy_of(bytes, part);
-        for (size_t room = 0; room <= 31; room++) check_many(input, part, room);
+        if (whole < ITEMS && starts[whole + 1] == part) whole++;
+        for (size_t room = 0; room <= ITEMS + 1; room++) {
+            uint8_t *out = marked(room * sizeof *items);
+            multihash_batch batch = multihash_read_many(input, part, (multihash_item *)(void *)out, room);
+            size_t count = room < whole ? room : whole;
+            int is_end = count == room || starts[count] == part;
+            CHECK(batch.count == count && batch.taken == starts[count] && batch.size == 0);
+            if (is_end) {
+                CHECK(batch.status == MULTIHASH_OK);
+            } else {
+                int is_head = part < items[count].digest_offset;
+                CHECK(batch.status == (is_head ? MULTIHASH_INSUFFICIENT : MULTIHASH_UNEXPECTED_EOF));
+            }
+            CHECK(count == 0 || memcmp(out, items, count * sizeof *items) == 0);
+            check_marks(out, count * sizeof *items, room * sizeof *items);
+            release(out);
+        }
         release(input);
     }
 }
 
-/* Varints, each alone and with the zero byte that ends the text, and what is malformed. */
+/* Writes a number into buffers of each size. */
+static void check_writing(uint64_t value, const uint8_t *wanted, size_t length)
+{
+    for (size_t room = 0; room <= length + 1; room++) {
+        uint8_t *out = marked(room);
+        multihash_encoded result = multihash_write_varint(value, out, room);
+        size_t written = room < length ? 0 : length;
+        CHECK(result.status == (written == 0 ? MULTIHASH_NO_ROOM : MULTIHASH_OK) && result.length == length);
+        CHECK(written == 0 || memcmp(out, wanted, length) == 0);
+        check_marks(out, written, room);
+        release(out);
+    }
+}
+
+/* Varints, and what is malformed, each alone and before the zero byte that ends the text. */
 static void check_varints(void)
 {
     static const struct {
@@ -45,38 +78,45 @@ static void check_varints(void)
         {MULTIHASH_OK, INT64_MAX, 9, "\xff\xff\xff\xff\xff\xff\xff\xff\x7f"},
         {MULTIHASH_INSUFFICIENT, 0, 0, ""},
         {MULTIHASH_INSUFFICIENT, 0, 2, "\x80\x80"},
+        {MULTIHASH_INSUFFICIENT, 0, 8, "\x80\x80\x80\x80\x80\x80\x80\x80"},
         {MULTIHASH_NOT_MINIMAL, 0, 3, "\x81\x80\0"},
+        {MULTIHASH_OVERFLOW, 0, 9, "\x80\x80\x80\x80\x80\x80\x80\x80\x80"},
         {MULTIHASH_OVERFLOW, 0, 10, "\x80\x80\x80\x80\x80\x80\x80\x80\x80\1"},
     };
     for (size_t i = 0; i < sizeof rows / sizeof rows[0]; i++) {
-        int is_ok = rows[i].status == MULTIHASH_OK;
-        uint8_t out[9], *input = copy_of((const uint8_t *)rows[i].bytes, rows[i].length);
-        multihash_varint found = multihash_read_varint(input, rows[i].length);
-        CHECK(found.status == rows[i].status && found.value == rows[i].value);
-        CHECK(found.length == (is_ok ? rows[i].length : 0));
-        CHECK(!is_ok || multihash_write_varint(found.value, out, sizeof out).length == found.length);
-        CHECK(!is_ok || memcmp(out, input, found.length) == 0);
-        check_varint((const uint8_t *)rows[i].bytes, rows[i].length + 1);
-        release(input);
-        for (size_t room = 0; room <= 10; room++) check_number(found.value, room);
+        const uint8_t *bytes = (const uint8_t *)rows[i].bytes;
+        const int is_ok = rows[i].status == MULTIHASH_OK, more = rows[i].status != MULTIHASH_INSUFFICIENT;
+        for (size_t length = rows[i].length; length <= rows[i].length + (more ? 1 : 0); length++) {
+            uint8_t *input = copy_of(bytes, length);
+            multihash_varint result = multihash_read_varint(input, length);
+            CHECK(result.status == rows[i].status && result.value == rows[i].value);
+            CHECK(result.length == (is_ok ? rows[i].length : 0));
+            release(input);
+        }
+        if (is_ok) check_writing(rows[i].value, bytes, rows[i].length);
     }
-    for (size_t room = 0; room <= 10; room++) check_number((uint64_t)INT64_MAX + 1, room);
+    uint8_t out[10] = {0};
+    multihash_encoded result = multihash_write_varint((uint64_t)INT64_MAX + 1, out, sizeof out);
+    CHECK(result.status == MULTIHASH_OVERFLOW && result.length == 0 && out[0] == 0);
 }
 
-/* A length that no buffer has, which is rejected without an access, and buffers of more than 2^32 bytes. */
+/* Lengths that no buffer has, of which nothing is accessed but the head, and buffers of more than 2^32 bytes. */
 static void check_large(void)
 {
-    static const uint8_t digest[] = {7};
-    check_length(0, SIZE_MAX);
-    check_encodings(0, digest, SIZE_MAX, 9);
-    uint64_t length = ((uint64_t)1 << 32) + 300;
-    size_t room = (size_t)length;
+    static const uint8_t digest[] = {7}, head[] = {18, 1};
+    CHECK(multihash_encoded_len(0, SIZE_MAX).size == SIZE_MAX);
+    CHECK(multihash_encode(0, digest, SIZE_MAX, NULL, 0).size == SIZE_MAX);
+    CHECK(multihash_scale_encode(0, digest, SIZE_MAX, NULL, 0).status == MULTIHASH_INVALID_SIZE);
+    CHECK(multihash_from_prefix(head, sizeof head, SIZE_MAX).size == SIZE_MAX - 3);
+    const uint64_t length = ((uint64_t)1 << 32) + 300;
+    const size_t room = (size_t)length;
     uint8_t *bytes = sparse(length);
     if (bytes == NULL) return;
     CHECK(multihash_scale_encode(18, digest, sizeof digest, bytes, room).length == 10);
-    check_decodings(bytes, room, MULTIHASH_DIGEST_MAX);
+    CHECK(multihash_scale_decode(bytes, room).taken == 10);
     CHECK(multihash_encode(18, digest, sizeof digest, bytes, room).length == 3);
-    check_decodings(bytes, room, MULTIHASH_DIGEST_MAX);
+    CHECK(multihash_read(bytes, room).taken == 3 && multihash_head(bytes, room).taken == 2);
+    CHECK(multihash_from_bytes(bytes, room).size == room - 3 && multihash_read_varint(bytes, room).length == 1);
     CHECK(multihash_put_status_text(MULTIHASH_OK, bytes + 3, room - 3).length == 2);
     /* the first bytes differ */
     CHECK(multihash_compare(18, bytes, room - 1, 18, bytes + 1, room - 1) == 1);
@@ -111,10 +151,10 @@ static void check_message_is(int length, const char *wanted)
 }
 
 /* An encoding of a code and a digest of that length fails where `out` has that many bytes. */
-static void check_encode(multihash_encoded made, uint64_t code, size_t out_length, const char *wanted)
+static void check_encode(multihash_encoded result, uint64_t code, size_t out_length, const char *wanted)
 {
-    CHECK(made.status != MULTIHASH_OK);
-    check_message_is(multihash_encode_message(message, sizeof message, made, code, out_length), wanted);
+    CHECK(result.status != MULTIHASH_OK);
+    check_message_is(multihash_encode_message(message, sizeof message, result, code, out_length), wanted);
 }
 
 /* Messages that messages.tsv of crates/vectors does not have: of encodings, of what follows other multihashes, of longer

@@ -1,4 +1,5 @@
-/* The test vectors: the library has the results of each line of the lists of crates/vectors/data. */
+/* The test vectors: each function has the results of each line of the lists of crates/vectors/data. What a line accepts is
+ * cut at each byte, and encoded again. */
 #include "check.h"
 #include "multihash_message.h"
 #include "multihash_names.h"
@@ -20,7 +21,7 @@ static size_t parse_hex(const char *text, uint8_t *to, size_t places)
     return length;
 }
 
-/* Each word of the list is that of one status, from the first line on that has it. The models have the statuses. */
+/* Each word of the list is that of one status, from the first line on that has it. */
 static void check_word(multihash_status status, const char *word)
 {
     static char words[16][32] = {"pair"};
@@ -30,18 +31,129 @@ static void check_word(multihash_status status, const char *word)
     for (size_t i = 0; i < 16; i++) CHECK((strcmp(words[i], word) == 0) == (i == status));
 }
 
+/* A failed decoding: this status, and that many bytes consumed. */
+static void check_failed(multihash_decoded result, multihash_status status, size_t taken)
+{
+    CHECK(result.status == status && result.size == 0 && result.code == 0);
+    CHECK(result.digest_offset == 0 && result.digest_length == 0 && result.taken == taken);
+}
+
 /* Compares a result with its column: a word, a number and a digest. Where there is none the fields are 0. */
-static void check_result(multihash_decoded found, const uint8_t *input, const char *column, const char *taken)
+static void check_result(multihash_decoded result, const uint8_t *input, const char *column, const char *taken)
 {
     char word[32], digits[2 * MULTIHASH_DIGEST_MAX + 1] = "-";
     uint8_t digest[MULTIHASH_DIGEST_MAX];
     uint64_t number = 0;
     CHECK(sscanf(column, "%31s %" SCNu64 " %510s", word, &number, digits) > 0);
-    check_word(found.status, word);
-    CHECK(number == (found.status == MULTIHASH_INVALID_SIZE ? found.size : found.code));
-    CHECK(parse_hex(digits, digest, sizeof digest) == found.digest_length);
-    CHECK(found.digest_length == 0 || memcmp(digest, input + found.digest_offset, found.digest_length) == 0);
-    CHECK(strcmp(taken, "-") == 0 || found.taken == strtoul(taken, NULL, 10));
+    check_word(result.status, word);
+    CHECK(number == (result.status == MULTIHASH_INVALID_SIZE ? result.size : result.code));
+    CHECK((result.status == MULTIHASH_INVALID_SIZE ? result.code : result.size) == 0);
+    CHECK(parse_hex(digits, digest, sizeof digest) == result.digest_length);
+    CHECK(result.digest_length == 0 || memcmp(digest, input + result.digest_offset, result.digest_length) == 0);
+    CHECK(result.status == MULTIHASH_OK || result.digest_offset == 0);
+    CHECK(strcmp(taken, "-") == 0 || result.taken == strtoul(taken, NULL, 10));
+}
+
+/* A code and a digest have this encoding. A buffer that is too small, and bytes after the encoding, are unchanged. */
+static void check_encoding(encoder encode, uint64_t code, const uint8_t *digest, size_t digest_length,
+                           const uint8_t *wanted, size_t length)
+{
+    const size_t rooms[] = {0, length - 1, length, length + 1};
+    for (size_t i = 0; i < 4; i++) {
+        uint8_t *out = marked(rooms[i]);
+        multihash_encoded result = encode(code, digest, digest_length, out, rooms[i]);
+        size_t written = rooms[i] < length ? 0 : length;
+        CHECK(result.status == (written == 0 ? MULTIHASH_NO_ROOM : MULTIHASH_OK));
+        CHECK(result.size == 0 && result.length == length);
+        CHECK(written == 0 || memcmp(out, wanted, length) == 0);
+        check_marks(out, written, rooms[i]);
+        release(out);
+    }
+}
+
+/* Encodes what was decoded from the start of these bytes. */
+static void check_encoded_again(encoder encode, const uint8_t *bytes, multihash_decoded result)
+{
+    uint8_t *digest = copy_of(bytes + result.digest_offset, result.digest_length);
+    check_encoding(encode, result.code, digest, result.digest_length, bytes, result.taken);
+    release(digest);
+}
+
+/* The multihash at the start of an input of that length, by the other calls; and cut at each byte. */
+static void check_accepted(const uint8_t *input, size_t length, multihash_decoded result)
+{
+    multihash_item item;
+    multihash_front head = multihash_head(input, length);
+    multihash_varint code = multihash_read_varint(input, length);
+    multihash_batch batch = multihash_read_many(input, length, &item, 1);
+    const size_t start = result.digest_offset;
+    CHECK(head.status == MULTIHASH_OK && head.code == result.code && head.taken == start);
+    CHECK(head.digest_length == result.digest_length && start + result.digest_length == result.taken);
+    CHECK(code.status == MULTIHASH_OK && code.value == result.code && code.length < start);
+    CHECK(batch.status == MULTIHASH_OK && batch.size == 0 && batch.count == 1 && batch.taken == result.taken);
+    CHECK(item.code == result.code && item.digest_offset == start && item.digest_length == result.digest_length);
+    CHECK(multihash_encoded_len(result.code, result.digest_length).length == result.taken);
+    check_encoded_again(multihash_encode, input, result);
+    for (size_t part = 0; part < result.taken; part++) {
+        const int is_head = part < start;
+        const multihash_status status = is_head ? MULTIHASH_INSUFFICIENT : MULTIHASH_UNEXPECTED_EOF;
+        check_failed(multihash_read(input, part), status, is_head ? part : start);
+        check_failed(multihash_from_bytes(input, part), status, part);
+        check_failed(multihash_from_prefix(input, result.taken, part), status, part);
+        if (is_head) check_failed(multihash_from_prefix(input, part, length), status, length);
+        head = multihash_head(input, part);
+        CHECK((is_head ? head.status == status : head.status == MULTIHASH_OK) && head.taken == (is_head ? part : start));
+        batch = multihash_read_many(input, part, &item, 1);
+        CHECK(batch.count == 0 && batch.taken == 0);
+        CHECK(part == 0 ? batch.status == MULTIHASH_OK : batch.status == status);
+    }
+}
+
+/* An input that multihash_read rejects, by the other calls. */
+static void check_rejected(const uint8_t *input, size_t length, multihash_decoded result)
+{
+    multihash_item item;
+    multihash_batch batch = multihash_read_many(input, length, &item, 1);
+    CHECK(length == 0 ? batch.status == MULTIHASH_OK : batch.status == result.status);
+    CHECK(batch.size == result.size && batch.count == 0 && batch.taken == 0);
+    multihash_front head = multihash_head(input, length);
+    const int is_head = result.status == MULTIHASH_INVALID_SIZE || result.status == MULTIHASH_UNEXPECTED_EOF;
+    CHECK(is_head ? head.status == MULTIHASH_OK : head.status == result.status);
+    CHECK(head.taken == result.taken);
+    CHECK(is_head || (head.code == 0 && head.digest_length == 0));
+    CHECK(result.status != MULTIHASH_INVALID_SIZE || head.digest_length == result.size);
+}
+
+static void check_scale_accepted(const uint8_t *input, multihash_decoded result)
+{
+    CHECK(result.digest_offset == 9 && result.taken == 9 + result.digest_length);
+    check_encoded_again(multihash_scale_encode, input, result);
+    for (size_t part = 0; part < result.taken; part++) {
+        check_failed(multihash_scale_decode(input, part), MULTIHASH_UNEXPECTED_EOF, part < 8 ? 0 : part < 9 ? 8 : 9);
+    }
+}
+
+/* A limit, an input, and what the calls return. Only multihash_read_limit has another limit than 255. */
+static void check_verdict(const char *const *column)
+{
+    static uint8_t bytes[LINE_MAX_BYTES / 2];
+    size_t limit = strtoul(column[0], NULL, 10), length = parse_hex(column[1], bytes, sizeof bytes);
+    uint8_t *input = copy_of(bytes, length);
+    multihash_decoded result = multihash_read_limit(input, length, limit > MULTIHASH_DIGEST_MAX ? SIZE_MAX : limit);
+    check_result(result, input, column[2], column[3]);
+    if (result.status == MULTIHASH_OK) check_accepted(input, length, result);
+    if (limit >= MULTIHASH_DIGEST_MAX) {
+        const size_t prefix = length < MULTIHASH_HEAD_MAX ? length : MULTIHASH_HEAD_MAX;
+        multihash_decoded scale = multihash_scale_decode(input, length);
+        check_result(multihash_read(input, length), input, column[2], column[3]);
+        if (result.status != MULTIHASH_OK) check_rejected(input, length, result);
+        check_result(multihash_from_bytes(input, length), input, column[4], "-");
+        check_result(multihash_from_prefix(input, prefix, length), input, column[4], "-");
+        check_result(scale, input, column[5], column[6]);
+        if (scale.status == MULTIHASH_OK) check_scale_accepted(input, scale);
+        CHECK(multihash_from_bytes(input, length).taken == length);
+    }
+    release(input);
 }
 
 /* How two multihashes compare: the code and the digest of each, and -1, 0 or 1. */
@@ -54,21 +166,21 @@ static void check_order(const char *const *column)
     CHECK(multihash_compare(code, left, length, other_code, right, other_length) == order);
 }
 
-/* An encoding, or the error, is that of the column. */
+/* The encoding of a pair is that of the column, or the error. */
 static void check_encoded(encoder encode, uint64_t code, const uint8_t *digest, size_t length, const char *column)
 {
-    uint8_t out[MULTIHASH_LENGTH_MAX], wanted[MULTIHASH_LENGTH_MAX];
+    uint8_t wanted[MULTIHASH_LENGTH_MAX], out[MULTIHASH_LENGTH_MAX] = {0};
     char word[32];
     uint64_t number = 0;
-    multihash_encoded found = encode(code, digest, length, out, sizeof out);
-    if (found.status != MULTIHASH_OK) {
-        CHECK(sscanf(column, "%31s %" SCNu64, word, &number) == 2);
-        check_word(found.status, word);
-        CHECK(number == (found.status == MULTIHASH_INVALID_SIZE ? found.size : code));
-    } else {
-        CHECK(found.length == parse_hex(column, wanted, sizeof wanted));
-        CHECK(memcmp(out, wanted, found.length) == 0);
+    if (strncmp(column, "invalid", 7) != 0) {
+        check_encoding(encode, code, digest, length, wanted, parse_hex(column, wanted, sizeof wanted));
+        return;
     }
+    multihash_encoded result = encode(code, digest, length, out, sizeof out);
+    CHECK(sscanf(column, "%31s %" SCNu64, word, &number) == 2);
+    check_word(result.status, word);
+    CHECK(number == (result.status == MULTIHASH_INVALID_SIZE ? result.size : code) && result.length == 0);
+    CHECK(multihash_encoded_len(code, length).status == result.status && out[0] == 0);
 }
 
 /* A limit, a code, a digest, and both encodings. The encoders have the limit 255: lines that only a smaller one rejects
@@ -103,36 +215,31 @@ static void check_message(const char *const *column)
     release(input);
 }
 
-/* The other calls than multihash_read_limit have the results for the limit 255. Columns of other encodings may
- * follow. */
+/* A code and its name; another column may follow. */
+static void check_name(const char *const *column)
+{
+    const uint64_t code = strtoull(column[0], NULL, 16);
+    CHECK(strcmp(multihash_name(code), column[1]) == 0);
+    CHECK(multihash_code(column[1]) == code);
+}
+
+/* The first column of a line, or its first characters, say what the columns are. */
 static void check_line(char *text)
 {
-    static uint8_t bytes[LINE_MAX_BYTES / 2];
+    static const struct {
+        const char *first;
+        int count;
+        void (*check)(const char *const *column);
+    } kinds[] = {
+        {"order\t", 6, check_order}, {"value\t", 6, check_value}, {"message\t", 6, check_message},
+        {"0x", 2, check_name},       {"", 7, check_verdict},
+    };
     const char *column[7];
-    if (strncmp(text, "0x", 2) == 0) {
-        column[0] = strtok(text, "\t\n");
-        column[1] = strtok(NULL, "\t\n");
-        CHECK(strcmp(multihash_name(strtoull(column[0], NULL, 16)), column[1]) == 0);
-        CHECK(multihash_code(column[1]) == strtoull(column[0], NULL, 16));
-        return;
-    }
-    int is_order = strncmp(text, "order\t", 6) == 0, is_value = strncmp(text, "value\t", 6) == 0;
-    int count = is_order || is_value || strncmp(text, "message\t", 8) == 0 ? 6 : 7;
-    for (int i = 0; i < count; i++) column[i] = strtok(i == 0 ? text : NULL, "\t\n");
-    CHECK(column[count - 1] != NULL);
-    if (count == 6) {
-        (is_order ? check_order : is_value ? check_value : check_message)(column + 1);
-        return;
-    }
-    size_t limit = strtoul(column[0], NULL, 10), length = parse_hex(column[1], bytes, sizeof bytes);
-    uint8_t *input = copy_of(bytes, length);
-    check_result(multihash_read_limit(input, length, limit), input, column[2], column[3]);
-    if (limit >= MULTIHASH_DIGEST_MAX) {
-        check_result(multihash_from_bytes(input, length), input, column[4], "-");
-        check_result(multihash_scale_decode(input, length), input, column[5], column[6]);
-    }
-    check_decodings(input, length, limit > MULTIHASH_DIGEST_MAX ? SIZE_MAX / 2 + 1 : limit);
-    release(input);
+    size_t kind = 0;
+    while (strncmp(text, kinds[kind].first, strlen(kinds[kind].first)) != 0) kind++;
+    for (int i = 0; i < kinds[kind].count; i++) column[i] = strtok(i == 0 ? text : NULL, "\t\n");
+    CHECK(column[kinds[kind].count - 1] != NULL);
+    kinds[kind].check(kind < 3 ? column + 1 : column);
 }
 
 void replay(const char *name)
