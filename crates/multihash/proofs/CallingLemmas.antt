@@ -1,27 +1,24 @@
 -- What callers conclude from the contracts of several calls.
 use Rattle.std.proofs.Common.{Vec, Global, length-append, ◌≡◌, ℕ, ◌<◌, ◌≤◌, ◌⊎◌, IfOk, IfErr, OnErr, IsOk, inl, inr, List, [], ◌++◌}
-use Rattle.std.proofs.Common.{length, map, false, Option, Some, Result, Ok, Err, MatchResult, IfSome, refl, sym, ap, ◌∙◌, subst, arith}
-use Rattle.std.proofs.Common.{append_assoc, ◌+◌, drop, length-drop}
+use Rattle.std.proofs.Common.{length, map, false, Option, Some, Result, Ok, Err, MatchResult, refl, sym, ap, ◌∙◌, subst, arith}
+use Rattle.std.proofs.Common.{◌+◌, drop, length-drop}
 use Rattle.std.specs.List.{All}
 use Rattle.std.specs.Result.{IsErrAnd}
 use Rattle.std.proofs.lemmas.List.{length-map}
 use Rattle.multihash.specs.Pair.{Pair, FitsBuffer, digest_limit}
 use Rattle.multihash.specs.Encoding.{IsEncoding}
 use Rattle.multihash.specs.Streams.{AreConcatenated, ConsumesPairs, StopsAfterPairs}
-use Rattle.multihash.specs.Varint.{VarintError, insufficient, overflow, not_minimal, IsVarint}
+use Rattle.multihash.specs.Varint.{VarintError}
 use Rattle.multihash.specs.Verdict.{Verdict, accepted, invalid_size, invalid_code, malformed, unexpected_eof, BeginsWithSize, HasHead}
-use Rattle.multihash.specs.Verdict.{HasVerdict, HasWholeVerdict, IsIncomplete}
-use Rattle.multihash.specs.Consuming.{ConsumesVarint, ConsumesAtVarintError, FailsBy, VarintFails, ExactFails}
-use Rattle.multihash.proofs.SettlingLemmas.{error_of_part, verdict_kept}
-use Rattle.multihash.proofs.ReadConsumingLemmas.{incomplete_error}
+use Rattle.multihash.specs.Verdict.{HasVerdict, HasWholeVerdict}
+use Rattle.multihash.specs.Consuming.{ExactFails}
 use Rattle.multihash.specs.Fault.{Fault, IsOwnFault, IsUnexpectedEof}
 use Rattle.multihash.specs.Reading.{Consumes, ConsumesFewerThan, HasFewerThan}
 use Rattle.multihash.specs.Scale.{IsScale, HasScaleVerdict}
 use Rattle.multihash.specs.Writing.{AppendsPrefix, CountsWriterFailures}
 use Rattle.multihash.specs.Filling.{Fills, IsFilled}
 use Rattle.multihash.specs.declared.no_std_io.slice_writer.SliceWriter.{SliceWriter}
-use Rattle.multihash.specs.Refusal.{Refusal, of_io, of_varint, IsIo, IsEof, IsOutOfMemory, IsInvalidSize, IsVarintError, IsFrontError}
-use Rattle.multihash.specs.Refusal.{IsAnyVarintError}
+use Rattle.multihash.specs.Refusal.{Refusal, of_io, of_varint, IsIo, IsOutOfMemory, IsInvalidSize, IsFrontError}
 use Rattle.multihash.specs.Outcome.{IsErrorOf, IsResultOf}
 use Rattle.multihash.specs.Multihash.{Fields, pair_of}
 use Rattle.multihash.proofs.WritingLemmas.{slice_writer_has_room}
@@ -29,7 +26,7 @@ use Rattle.multihash.proofs.ReadingLemmas.{Consumes-known, Consumes-concatenated
 use Rattle.multihash.proofs.VerdictLemmas.{verdict_unique, whole_verdict_unique}
 use Rattle.multihash.proofs.VarintLemmas.{error as wrong_front, front_unique, number_no_error, number_unique}
 use Rattle.multihash.proofs.ScaleLemmas.{scale_split, scale_verdict_unique}
-use Rattle.multihash.proofs.StreamLemmas.{part_read, next_part, parts_unique}
+use Rattle.multihash.proofs.StreamLemmas.{next_part, parts_unique}
 use Rattle.multihash.proofs.EncodingLemmas.{encoding_same, encoding_unique}
 
 -- reading that many pairs of a stream did not stop at an error
@@ -89,19 +86,6 @@ pub scale_taken : (S : ℕ) (p : Pair) (input bytes more : List ℕ) (v : Verdic
 scale_taken S p input bytes more v e whole form fits found rejected =
     subst (IsErrorOf e) (scale_verdict_unique S input v (accepted p) found (bytes, more, form, omega arith, whole)) rejected
 
--- if a pair's encoding comes next, reading returns the pair and leaves what follows
-pub read_of_encoding : (S : ℕ) {before after : ℕ} {old : Option (List ℕ)} (new : Option (List ℕ)) (p : Pair) (bytes more : List ℕ)
-    (r : Result (Fields S) Refusal) → IsEncoding p bytes → FitsBuffer S p → old ≡ Some (bytes ++ more) → after ≡ before
-    → IfSome old (λ rest. after ≡ before → (v : Verdict) × HasVerdict S rest v × IsResultOf r v)
-    → IfOk r (λ m. (consumed : List ℕ) × IsEncoding (pair_of m) consumed × Consumes old consumed new)
-    → MatchResult r (λ m. (pair_of m ≡ p) × (new ≡ Some more)) (λ _. ⊥)
-read_of_encoding S {old = old} new p bytes more (Ok m) encodes fits rest same verdict ok =
-    part_read IsEncoding encoding_unique (pair_of m) p bytes more old new ok encodes rest
-read_of_encoding S new p bytes more (Err e) encodes fits rest same verdict ok =
-    let found = (rw rest at verdict) same in
-    let own : HasVerdict S (bytes ++ more) (accepted p) = (more, record { encoding = bytes; encodes = encodes; cut = refl }, fits) in
-    subst (IsErrorOf e) (verdict_unique S (bytes ++ more) found.0 (accepted p) found.1 own) found.2
-
 -- bytes that `from_bytes` rejects encode no pair that fits: the first fact is a clause of it
 pub rejected_no_encoding : (S : ℕ) {e : Refusal} {bytes : List ℕ} → (v : Verdict) × HasWholeVerdict S bytes v × IsErrorOf e v
     → (p : Pair) → IsEncoding p bytes → FitsBuffer S p → ⊥
@@ -134,48 +118,6 @@ rejected_size S size input rest (Err e) h over v =
     subst (λ w. IsResultOf {S = S} (Err e) w) same v.2
 
 -- ---- parts that are read one after another
-
-module _ (n m : ℕ) (varint rest : List ℕ) (is : IsVarint n varint) where
-  -- a varint that comes next was read: its number, and what follows it
-  pub number_read : (old new : Option (List ℕ)) → old ≡ Some (varint ++ rest) → ConsumesVarint m old new → (m ≡ n) × (new ≡ Some rest)
-  number_read old new at (read, also, consumes) =
-      let (left, told, cut) = Consumes-known (varint ++ rest) read new (sym at ∙ consumes) in
-      let both = number_unique (varint ++ rest) m n left rest (read, also, cut) (varint, is, refl) in
-      (both.0, told ∙ ap Some both.1)
-
-  -- a varint was read from a part of the input: the rest of the part is left
-  pub number_in_part : (part more : List ℕ) (new : Option (List ℕ)) → varint ++ rest ≡ part ++ more → ConsumesVarint m (Some part) new
-      → (left : List ℕ) × (new ≡ Some left) × (m ≡ n) × (rest ≡ left ++ more)
-  number_in_part part more new cut (read, also, consumes) =
-      let (left, told, split) = Consumes-known part read new consumes in
-      let whole = cut ∙ (ap (λ (z : List ℕ). z ++ more) split ∙ append_assoc read left more) in
-      let both = number_unique (varint ++ rest) m n (left ++ more) rest (read, also, whole) (varint, is, refl) in
-      (left, told, both.0, sym both.1)
-
-module _ (before after : ℕ) (same : after ≡ before) (e : Refusal) where
-  -- a varint that comes next is read if the reader does not fail
-  pub number_found : (n : ℕ) (varint rest : List ℕ) (old new : Option (List ℕ)) → IsVarint n varint → old ≡ Some (varint ++ rest)
-      → VarintFails before after e old new → ⊥
-  number_found n varint rest old new is at fails =
-      let (error, _, bad) = (rw at at fails.front) same in
-      number_no_error (varint ++ rest) n rest error (varint, is, refl) bad
-
-  -- a part of the input is rejected only if it ends within the varint
-  pub number_truncated : (n : ℕ) (varint rest part more : List ℕ) (new : Option (List ℕ)) → IsVarint n varint
-      → varint ++ rest ≡ part ++ more
-      → VarintFails before after e (Some part) new → IsVarintError insufficient e
-  number_truncated n varint rest part more new is cut fails =
-      let (error, named, bad) = fails.front same in
-      named ∙ ap of_varint (error_of_part n varint rest part more error is cut bad)
-
-  -- as many bytes as are requested are read if they come next, and the reader does not fail
-  pub exact_found : (n : ℕ) (body more : List ℕ) (old new : Option (List ℕ)) → n ≤ length body → old ≡ Some (body ++ more)
-      → ExactFails n before after e old new → ⊥
-  exact_found n body more old new long at fails = omega (arith, (rw at at fails.short) same, length-append body more, long)
-
-  -- if that many bytes could not be read, and the reader did not fail, the input ended
-  pub exact_truncated : (n : ℕ) (old new : Option (List ℕ)) → ExactFails n before after e old new → IsEof e
-  exact_truncated n old new fails = elim fails.cause [ inl own ↦ absurd (omega (arith, own.0, same)) | inr ended ↦ ended.1 ]
 
 -- `read_exact` failed after calls that counted no failure: the facts are its laws
 pub exact_fails : (n before middle after : ℕ) (old new : Option (List ℕ)) (error : Fault) → middle ≡ before
@@ -250,18 +192,7 @@ module _ (code size len : ℕ) (input : List ℕ) (h : HasHead code size len inp
       let once = sizes_once size (length p.digest) input (drop len input) p.digest h.varints own in
       (sym h.is_code ∙ once.0, once.1, once.2)
 
--- `varint::read` failed after calls that counted no failure: the facts are its clauses
-pub varint_fails : (before middle after : ℕ) (old new : Option (List ℕ)) (e : Refusal) → middle ≡ before
-    → FailsBy middle after IsAnyVarintError e
-    → ConsumesAtVarintError e old new → IfSome old (λ input. after ≡ middle → IsFrontError input e) → VarintFails before after e old new
-varint_fails before middle after old new e same cause consumed front =
-    subst (λ k. VarintFails k after e old new) same (record { cause = cause; consumed = consumed; front = front })
-
 -- ---- parts at the front of an input, and their errors
-
--- bytes that start with a varint have no error at their front
-pub front_no_error : (n : ℕ) (a r bytes : List ℕ) (e : Refusal) → IsVarint n a → bytes ≡ a ++ r → IsFrontError bytes e → ⊥
-front_no_error n a r bytes e is cut (why, named, bad) = number_no_error bytes n r why (a, is, cut) bad
 
 -- an input has at most one error at its front
 pub front_error_unique : (x : List ℕ) (e f : Refusal) → IsFrontError x e → IsFrontError x f → e ≡ f
@@ -283,49 +214,3 @@ error_of_unique e f (invalid_size size) h k = h ∙ sym k
 error_of_unique e f (invalid_code code) h k = h ∙ sym k
 error_of_unique e f (malformed error) h k = h ∙ sym k
 error_of_unique e f unexpected_eof h k = cc (h.1, h.2, k.1, k.2)
-
--- ---- a truncated input
-
--- a verdict is incomplete, or it is not
-pub incomplete_or_not : (v : Verdict) → IsIncomplete v ⊎ (¬ (IsIncomplete v))
-incomplete_or_not (accepted p) = inr (λ h. h)
-incomplete_or_not (invalid_size size) = inr (λ h. h)
-incomplete_or_not (invalid_code code) = inr (λ h. h)
-incomplete_or_not (malformed insufficient) = inl tt
-incomplete_or_not (malformed overflow) = inr (λ h. h)
-incomplete_or_not (malformed not_minimal) = inr (λ h. h)
-incomplete_or_not unexpected_eof = inl tt
-
--- a part of an input that starts with an encoding that fits is rejected only if it ends within the encoding
-pub encoding_truncated : (S : ℕ) (p : Pair) (bytes rest part more : List ℕ) (v : Verdict) (e : Refusal) → IsEncoding p bytes
-    → FitsBuffer S p
-    → part ++ more ≡ bytes ++ rest → HasVerdict S part v → IsErrorOf e v → IsVarintError insufficient e ⊎ IsEof e
-encoding_truncated S p bytes rest part more v e encodes fits cut has is =
-    elim (incomplete_or_not v) [
-      | inl ends ↦ incomplete_error e v is ends
-      | inr late ↦ absurd (encoding_no_error S p bytes rest (part ++ more) v e encodes fits cut (verdict_kept S part more v late has) is)
-    ]
-
--- if reading a list from a part of an input that starts with the list stops, the part ends within the list
-pub list_truncated : (S count before after : ℕ) (same : after ≡ before) (e : Refusal) (pairs : List Pair) (bytes rest part more : List ℕ)
-    (new : Option (List ℕ)) → AreConcatenated pairs bytes → All (FitsBuffer S) pairs → length pairs ≡ count → bytes ++ rest ≡ part ++ more
-    → StopsAfterPairs S count e before after (Some part) new → IsVarintError insufficient e ⊎ IsEof e
-list_truncated S count before after same e pairs bytes rest part more new are fit many cut stop =
-    let (left, is_left, split) = Consumes-known part stop.consumed.bytes stop.following stop.consumed.consumes in
-    let joined : stop.consumed.bytes ++ (left ++ more) ≡ bytes ++ rest =
-    sym (append_assoc stop.consumed.bytes left more) ∙ ap (λ (l : List ℕ). l ++ more) (sym split) ∙ sym cut in
-    let (p, one, after_one, encodes, comes, of_all) = next_part IsEncoding encoding_unique stop.pairs pairs stop.consumed.bytes bytes
-    (left ++ more) rest stop.consumed.concatenated are (omega (arith, stop.fewer, many)) joined in
-    let (v, has, is) = (rw is_left at stop.failed.verdict) same in
-    encoding_truncated S p one after_one left more v e encodes (of_all (FitsBuffer S) fit) comes has is
-
--- a list was read from a part of an input that starts with it: the rest of the part is left
-pub list_in_part : (S : ℕ) (pairs found : List Pair) (bytes rest part more : List ℕ) (new : Option (List ℕ)) → AreConcatenated pairs bytes
-    → length found ≡ length pairs → bytes ++ rest ≡ part ++ more → ConsumesPairs S found (Some part) new
-    → (left : List ℕ) × (new ≡ Some left) × (found ≡ pairs) × (rest ≡ left ++ more)
-list_in_part S pairs found bytes rest part more new are long cut read =
-    let (left, is_left, split) = Consumes-known part read.bytes new read.consumes in
-    let joined : read.bytes ++ (left ++ more) ≡ bytes ++ rest =
-    sym (append_assoc read.bytes left more) ∙ ap (λ (l : List ℕ). l ++ more) (sym split) ∙ sym cut in
-    let told = parts_unique IsEncoding encoding_unique found pairs read.bytes bytes (left ++ more) rest long read.concatenated are joined in
-    (left, is_left, told.0, sym told.2)

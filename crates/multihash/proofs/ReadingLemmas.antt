@@ -1,8 +1,8 @@
 -- What two calls, one after the other, consumed, and what is at the front of a buffer after them.
 use Rattle.std.proofs.Common.{◌≡◌, ℕ, ◌+◌, ◌≤◌, List, [], ◌++◌, Option, None, Some, IfSome, subst, length, take, refl, sym, ap, ◌∙◌, ◌-◌}
-use Rattle.std.proofs.Common.{drop, arith, append_assoc, append-nil, length-append, length-take-le}
+use Rattle.std.proofs.Common.{append_assoc, append-nil, length-take-le}
 use Rattle.std.proofs.lemmas.List.{take-append-le}
-use Rattle.std.proofs.Math.Seq.{take-append-add, take-append_seam, drop-append_seam}
+use Rattle.std.proofs.Math.Seq.{take-append-add}
 use borrow.Rule.Slice.PartMut.{put_mid, post_of}
 use Rattle.std.specs.Io.KnownBytes.{prepend_known, IsAtEnd}
 use Rattle.multihash.specs.Reading.{Consumes}
@@ -44,13 +44,6 @@ pub all_read : (whole consumed : List ℕ) (new : Option (List ℕ)) → Consume
 all_read whole consumed None consumes end = cc
 all_read whole consumed (Some left) consumes end =
     Consumes-cut whole consumed left consumes ∙ ap (λ z. consumed ++ z) end ∙ append-nil consumed
-
--- the lengths of an input and of what is left of it tell where it was cut
-pub cut_at : (input front left : List ℕ) → input ≡ front ++ left
-    → (take (length input - length left) input ≡ front) × (drop (length input - length left) input ≡ left)
-cut_at input front left cut =
-    let long : length input - length left ≡ length front = omega (arith, ap length cut, length-append front left) in
-    (rw (long, cut) (take-append_seam front left), rw (long, cut) (drop-append_seam front left))
 
 -- what holds of the consumed bytes with any rest holds of the rest at entry, if the input is known
 pub IfSome-consumed : (old new : Option (List ℕ)) (consumed : List ℕ) (P : List ℕ → Type 0) → Consumes old consumed new

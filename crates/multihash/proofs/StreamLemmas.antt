@@ -1,7 +1,7 @@
 -- Parts in a stream, none of which is a prefix of another, can be split in one way only; one more pair has been
 -- consumed.
 use Rattle.std.proofs.Common.{◌≡◌, ℕ, ◌<◌, ◌≤◌, List, [], ◌∷◌, ◌++◌, length, refl, sym, ap, ◌∙◌, subst, arith, length-append}
-use Rattle.std.proofs.Common.{append_assoc, append-nil, Option, Some, map, inl, inr}
+use Rattle.std.proofs.Common.{append_assoc, append-nil, Option, Some, map}
 use Rattle.std.specs.List.{All}
 use Rattle.multihash.specs.Pair.{Pair, FitsBuffer}
 use Rattle.multihash.specs.Encoding.{IsEncoding}
@@ -9,7 +9,6 @@ use Rattle.multihash.specs.Streams.{AreParts, AreConcatenated, ConsumesPairs}
 use Rattle.multihash.proofs.DigitLemmas.{All-append_right}
 use Rattle.multihash.proofs.VarintLemmas.{varint_some}
 use Rattle.multihash.proofs.EncodingLemmas.{encoding_unique}
-use Rattle.std.proofs.lemmas.Bool.{cases_lt}
 use Rattle.std.proofs.lemmas.List.{map_push, nil_from_length}
 use Rattle.std.proofs.lemmas.List.Elements.{All-push, All-head}
 use Rattle.multihash.specs.Consuming.{ConsumesSome}
@@ -85,18 +84,6 @@ module _ {A : Type 0} (IsPart : A → List ℕ → Type 0) where
           left ∙ (ap (λ w. w ++ s) cut ∙ append_assoc part rest s),
           λ P all. All-head P z zs (All-append_right P xs (z ∷ zs) (subst (All P) same all)),
         )
-
-    -- after a shorter stream comes a part of the longer one, so a loop need not know their number
-    pub part_follows : (xs ys : List A) (a b r s : List ℕ) → AreParts IsPart xs a → AreParts IsPart ys b → length a < length b
-        → a ++ r ≡ b ++ s
-        → (y : A) × (part : List ℕ) × (rest : List ℕ) × IsPart y part × (r ≡ part ++ rest) × ((P : A → Type 0) → All P ys → P y)
-    part_follows xs ys a b r s g h longer e =
-        elim (cases_lt (length xs) (length ys)) [
-          | inl few ↦ next_part xs ys a b r s g h few e
-          | inr many ↦
-              let (_, c, _, _, whole, _) = parts_split ys xs b a s r h g many (sym e) in
-              absurd (omega (arith, longer, ap length whole, length-append b c))
-        ]
 
     module _ (some : (x : A) (part : List ℕ) → IsPart x part → 0 < length part) where
       -- if no part is empty, the items of a stream at the front of a longer one are the first of its items

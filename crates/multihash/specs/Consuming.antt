@@ -8,7 +8,7 @@ use Rattle.multihash.specs.Verdict.{Verdict, malformed, unexpected_eof, HasVerdi
 use Rattle.multihash.specs.Settling.{Settles, IsShortestSettling}
 use Rattle.std.specs.Io.KnownBytes.{IsAtEnd}
 use Rattle.multihash.specs.Reading.{Consumes, CountsReaderFailures, ConsumesFewerThan, HasFewerThan}
-use Rattle.multihash.specs.Refusal.{Refusal, of_varint, IsEof, IsReaderError, IsInvalidSize, IsVarintError, IsAnyVarintError, IsFrontError}
+use Rattle.multihash.specs.Refusal.{Refusal, of_varint, IsEof, IsReaderError, IsInvalidSize, IsVarintError, IsAnyVarintError}
 use Rattle.multihash.specs.Outcome.{IsResultOf}
 use Rattle.multihash.specs.Multihash.{Fields, pair_of}
 
@@ -103,12 +103,6 @@ none_is_insufficient (Err e) = Err e
 -- `read` failed with this error
 abbrev pub ReadFails : ℕ → ℕ → ℕ → Refusal → Option (List ℕ) → Option (List ℕ) → Type 0
 ReadFails S before after e old new = ReadMeets S old new before after (Err e)
-
--- `varint::read` failed with this error
-pub record VarintFails (before after : ℕ) (e : Refusal) (old new : Option (List ℕ)) : Type 0 where
-  pub cause : FailsBy before after IsAnyVarintError e
-  pub consumed : ConsumesAtVarintError e old new
-  pub front : IfSome old (λ input. after ≡ before → IsFrontError input e)
 
 -- `read_exact` of `n` bytes failed with this error
 pub record ExactFails (n before after : ℕ) (e : Refusal) (old new : Option (List ℕ)) : Type 0 where
