@@ -128,7 +128,8 @@ pub fn same<const A: usize, const B: usize>(a: &Multihash<A>, b: &Multihash<B>) 
 }
 
 /// Writes a list to any writer, and reads it back from any reader, into values of the same capacity or of
-/// another. What was written is read back, if the reader's input is that and the digests fit.
+/// another. What was written is read back, if the reader's input is that and the digests fit. Nothing is stated of
+/// another input, or of digests that do not fit: the contract of `read_list` states what is returned then.
 pub fn list_through<const S: usize, const T: usize, W: Write, R: Read>(
     alloc: Global,
     items: &[Multihash<S>],
