@@ -8,10 +8,15 @@ from pathlib import Path
 from typing import Any
 
 import z3
-from values import Value, widened
 
-HEADER = (Path(__file__).parents[1] / "include/multihash.h").read_text("utf-8")
+Value = Any  # a number, or a bit vector of z3
+HEADER = (Path(__file__).parents[1] / "bindings/c/include/multihash.h").read_text("utf-8")
 OK, INSUFFICIENT, OVERFLOW, NOT_MINIMAL, INVALID_SIZE, INVALID_CODE, UNEXPECTED_EOF, NO_ROOM = range(8)
+
+
+def widened(x: Value) -> Any:
+    """A number as a bit vector of 64 bits, with zeros above its own."""
+    return z3.BitVecVal(x, 64) if isinstance(x, int) else z3.ZeroExt(64 - x.size(), x)
 
 
 @dataclass
@@ -24,6 +29,7 @@ class Case:
     head: list[Value] = field(default_factory=list)
     digest: Value = 0
     when: list[Any] = field(default_factory=list)
+    front: Any = None  # the name of the input of which FIRST and SECOND are, and how many bytes of it are there
 
     def if_all(self, *when: Any) -> "Case":
         self.when = [*when, *self.when]
@@ -79,7 +85,7 @@ def varint_of(number: Any, then: Callable[[list[Any]], Case]) -> Case:
 
 
 # The result of reading. Of a malformed varint come the status, and the bytes up to and including the one that decides.
-Malformed = Callable[[int, Value], Case]
+Malformed = Callable[[Value, Value], Case]
 
 
 def varint(name: str, at: int, length: Any, malformed: Malformed, then: Callable[[Any, int], Case]) -> Case:
@@ -103,32 +109,67 @@ def varint(name: str, at: int, length: Any, malformed: Malformed, then: Callable
     return Case(parts=cases + [malformed(OVERFLOW, at + 9).if_all(*before)])
 
 
-def front(name: str, length: Any, malformed: Malformed, then: Callable[[Any, Any, int], Case]) -> Case:
-    """The two varints at the front, and their end; the first malformed varint decides."""
-
-    def after(code: Any, at: int) -> Case:
-        return varint(name, at, length, malformed, lambda size, end: then(code, size, end))
-
-    return varint(name, 0, length, malformed, after)
-
-
-def stopped(status: int, taken: Value) -> Case:
+def stopped(status: Value, taken: Value) -> Case:
     return Case({"status": status, "taken": taken})
 
 
+class Varint:
+    """What `varint` says of the bytes from a place on, as symbols."""
+
+    def __init__(self, name: str):
+        self.status, self.end = z3.BitVec(f"{name}.status", 8), z3.BitVec(f"{name}.end", 8)
+        self.value = z3.BitVec(f"{name}.value", 64)
+
+    def holds(self, name: str, at: int, length: Any) -> Any:
+        def case(status: Value, end: Value, value: Any = 0) -> Case:
+            return Case({"": z3.And(self.status == status, self.end == end, self.value == value)})
+
+        cases = varint(name, at, length, case, lambda value, end: case(OK, end, value)).parts
+        return z3.And([z3.Implies(z3.And(case.when), case.result[""]) for case in cases])
+
+
+FIRST, SECOND = Varint("first"), Varint("second")
+
+
+def both_hold(name: str, length: Any) -> Any:
+    """That FIRST is what the first `length` bytes of an input start with, and SECOND what follows it."""
+    follows = [z3.And(FIRST.status == OK, FIRST.end == at) for at in range(1, 10)]
+    second = [z3.Implies(follows[at - 1], SECOND.holds(name, at, length)) for at in range(1, 10)]
+    return z3.And(FIRST.holds(name, 0, length), *second)
+
+
+def front(name: str, length: Any, malformed: Malformed, then: Callable[[Any, Any, Any], Case]) -> Case:
+    """The two varints at the front, and their end; the first malformed varint decides."""
+    errors = [(each.status != OK, malformed(each.status, each.end)) for each in (FIRST, SECOND)]
+    return Case(parts=[first(*errors, otherwise=then(FIRST.value, SECOND.value, SECOND.end))], front=(name, length))
+
+
+def front_varint(length: Any) -> Case:
+    """The varint at the start of an input, and how many bytes decide."""
+    return varint("bytes", 0, length, stopped, lambda x, end: Case({"status": OK, "value": x, "taken": end}))
+
+
 def read_varint(bytes_length: Any) -> Case:
-    def malformed(status: int, _: Value) -> Case:
+    def malformed(status: Value, _: Value) -> Case:
         return Case({"status": status})
 
     return varint("bytes", 0, bytes_length, malformed, lambda x, end: Case({"status": OK, "value": x, "length": end}))
 
 
+def head(bytes_length: Any) -> Case:
+    def both(code: Any, size: Any, end: Any) -> Case:
+        return Case({"status": OK, "code": code, "digest_length": size, "taken": end})
+
+    return front("bytes", bytes_length, stopped, both)
+
+
 def read_limit(bytes_length: Any, limit: Value) -> Case:
-    def fits(code: Any, size: Any, end: int) -> Case:
-        pair = {"code": code, "digest_offset": end, "digest_length": size, "taken": end + size}
+    def fits(code: Any, size: Any, end: Any) -> Case:
+        after = widened(end)
+        pair = {"code": code, "digest_offset": end, "digest_length": size, "taken": after + size}
         return first(
             (is_too_long(size, limit), Case({"status": INVALID_SIZE, "size": size, "taken": end})),
-            (z3.ULT(widened(bytes_length) - end, size), stopped(UNEXPECTED_EOF, end)),
+            (z3.ULT(widened(bytes_length) - after, size), stopped(UNEXPECTED_EOF, end)),
             otherwise=Case({"status": OK, **pair}),
         )
 
@@ -139,21 +180,14 @@ def read(bytes_length: Any) -> Case:
     return read_limit(bytes_length, 255)
 
 
-def head(bytes_length: Any) -> Case:
-    def both(code: Any, size: Any, end: int) -> Case:
-        return Case({"status": OK, "code": code, "digest_length": size, "taken": end})
-
-    return front("bytes", bytes_length, stopped, both)
-
-
 def whole(name: str, length: Any, whole_length: Any) -> Case:
     """The verdict on an input of `whole_length` bytes, of which the first `length` are there."""
 
-    def malformed(status: int, _: Value) -> Case:
+    def malformed(status: Value, _: Value) -> Case:
         return stopped(status, whole_length)
 
-    def fits(code: Any, size: Any, end: int) -> Case:
-        left = widened(whole_length) - end
+    def fits(code: Any, size: Any, end: Any) -> Case:
+        left = widened(whole_length) - widened(end)
         pair = {"code": code, "digest_offset": end, "digest_length": size}
         return first(
             (is_too_long(size), Case({"status": INVALID_SIZE, "size": size, "taken": whole_length})),
@@ -170,10 +204,8 @@ def from_bytes(bytes_length: Any) -> Case:
 
 
 def from_prefix(prefix_length: Any, whole_length: Any) -> Case:
-    return first(
-        (z3.ULE(prefix_length, whole_length), whole("prefix", prefix_length, whole_length)),
-        otherwise=whole("prefix", whole_length, whole_length),
-    )
+    is_less = z3.ULT(prefix_length, whole_length)
+    return whole("prefix", z3.If(is_less, prefix_length, whole_length), whole_length)
 
 
 # The encoding

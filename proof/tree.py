@@ -1,0 +1,137 @@
+"""The tree that Clang prints of multihash.c for a machine, and what its text must not have: what depends on the compiler
+or the machine, which the tree does not show."""
+import json
+import re
+import subprocess
+from pathlib import Path as File
+from typing import Any
+
+from path import Refused
+
+Node = Any  # a node of the tree
+
+DIRECTIVE = (
+    r'include "multihash\.h"|include <(string|stddef|stdint)\.h>|if __STDC_HOSTED__|else|endif|ifndef MULTIHASH_H|'
+)
+DIRECTIVE += r"ifdef __cplusplus|define \w+(\([\w, ]*\))?( .*)?"
+MACHINE = r"\b__(?!STDC_HOSTED__|cplusplus)\w+|\b_[A-Z]\w*|\[\[|##|%:|\?\?|'|\\$|\b(long|short|asm)\b|\b\d\w*[lL]\w*"
+MACHINE += r"|\w*(FAST|LEAST|fast|least|PTR|ptr|wchar|WCHAR)\w*"
+
+
+def refuse_machine(text: str) -> None:
+    """Refuses a text that may mean something else for another compiler or machine."""
+    text = re.sub(
+        r'/\*.*?\*/|//[^\n]*|"[^"\n]*"',
+        lambda found: found[0] if found[0] == '"multihash.h"' else " ",
+        text,
+        flags=re.S,
+    )
+    for line in text.splitlines():
+        directive = re.fullmatch(r"\s*#\s*(.*?)\s*", line)
+        if directive and not re.fullmatch(DIRECTIVE, re.sub(r"\s+", " ", directive[1])):
+            raise Refused(f"unknown: the directive #{directive[1]}")
+        if found := re.search(MACHINE, line):
+            raise Refused(f"unknown: {found[0]}, which depends on the compiler or the machine")
+
+
+def type_of(node: Node) -> str:
+    """The type of a node, without what is said of names and constants."""
+    kind = node["type"].get("desugaredQualType", node["type"]["qualType"])
+    if re.search(r"volatile|_Atomic|[\[(]", kind + node["type"]["qualType"]):
+        raise Refused(f"unknown: the type {kind}: an array, a function, volatile")
+    return " ".join(re.sub(r"\b(const|struct|restrict)\b", "", kind).split())
+
+
+def is_const(node: Node) -> bool:
+    kind: str = node["type"]["qualType"]
+    return kind.endswith("const") if "*" in kind else "const" in kind.split()
+
+
+class Unit:
+    """The functions, structures and constants of a source file in a folder, for a machine with sizes of so many bits."""
+
+    def __init__(self, source: File, include: File, target: str, word: int):
+        for file in (source, include / "multihash.h"):
+            refuse_machine(file.read_text("utf-8"))
+        command = ["clang", f"--target={target}", "-std=c11", "-ffreestanding", "-fsyntax-only", "-w", f"-I{include}"]
+        found = subprocess.run([*command, "-Xclang", "-ast-dump=json", source], stdout=-1, stderr=-1, text=True)
+        if found.returncode:
+            raise Refused(f"unknown: Clang says {found.stderr[:300]}")
+        tree = json.loads(found.stdout)
+        self.word = word
+        # the types of numbers: how many bits each has, and whether it has negative ones
+        self.numbers = {"char": (8, True), "int": (32, True), "long": (word, True), "long long": (64, True)}
+        self.numbers |= {f"unsigned {kind}": (width, False) for kind, (width, _) in self.numbers.items()}
+        self.functions: dict[str, Node] = {}
+        self.constants: dict[str, int] = {}
+        self.records: dict[str, Node] = {}
+        self.declared: list[str] = []  # the functions of multihash.h, in its order
+        add_lines(tree, [0])
+        for node in tree["inner"]:
+            self.declare(node)
+
+    def declare(self, node: Node) -> None:
+        kind, inner = node["kind"], node.get("inner", [])
+        if kind == "FunctionDecl":
+            if node["name"].startswith("multihash_") and node["name"] not in self.declared:
+                self.declared.append(node["name"])
+            if any(x["kind"] == "CompoundStmt" for x in inner):
+                self.functions[node["name"]] = node
+                if node["name"] in ("memcpy", "memcmp"):
+                    raise Refused(f"unknown: a {node['name']} of its own")
+        elif kind == "EnumDecl":
+            value = -1
+            for each in inner:
+                values = [int(x["value"]) for x in each.get("inner", []) if "value" in x]
+                value = values[0] if values else value + 1
+                self.constants[each["name"]] = value
+        elif kind == "RecordDecl":
+            self.records[node.get("name", "")] = node
+        elif kind == "TypedefDecl":
+            of = node["type"].get("desugaredQualType", node["type"]["qualType"])
+            if of in self.numbers:
+                self.numbers[node["name"]] = self.numbers[of]
+        elif kind != "EmptyDecl":
+            raise Refused(f"unknown: {kind} {node.get('name', '')} in file scope (line {node['line']})")
+
+    def width(self, kind: str) -> int:
+        """The number of bits of a type of numbers."""
+        if kind not in self.numbers:
+            raise Refused(f"unknown: the type {kind}")
+        return self.numbers[kind][0]
+
+    def is_signed(self, kind: str) -> bool:
+        return self.width(kind) > 0 and self.numbers[kind][1]
+
+    def fields(self, kind: str) -> dict[str, str]:
+        """The members of a structure with their types."""
+        record = self.records.get(kind)
+        if not record or record["tagUsed"] != "struct":
+            raise Refused(f"unknown: the structure {kind}")
+        inner = [x for x in record["inner"] if x["kind"] != "FullComment"]
+        if any(x["kind"] != "FieldDecl" or x.get("isBitfield") or x.get("inner") for x in inner):
+            raise Refused(f"unknown: an attribute or a bit-field in {kind}")
+        return {x["name"]: type_of(x) for x in inner}
+
+    def function(self, name: str) -> tuple[list[Node], Node]:
+        """The parameters and the body."""
+        node = self.functions[name]
+        *parameters, body = [x for x in node["inner"] if x["kind"] != "FullComment"]
+        if {x["kind"] for x in parameters} - {"ParmVarDecl"} or node.get("variadic"):
+            raise Refused(f"unknown: {name} has an attribute, or any number of arguments")
+        return parameters, body
+
+
+def add_lines(node: Node, last: list[int]) -> None:
+    """Gives each node its line, which Clang prints only if it is another one than before."""
+    if isinstance(node, list):
+        for each in node:
+            add_lines(each, last)
+    elif isinstance(node, dict):
+        if "offset" in node:
+            last[0] = node.setdefault("line", last[0])
+        for key, each in list(node.items()):
+            add_lines(each, last)
+            if key == "range":
+                begin = each["begin"].get("expansionLoc", each["begin"])
+                node["line"] = begin.get("line", last[0])
