@@ -5,6 +5,6 @@
 
 needs="clang python:z3" try "multihash.c" proof/check_c.py
 needs="clang python:z3" try "wrong edits of multihash.c are refused" proof/check_c.py --wrong
-needs="acorn python:z3" try "format.js" bindings/js/proof/check_format.py
-needs="acorn python:z3" try "wrong edits of format.js are refused" bindings/js/proof/check_format.py --wrong
+needs="acorn python:z3" try "format.js" proof/check_js.py
+needs="acorn python:z3" try "wrong edits of format.js are refused" proof/check_js.py --wrong
 finish

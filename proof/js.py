@@ -1,0 +1,336 @@
+"""Runs a function of a module of plain JavaScript for all arguments at once, from the tree that acorn prints. It knows what
+format.js uses. Everything else is refused: what is not exact, what is not there, and what this file does not name."""
+import json
+import subprocess
+from collections import ChainMap
+from collections.abc import Callable, Iterator
+from dataclasses import dataclass, replace
+from functools import cache, partial
+from pathlib import Path as File
+from typing import Any
+
+import z3
+from js_values import INT, WIDTH, Bytes, Number, Operators, Value, known, related, symbol
+from path import Refused
+
+Node = dict[str, Any]  # of acorn's tree
+GLOBALS = frozenset(["BigInt", "Math", "Number", "Uint8Array"])
+MOST_DEPTH = 20  # of calls
+
+
+@dataclass
+class Variable:
+    value: Value
+    is_const: bool
+
+
+Scope = ChainMap[str, Variable]  # the variables of a block, and of those around it
+
+
+class Return(Exception):
+    """The end of a function: its argument is what that returns."""
+
+
+class Run(Operators):
+    """A path through functions of a program."""
+
+    def __init__(self, program: "Program", solver: Any, prefix: list[bool], model: Any = None):
+        super().__init__(solver, prefix, model)
+        self.program, self.depth, self.line = program, 0, 0
+
+    # ---- arrays
+    def place(self, array: Value, index: Value) -> int:
+        """The place of an index in an array, which has to be there."""
+        place = z3.simplify(self.number(index, "number").x - array.origin.x) if isinstance(array, Bytes) else None
+        if not z3.is_bv_value(place):
+            raise Refused(f"unknown: the element {place} of {array}")
+        at = known(place.as_signed_long())
+        self.must(at.low >= 0, f"outside {array.name}")
+        self.must(related("<", at, array.count), f"outside {array.name}")
+        return at.low
+
+    def load(self, array: Value, index: Value) -> Number:
+        place = self.place(array, index)
+        if array.role != "input":
+            raise Refused(f"unknown: {array.name} is read")
+        return symbol(z3.BitVec(f"{array.name}[{place}]", 8), 255)
+
+    def store(self, array: Value, index: Value, x: Value) -> Value:
+        place, byte = self.place(array, index), self.number(x, "number")
+        if array.role == "input":
+            raise Refused(f"unknown: {array.name} is written")
+        self.must(z3.And(byte.x >= 0, byte.x <= 255), "not exact: a byte")
+        array.written[place] = byte
+        return byte
+
+    def copy(self, target: Value, source: Value, index: Value) -> None:
+        """The method `set` of a new array, which is that of Uint8Array, for all bytes of an input."""
+        roles = [each.role for each in (target, source) if isinstance(each, Bytes)]
+        at = self.number(index, "number")
+        if roles != ["new", "input"] or not at.is_known or at.low < 0:
+            raise Refused(f"unknown: set of {source} at {index}")
+        self.must(source.count.x + at.low <= target.count.x, f"outside {target.name}")
+        target.copied.append((at.low, source.name))
+
+    # ---- calls
+    def call_of(self, callee: Node, arguments: list[Value], scope: Scope) -> Value:
+        match callee:
+            case {"type": "Identifier", "name": name} if name in self.program.functions:
+                return self.call(name, arguments)
+            case {"type": "Identifier", "name": name}:
+                return self.built_in(name, arguments)
+            case {"computed": False, "object": {"name": owner}, "property": {"name": name}} if owner in GLOBALS:
+                return self.built_in(f"{owner}.{name}", arguments)
+            case {"computed": False, "object": {"name": _} as owner, "property": {"name": "set"}} if len(
+                arguments
+            ) == 2:
+                return self.copy(self.value(owner, scope), *arguments)
+        raise Refused("unknown: a call of something else")
+
+    def built_in(self, name: str, arguments: list[Value]) -> Value:
+        match name, arguments:
+            case "BigInt", [x]:
+                return replace(self.number(x), type="bigint")
+            case "Number", [x]:
+                x = self.number(x)
+                return self.made(x.x, x.low, x.high, "number")
+            case "Math.floor", [x]:
+                return replace(self.number(x, "quotient", "number"), type="number")
+            case "Math.min" | "Math.max", [a, b]:
+                a, b = self.number(a, "number"), self.number(b, "number")
+                return a if self.decide(related("<=" if name == "Math.min" else ">=", a, b)) else b
+            case "BigInt.asUintN", [Number(is_known=True, type="number") as bits, x] if 0 <= bits.high < WIDTH:
+                return self.binary("&", self.number(x, "bigint"), known(2**bits.high - 1, "bigint"))
+            case "new Uint8Array", [Number(type="number") as count] if count.low >= 0 and count.high <= INT:
+                return Bytes("a new array", count, role="new")
+        raise Refused(f"unknown: {name} of {arguments}")
+
+    def call(self, name: str, arguments: list[Value]) -> Value:
+        """What a function of the program returns."""
+        function, scope = self.program.functions[name], Scope()
+        parameters, body = function["params"], function["body"]
+        if name in self.program.summaries and len(arguments) == len(parameters):
+            return self.program.summaries[name](self, *arguments)
+        self.depth += 1
+        if self.depth > MOST_DEPTH or len(arguments) > len(parameters):
+            raise Refused(f"no end: {MOST_DEPTH} calls deep" if self.depth > MOST_DEPTH else f"unknown: call of {name}")
+        for at, parameter in enumerate(parameters):
+            default = parameter.get("right")
+            x = arguments[at] if at < len(arguments) else default and self.value(default, scope)
+            self.declare(parameter.get("left", parameter), x, scope, is_const=False)
+        result = None
+        try:
+            if body["type"] == "BlockStatement":
+                self.statement(body, scope)
+            else:
+                result = self.value(body, scope)
+        except Return as end:
+            result = end.args[0]
+        self.depth -= 1
+        return result
+
+    # ---- expressions
+    def value(self, node: Node, scope: Scope) -> Value:
+        self.step()
+        self.line = node["loc"]["start"]["line"]
+        of = partial(self.value, scope=scope)
+        match node:
+            case {"type": "Literal", "value": bool() | str() as x}:
+                return x
+            case {"type": "Literal", "value": int(x)}:
+                return known(x)
+            case {"type": "Identifier", "name": name} if name in scope:
+                return scope[name].value
+            case {"type": "Identifier", "name": name} if name in self.program.constants:
+                return self.program.constants[name]
+            case {"type": "ObjectExpression", "properties": properties}:
+                return {key_of(each): of(each["value"]) for each in properties}
+            case {"type": "UnaryExpression", "operator": "!", "argument": x}:
+                return not self.truth(of(x))
+            case {"type": "UnaryExpression", "operator": "typeof", "argument": x}:
+                return self.number(of(x)).type
+            case {"type": "UnaryExpression", "operator": "-", "argument": {"value": int(x)}} if x > 0:  # -0 is not 0
+                return known(-x)
+            case {"type": "BinaryExpression", "operator": name, "left": left, "right": right}:
+                return self.binary(name, of(left), of(right))
+            case {"type": "LogicalExpression", "operator": "&&" | "||" as name, "left": left, "right": right}:
+                x = self.truth(of(left))
+                return x if x == (name == "||") else self.truth(of(right))
+            case {"type": "ConditionalExpression", "test": test}:
+                return of(node["consequent" if self.truth(of(test)) else "alternate"])
+            case {"type": "MemberExpression", "computed": True, "object": array, "property": index}:
+                return self.load(of(array), of(index))
+            case {"type": "MemberExpression", "object": x, "property": {"name": name}}:
+                return member(of(x), name)
+            case {"type": "NewExpression", "callee": {"name": name}, "arguments": arguments}:
+                return self.built_in(f"new {name}", [of(each) for each in arguments])
+            case {"type": "CallExpression", "callee": callee, "arguments": arguments}:
+                return self.call_of(callee, [of(each) for each in arguments], scope)
+            case {"type": "AssignmentExpression", "operator": "=", "left": {"computed": True} as left, "right": right}:
+                return self.store(of(left["object"]), of(left["property"]), of(right))
+            case {"type": "AssignmentExpression", "operator": name, "left": left, "right": right}:
+                change = lambda x: self.binary(name[:-1], x, of(right)) if name != "=" else of(right)
+                return self.assign(left, scope, change)[1]
+            case {"type": "UpdateExpression", "operator": name, "argument": x, "prefix": is_prefix}:
+                return self.assign(x, scope, lambda x: self.binary(name[0], x, known(1)))[is_prefix]
+        raise Refused(f"unknown: {node['type']} {node.get('operator', node.get('name', ''))}")
+
+    # ---- variables and statements
+    def declare(self, pattern: Node, x: Value, scope: Scope, is_const: bool) -> None:
+        if pattern["type"] == "ObjectPattern":
+            for each in pattern["properties"]:
+                self.declare(each["value"], member(x, key_of(each)), scope, is_const)
+        elif pattern["type"] == "Identifier" and x is not None:
+            scope[pattern["name"]] = Variable(x, is_const)
+        else:
+            raise Refused(f"unknown: {pattern.get('name')} without a value")
+
+    def assign(self, node: Node, scope: Scope, change: Callable[[Value], Value]) -> tuple[Value, Value]:
+        """Changes a variable: what it had before, and has now."""
+        name = str(node.get("name", node["type"]))
+        if name not in scope or scope[name].is_const:
+            raise Refused(f"unknown: an assignment to {name}")
+        before = scope[name].value
+        scope[name].value = after = change(before)
+        return before, after
+
+    def statement(self, node: Node, scope: Scope) -> None:
+        self.line = node["loc"]["start"]["line"]
+        match node:
+            case {"type": "BlockStatement", "body": body}:
+                inner = scope.new_child()
+                for each in body:
+                    self.statement(each, inner)
+            case {"type": "ReturnStatement", "argument": {} as x}:
+                raise Return(self.value(x, scope))
+            case {"type": "IfStatement", "test": test}:
+                if way := node["consequent" if self.truth(self.value(test, scope)) else "alternate"]:
+                    self.statement(way, scope)
+            case {"type": "VariableDeclaration", "kind": kind, "declarations": declarations}:
+                for each in declarations:
+                    self.declare(each["id"], each["init"] and self.value(each["init"], scope), scope, kind == "const")
+            case {"type": "WhileStatement" | "ForStatement", "test": {} as test, "body": body}:
+                inner = scope.new_child()
+                if node.get("init"):
+                    self.statement(node["init"], inner)
+                while self.truth(self.value(test, inner)):
+                    self.statement(body, inner)
+                    if node.get("update"):
+                        self.value(node["update"], inner)
+            case {"type": "ExpressionStatement", "expression": x}:
+                self.value(x, scope)
+            case _:
+                raise Refused(f"unknown: {node['type']}")
+
+
+def member(x: Value, name: str) -> Value:
+    if not isinstance(x, dict) or name not in x:
+        raise Refused(f"unknown: the member {name}")
+    return x[name]
+
+
+def key_of(node: Node) -> str:
+    """The name of a plain member of an object."""
+    match node:
+        case {"kind": "init", "computed": False, "method": False, "key": {"name": str(name)}} if name != "__proto__":
+            return name
+    raise Refused(f"unknown: a member with {node.get('kind', node['type'])}")
+
+
+def names_of(pattern: Node) -> list[str]:
+    """The names that a pattern declares."""
+    match pattern:
+        case {"type": "Identifier", "name": name}:
+            return [name]
+        case {"type": "AssignmentPattern", "left": {"name": name}, "right": {"type": "Literal"}}:
+            return [name]
+        case {"type": "ObjectPattern", "properties": properties}:
+            return [name for each in properties for name in names_of(each.get("value", each))]
+    raise unknown(pattern, f"the declaration {pattern['type']}")
+
+
+def nodes(x: Any) -> Iterator[Node]:
+    """A node, and all nodes in it."""
+    for each in x if isinstance(x, list) else [x]:
+        if isinstance(each, dict) and "type" in each:
+            yield each
+            for child in each.values():
+                yield from nodes(child)
+
+
+def unknown(node: Node, what: str) -> Refused:
+    return Refused(f"unknown: {what} (line {node['loc']['start']['line']})")
+
+
+@cache
+def tree_of(text: str) -> list[Node]:
+    command = ["acorn", "--ecma2022", "--module", "--locations", "--compact"]
+    done = subprocess.run(command, input=text, capture_output=True, text=True)
+    if done.returncode:
+        raise Refused(f"unknown: what acorn does not read: {done.stderr[:200]}")
+    body: list[Node] = json.loads(done.stdout)["body"]
+    return body
+
+
+KINDS = """Identifier Literal ObjectExpression Property UnaryExpression BinaryExpression LogicalExpression NewExpression
+    ConditionalExpression MemberExpression CallExpression AssignmentExpression UpdateExpression BlockStatement ReturnStatement
+    IfStatement VariableDeclaration VariableDeclarator WhileStatement ForStatement ExpressionStatement ObjectPattern
+    AssignmentPattern""".split()
+
+
+class Program:
+    """The functions and constants of a module. For a function of `summaries` a call returns what that does."""
+
+    def __init__(self, path: File, text: str | None = None):
+        self.functions: dict[str, Node] = {}
+        self.constants: dict[str, Value] = {}
+        self.summaries: dict[str, Callable[..., Value]] = {}
+        self.exports: set[str] = set()
+        for node in tree_of(path.read_text("utf-8") if text is None else text):
+            before = {*self.functions}
+            is_export = node["type"] == "ExportNamedDeclaration"
+            self.top(node["declaration"] or node if is_export else node, path.parent)
+            self.exports |= {*self.functions} - before if is_export else set()
+        for function in self.functions.values():
+            self.look(function)
+
+    def top(self, node: Node, folder: File) -> None:
+        """Reads a statement of the module: a function, or constants that cannot change."""
+        found: list[tuple[Node, Value]] = []
+        match node:
+            case {"type": "FunctionDeclaration", "id": name}:
+                found = [(name, node)]
+            case {"type": "VariableDeclaration", "kind": "const", "declarations": declarations}:
+                found = [(each["id"], self.constant(each["init"])) for each in declarations]
+            case {"type": "ImportDeclaration", "source": {"value": "./limits.js"}, "specifiers": names}:
+                limits = Program(folder / "limits.js").constants
+                found = [(each["local"], limits.get(each.get("imported", {}).get("name"))) for each in names]
+            case _:
+                raise unknown(node, f"{node.get('kind', node['type'])} outside of functions")
+        for name, x in found:
+            is_function = isinstance(x, dict) and "params" in x and not x["async"] and not x["generator"]
+            if (
+                name["type"] != "Identifier"
+                or name["name"] in GLOBALS
+                or not is_function
+                and not isinstance(x, (Number, str))
+            ):
+                raise unknown(node, f"the constant {name.get('name')}")
+            (self.functions if is_function else self.constants)[name["name"]] = x
+
+    def constant(self, node: Node) -> Value:
+        try:
+            return node if node["type"] == "ArrowFunctionExpression" else Run(self, None, []).value(node, Scope())
+        except Refused as why:
+            raise Refused(f"{why} (line {node['loc']['start']['line']})") from None
+
+    def look(self, function: Node) -> None:
+        """Refuses what nothing in a function may be, even what is not run, and a name that is declared twice: each name is
+        that of one thing wherever it is read."""
+        names = [name for each in function["params"] for name in names_of(each)]
+        for node in nodes([*function["params"], function["body"]]):
+            if node["type"] not in KINDS or node.get("kind") == "var":
+                raise unknown(node, f"{node.get('kind', node['type'])} in a function")
+            names += names_of(node["id"]) if node["type"] == "VariableDeclarator" else []
+        if again := [x for x in names if names.count(x) > 1 or x in GLOBALS.union(self.functions, self.constants)]:
+            raise unknown(function, f"another {again[0]}")
