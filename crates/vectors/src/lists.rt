@@ -8,7 +8,7 @@ use crate::page::Page;
 use crate::values::compared;
 use fakes::Cuts;
 use multihash::no_std_io::Read;
-use multihash::{Error, Multihash};
+use multihash::{Error, Head, Multihash};
 use serde_json::Value;
 use std::alloc::{AllocError, Global};
 
@@ -29,6 +29,19 @@ impl Encoding {
         match self {
             Encoding::Scale => Multihash::scale_decode(r),
             _ => Multihash::read(r),
+        }
+    }
+
+    // The number of bytes consumed of a slice that ends too early: a part that is too short is left.
+    fn truncated_len(self, input: &[u8]) -> usize {
+        match (self, Head::read_front(input)) {
+            (Encoding::Scale, _) => match input.len() {
+                0..=7 => 0,
+                8 => 8,
+                _ => 9,
+            },
+            (_, Ok(head)) => head.digest_offset,
+            (_, Err(_)) => input.len(),
         }
     }
 
@@ -82,10 +95,16 @@ fn is_incomplete<const S: usize>(found: &Result<Multihash<S>, Error>) -> bool {
     matches!(found, Err(e) if e.is_incomplete())
 }
 
-// With the number of bytes that were consumed, unless more input can change the result.
-fn put_reading<const S: usize>(page: &mut Page, found: &Result<Multihash<S>, Error>, taken: usize) {
+// With the number of bytes that were consumed. The lists have none if more input can change the result: then it depends on
+// the reader, which consumes that many of a truncated input.
+fn put_reading<const S: usize>(
+    page: &mut Page,
+    found: &Result<Multihash<S>, Error>,
+    taken: usize,
+    truncated_len: usize,
+) {
     put_verdict(page, found);
-    if is_incomplete(found) {
+    if is_incomplete(found) && taken == truncated_len {
         page.put("\t-");
     } else {
         page.put(format_args!("\t{taken}"));
@@ -99,12 +118,12 @@ fn put_readings<const S: usize>(page: &mut Page, encoding: Encoding, input: &[u8
     let mut left = input;
     let found = encoding.read::<S, _>(&mut left);
     let taken = input.len().saturating_sub(left.len());
-    put_reading(page, &found, taken);
+    put_reading(page, &found, taken, encoding.truncated_len(input));
     page.result("");
     for most in 1..8 {
         let mut cuts = Cuts::new(input, most);
         let found = encoding.read::<S, _>(&mut cuts);
-        put_reading(page, &found, input.len().saturating_sub(cuts.left.len()));
+        put_reading(page, &found, input.len().saturating_sub(cuts.left.len()), input.len());
         page.result(format_args!(" or by {most} bytes "));
     }
     if !is_incomplete(&found) {
@@ -128,7 +147,7 @@ fn put_determined<const S: usize>(page: &mut Page, encoding: Encoding, front: &[
         if let Ok(bytes) = joined(page.alloc, front, more) {
             let mut left = bytes.as_slice();
             let found = encoding.read::<S, _>(&mut left);
-            put_reading(page, &found, bytes.len().saturating_sub(left.len()));
+            put_reading(page, &found, bytes.len().saturating_sub(left.len()), 0);
         }
         page.result(" or with more ");
     }
