@@ -5,5 +5,6 @@ pub mod CountedLemmas
 pub mod FixedLemmas
 mod FormExamples
 pub mod FormLemmas
+pub mod LocatedLemmas
 pub mod StopLemmas
 pub mod WholeLemmas

@@ -13,9 +13,13 @@ use Rattle.form.specs.Rejecting.{StopsAt, ReadStops, IsWholeError}
 use Rattle.form.specs.declared.error.FormError.{FormError}
 
 -- a part of some bytes, and what follows it in them
-longer : (part c left bytes more : List ℕ) → part ≡ c ++ left → bytes ≡ part ++ more → c ++ (left ++ more) ≡ bytes ++ []
+pub longer : (part c left bytes more : List ℕ) → part ≡ c ++ left → bytes ≡ part ++ more → c ++ (left ++ more) ≡ bytes ++ []
 longer part c left bytes more split cut =
     sym (append_assoc c left more) ∙ ap (λ (l : List ℕ). l ++ more) (sym split) ∙ sym cut ∙ sym (append-nil bytes)
+
+pub no_bytes : (a b : List ℕ) → a ++ b ≡ [] → b ≡ []
+no_bytes [] b none = none
+no_bytes (y ∷ a) b none = cc
 
 module _ {A : Type 0} (IsForm : A → List ℕ → Type 0) (Rejects : FormError → List ℕ → Type 0) (Same : A → A → Type 0)
     (unique : (x y : A) (a b r s : List ℕ) → IsForm x a → IsForm y b → a ++ r ≡ b ++ s → Same x y × (r ≡ s))
@@ -50,10 +54,6 @@ module _ {A : Type 0} (IsForm : A → List ℕ → Type 0) (Rejects : FormError 
       (subst (λ (o : Option (List ℕ)). Consumes o c new) at consumes) in
       let told = unique y x c bytes (left ++ more) [] is_c is (longer part c left bytes more split cut) in
       absurd (some (no_bytes left more told.1))
-    where
-      no_bytes : (a b : List ℕ) → a ++ b ≡ [] → b ≡ []
-      no_bytes [] b none = none
-      no_bytes (y ∷ a) b none = cc
   form_truncated (Err e) ok (inl memory) x bytes part is strict at = inr memory
   form_truncated (Err e) ok (inr stops) x bytes part is (more, some, cut) at =
       let s : StopsAt IsForm Rejects (before < after) e part new = rw at at stops in

@@ -5,3 +5,4 @@ pub mod Fixed
 pub mod Pairs
 pub mod Parts
 pub mod Rejected
+pub mod Truncated

@@ -3,5 +3,6 @@ pub mod Case
 pub mod Form
 pub mod FormError
 pub mod Laws
+pub mod Located
 pub mod Rejecting
 pub mod Stream

@@ -53,6 +53,8 @@ impl<const N: usize> Form for Bytes<N> {
 
     ghost rejects_some = { λ _ _ rejects. absurd rejects };
 
+    ghost not_truncated = { λ _ _ rejects. absurd rejects };
+
     ghost one = { λ x y. array_one x.bytes y.bytes };
 
     ghost some = { λ x. array_some N x.bytes x.size x.some };

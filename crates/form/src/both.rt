@@ -24,6 +24,7 @@ impl<A: Form + Drop, B: Form> Form for Both<A, B> {
     ghost use Rattle.form.specs.Laws.Pairs.{then_exists, then_unique, then_one, then_some};
     ghost use Rattle.form.specs.Rejecting.{RejectsInTurn};
     ghost use Rattle.form.specs.Laws.Rejected.{turn_not_both, turn_unique, turn_rejects_some};
+    ghost use Rattle.form.specs.Laws.Truncated.{turn_not_truncated};
 
     ghost is_form = { λ x. Then (A.is_form x.first) (B.is_form x.second) };
 
@@ -54,6 +55,9 @@ impl<A: Form + Drop, B: Form> Form for Both<A, B> {
         (A.rejects_unique e f) (λ _ _ _. B.rejects_unique e f) };
 
     ghost rejects_some = { turn_rejects_some A.is_form A.rejects (λ _. B.rejects) A.same A.unique A.not_both A.some A.rejects_some };
+
+    ghost not_truncated = { λ e. turn_not_truncated A.is_form A.rejects (λ _. B.rejects) e (A.not_truncated e)
+        (λ _. B.not_truncated e) };
 
     ghost one = { λ x y a b same. then_one a b (λ c d. A.one x.first y.first c d same.0)
         (λ c d. B.one x.second y.second c d same.1) };

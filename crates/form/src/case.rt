@@ -37,6 +37,7 @@ impl<A: Form, const M: u64, C: Cases> Cases for Case<A, M, C> {
     ghost use Rattle.form.specs.Rejecting.{RejectsCase};
     ghost use Rattle.form.specs.Case.{case_tag, IsCaseValue, AreSameCase};
     ghost use Rattle.form.specs.Laws.Cases.{case_in_range, case_same_tag, case_exists, case_unique, case_not_both, case_rejects_unique, case_one};
+    ghost use Rattle.form.specs.Laws.Truncated.{case_not_truncated};
 
     ghost tag_of = { case_tag C.tag_of };
 
@@ -84,6 +85,8 @@ impl<A: Form, const M: u64, C: Cases> Cases for Case<A, M, C> {
 
     ghost rejects_unique = { case_rejects_unique M A.rejects C.rejects A.rejects_unique C.rejects_unique };
 
+    ghost not_truncated = { case_not_truncated M A.rejects C.rejects A.not_truncated C.not_truncated };
+
     ghost one = { case_one A.is_form C.is_value A.same C.same A.one C.one };
 }
 
@@ -92,6 +95,7 @@ impl<A: Form, const M: u64> Cases for Tagged<A, M> {
     ghost use Rattle.form.specs.declared.error.FormError.TheVariants.{OtherTag};
     ghost use Rattle.form.specs.Rejecting.{RejectsCase, RejectsNoCase};
     ghost use Rattle.form.specs.Laws.Cases.{last_not_both, case_rejects_unique, no_case_rejects_unique};
+    ghost use Rattle.form.specs.Laws.Truncated.{case_not_truncated, no_case_not_truncated};
 
     ghost tag_of = { λ _. M };
 
@@ -130,6 +134,8 @@ impl<A: Form, const M: u64> Cases for Tagged<A, M> {
     ghost not_both = { λ x e. last_not_both M (A.is_form x.value) A.rejects e (A.not_both x.value e) };
 
     ghost rejects_unique = { case_rejects_unique M A.rejects RejectsNoCase A.rejects_unique no_case_rejects_unique };
+
+    ghost not_truncated = { case_not_truncated M A.rejects RejectsNoCase A.not_truncated no_case_not_truncated };
 
     ghost one = { λ x y. A.one x.value y.value };
 }

@@ -6,7 +6,7 @@ ghost use Rattle.multihash.specs.Reading.{CountsReaderFailures};
 ghost use Rattle.multihash.specs.Writing.{CountsWriterFailures};
 ghost use Rattle.multihash.specs.Refusal.{IsIo, IsReaderError};
 ghost use Rattle.form.specs.Form.{AppendsSome, AppendsPrefixOfSome};
-ghost use Rattle.form.specs.FormError.{IsFailed};
+ghost use Rattle.form.specs.FormError.{IsFailed, IsTruncated};
 ghost use Rattle.form.specs.Rejecting.{IsCase, ReadStops};
 ghost use Rattle.form.specs.declared.error.FormError.{FormError as ReadError};
 
@@ -83,6 +83,9 @@ pub trait Cases {
     // An input has one error, shown at one place.
     ghost rejects_unique: { (n : ℕ) (e f : ReadError) (a b r s : List ℕ) → rejects n e a → rejects n f b →
         a ++ r ≡ b ++ s → (e ≡ f) × (r ≡ s) };
+
+    // An input that is rejected is not reported as truncated.
+    ghost not_truncated: { (n : ℕ) (e : ReadError) (bytes : List ℕ) → rejects n e bytes → ¬ (IsFailed IsTruncated e) };
 
     // A value has only one encoding.
     ghost one: { (x y : Self) (a b : List ℕ) → same x y → is_value x a → is_value y b → a ≡ b };

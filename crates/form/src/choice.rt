@@ -27,6 +27,7 @@ impl<C: Cases> Form for Choice<C> {
     ghost use Rattle.form.specs.Laws.Pairs.{then_exists, then_some};
     ghost use Rattle.form.specs.Laws.Parts.{number_exists};
     ghost use Rattle.form.specs.Laws.Rejected.{from_not_both, from_unique, from_rejects_some};
+    ghost use Rattle.form.specs.Laws.Truncated.{from_not_truncated};
     ghost use Rattle.form.specs.Laws.Cases.{choice_unique, choice_one};
 
     ghost is_form = { λ x. Then (IsVarint (C.tag_of x.case)) (C.is_value x.case) };
@@ -58,6 +59,8 @@ impl<C: Cases> Form for Choice<C> {
     ghost rejects_unique = { λ e f. from_unique C.rejects e f (λ n. C.rejects_unique n e f) };
 
     ghost rejects_some = { from_rejects_some C.rejects };
+
+    ghost not_truncated = { λ e. from_not_truncated C.rejects e (λ n. C.not_truncated n e) };
 
     ghost one = { λ x y. choice_one C.tag_of C.is_value C.same C.same_tag C.one x.case y.case };
 

@@ -33,6 +33,7 @@ impl<T: Form + Drop, const MAX: usize> Form for Counted<T, MAX> {
     ghost use Rattle.form.specs.declared.error.FormError.TheVariants.{TooMany};
     ghost use Rattle.form.specs.Rejecting.{RejectsNumberThen, RejectsCounted};
     ghost use Rattle.form.specs.Laws.Rejected.{counted_not_both, counted_rejects_unique, from_rejects_some};
+    ghost use Rattle.form.specs.Laws.Truncated.{counted_not_truncated};
     ghost use Rattle.form.specs.Laws.Parts.{counted_exists, counted_unique, counted_one, counted_some};
 
     ghost is_form = { λ x. Then (IsVarint (length x.items.items)) (AreParts T.is_form x.items.items) };
@@ -69,6 +70,8 @@ impl<T: Form + Drop, const MAX: usize> Form for Counted<T, MAX> {
         T.rejects_unique };
 
     ghost rejects_some = { from_rejects_some (RejectsCounted T.is_form T.rejects MAX) };
+
+    ghost not_truncated = { counted_not_truncated T.is_form T.rejects T.not_truncated MAX };
 
     ghost one = { λ x y. counted_one T.is_form T.same T.one x.items.items y.items.items };
 

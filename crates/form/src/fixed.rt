@@ -59,6 +59,8 @@ impl<const N: usize> Form for BigEndian<N> {
 
     ghost rejects_some = { λ _ _ rejects. absurd rejects };
 
+    ghost not_truncated = { λ _ _ rejects. absurd rejects };
+
     ghost one = { λ x y. high_one N x.value y.value };
 
     ghost some = { λ x. high_some N x.value x.some };
@@ -116,6 +118,8 @@ impl<const N: usize> Form for LittleEndian<N> {
     ghost rejects_unique = { λ _ _ _ _ _ _ rejects _ _. absurd rejects };
 
     ghost rejects_some = { λ _ _ rejects. absurd rejects };
+
+    ghost not_truncated = { λ _ _ rejects. absurd rejects };
 
     ghost one = { λ x y. low_one N x.value y.value };
 

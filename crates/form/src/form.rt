@@ -5,7 +5,7 @@ ghost use Rattle.multihash.specs.Reading.{CountsReaderFailures};
 ghost use Rattle.multihash.specs.Writing.{CountsWriterFailures};
 ghost use Rattle.multihash.specs.Refusal.{IsIo, IsReaderError};
 ghost use Rattle.form.specs.Form.{AppendsSome, AppendsPrefixOfSome};
-ghost use Rattle.form.specs.FormError.{IsFailed};
+ghost use Rattle.form.specs.FormError.{IsFailed, IsTruncated};
 ghost use Rattle.form.specs.Rejecting.{ReadStops};
 ghost use Rattle.form.specs.declared.error.FormError.{FormError as ReadError};
 
@@ -22,7 +22,7 @@ use std::alloc::Global;
 /// - No encoding is empty or a prefix of another one, so concatenated encodings can be split in one way only.
 /// - An input that starts with no encoding has one error. One byte shows it, whatever follows that byte, and `read`
 ///   consumes the input up to there.
-/// - An input that ends before that is incomplete, and the error says so.
+/// - An input that ends before that is incomplete. Its error says so, and no other one does.
 pub trait Form {
     // The ghost members are what contracts state of a form, and the laws at the end are what each implementation
     // proves. `read`, `from_bytes` and the functions of the module `laws` have more contracts, which follow from these.
@@ -83,6 +83,9 @@ pub trait Form {
 
     // An input is not rejected before its first byte.
     ghost rejects_some: { (e : ReadError) (bytes : List ℕ) → rejects e bytes → 0 < length bytes };
+
+    // An input that is rejected is not reported as truncated.
+    ghost not_truncated: { (e : ReadError) (bytes : List ℕ) → rejects e bytes → ¬ (IsFailed IsTruncated e) };
 
     // A value has only one encoding.
     ghost one: { (x y : Self) (a b : List ℕ) → same x y → is_form x a → is_form y b → a ≡ b };

@@ -37,6 +37,7 @@ impl Form for Number {
     ghost use Rattle.form.specs.Rejecting.{RejectsNumber};
     ghost use Rattle.form.specs.Laws.Parts.{number_exists, number_unique, number_one, number_some};
     ghost use Rattle.form.specs.Laws.Rejected.{number_not_both, number_rejects_unique, number_rejects_some};
+    ghost use Rattle.form.specs.Laws.Truncated.{number_not_truncated};
 
     ghost is_form = { λ x. IsVarint x.value };
 
@@ -65,6 +66,8 @@ impl Form for Number {
     ghost rejects_unique = { number_rejects_unique };
 
     ghost rejects_some = { number_rejects_some };
+
+    ghost not_truncated = { number_not_truncated };
 
     ghost one = { λ x y. number_one x.value y.value };
 

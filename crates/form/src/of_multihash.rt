@@ -15,6 +15,7 @@ impl<const S: usize> Form for Multihash<S> {
     ghost use Rattle.form.specs.FormError.{IsFailed};
     ghost use Rattle.form.specs.Rejecting.{RejectsMultihash};
     ghost use Rattle.form.specs.Laws.Rejected.{multihash_not_both, multihash_rejects_unique, multihash_rejects_some};
+    ghost use Rattle.form.specs.Laws.Truncated.{multihash_not_truncated};
     ghost use Rattle.form.specs.Laws.Parts.{multihash_exists, multihash_unique, multihash_one, multihash_some};
 
     ghost is_form = { λ m. IsEncoding (pair_of m) };
@@ -44,6 +45,8 @@ impl<const S: usize> Form for Multihash<S> {
     ghost rejects_unique = { multihash_rejects_unique S };
 
     ghost rejects_some = { multihash_rejects_some S };
+
+    ghost not_truncated = { multihash_not_truncated S };
 
     ghost one = { multihash_one };
 

@@ -6,7 +6,10 @@ use examples::content::{UnknownCode, hash_of, is_damaged, verify};
 use examples::std_reader::StdReader;
 use examples::{loops, parts};
 use fakes::{Cuts, FailAt};
-use form::{Case, FormError, Stream, all_from_bytes, from_bytes, to_bytes, write_items};
+use form::{
+    Case, FormError, LocatedError, Stream, all_from_bytes, first_error, from_bytes, to_bytes,
+    write_items,
+};
 use multihash::Multihash;
 use multihash::no_std_io::Read;
 use std::alloc::Global;
@@ -158,6 +161,45 @@ fn a_known_multiaddr_is_read(rt: HostRuntime) {
     check_eq!(&rt; expect_ok!(&rt; to_bytes(alloc, &parts::tcp(4001))).as_slice(), &ADDRESS[5..8]);
     let outcome = parts::read_address(alloc, &[5, 0]);
     check!(&rt; matches!(outcome, Err(FormError::OtherTag(5))));
+}
+
+fn is_at(e: &LocatedError, item: usize, start: usize, offset: usize) -> bool {
+    e.item == item && e.start == start && e.offset == offset
+}
+
+// Where the parts of the known multiaddr start was counted by hand.
+#[test]
+fn the_first_error_is_located(rt: HostRuntime) {
+    let alloc = rt.alloc();
+    for (item, start, end) in [(0, 0, 5), (1, 5, 8), (2, 8, 11), (3, 11, 15), (4, 15, 20)] {
+        let mut bytes = ADDRESS;
+        if let Some(tag) = bytes.get_mut(start) {
+            *tag = 5;
+        }
+        let found = first_error::<parts::AddressPart>(alloc, &bytes);
+        check!(&rt; found.is_some_and(|e| matches!(e.error, FormError::OtherTag(5)) && is_at(&e, item, start, start.saturating_add(1))), item);
+        for len in start.saturating_add(1)..end {
+            let part = ADDRESS.get(..len).unwrap_or(&[]);
+            let found = first_error::<parts::AddressPart>(alloc, part);
+            check!(&rt; found.is_some_and(|e| e.error.is_incomplete() && is_at(&e, item, start, len)), len);
+        }
+        let whole = ADDRESS.get(..end).unwrap_or(&[]);
+        check!(&rt; first_error::<parts::AddressPart>(alloc, whole).is_none(), end);
+    }
+}
+
+// A block of 254 bytes, two blocks in place of one at most, a digest of 65 bytes, and a number of two bytes for 0.
+#[test]
+fn errors_within_values_are_located(rt: HostRuntime) {
+    let alloc = rt.alloc();
+    let found = first_error::<parts::AddressPart>(alloc, &[6, 1, 2, 53, 0xfe, 1, 7, 7]);
+    check!(&rt; found.is_some_and(|e| matches!(e.error, FormError::TooLong(254)) && is_at(&e, 1, 3, 6)));
+    let found = first_error::<parts::PeerRecord>(alloc, &[0, 0, 0, 0, 0, 2, 7, 7]);
+    check!(&rt; found.is_some_and(|e| matches!(e.error, FormError::TooMany(2)) && is_at(&e, 1, 3, 6)));
+    let found = first_error::<parts::LogEntry>(alloc, &[0xac, 2, 0x12, 65, 7, 7]);
+    check!(&rt; found.is_some_and(|e| !e.error.is_incomplete() && is_at(&e, 0, 0, 4)));
+    let found = first_error::<parts::LogEntry>(alloc, &[0x80, 0, 7]);
+    check!(&rt; found.is_some_and(|e| !e.error.is_incomplete() && is_at(&e, 0, 0, 2)));
 }
 
 // The data is at 0x33, and 0x0102 bytes; there is no index.
