@@ -13,7 +13,7 @@ use crate::proved::no_std_io::{Read, Write};
 /// - No encoding is empty or a prefix of another one, so concatenated encodings can be split in one way only.
 /// - An input that starts with no encoding has one error. One byte shows it, whatever follows that byte, and `read`
 ///   consumes the input up to there.
-/// - An input that ends before that is incomplete, and the error says so.
+/// - An input that ends before that is incomplete. Its error says so, and no other one does.
 pub trait Form: super::values::Part {
     /// Appends the encoding to `w`.
     ///
