@@ -2,7 +2,7 @@
 #![cfg(feature = "std")]
 use std::io::{Cursor, ErrorKind};
 use verified_multihash::form::{
-    all_from_bytes, from_bytes, to_bytes, BigEndian, Block, Bytes, Form, FormError, Number, Stream,
+    all_from_bytes, first_error, from_bytes, to_bytes, BigEndian, Block, Bytes, Form, FormError, Number, Stream,
 };
 use verified_multihash::{codes, form, Multihash};
 
@@ -44,11 +44,18 @@ fn address() {
 #[test]
 fn rejected_addresses() {
     let error = |bytes: &[u8]| all_from_bytes::<Protocol>(bytes).expect_err("no address");
-    for length in 1..ADDRESS.len() {
-        let is_whole = [5, 8].contains(&length);
-        assert!(is_whole || error(&ADDRESS[..length]).is_incomplete(), "{length}");
+    let place = |bytes: &[u8]| first_error::<Protocol>(bytes).map(|found| (found.item, found.start, found.offset));
+    for (item, start, end) in [(0, 0, 5), (1, 5, 8), (2, 8, ADDRESS.len())] {
+        for length in start + 1..end {
+            assert!(error(&ADDRESS[..length]).is_incomplete(), "{length}");
+            assert_eq!(place(&ADDRESS[..length]), Some((item, start, length)));
+        }
+        assert_eq!(place(&ADDRESS[..end]), None);
+        let mut wrong = ADDRESS.to_vec();
+        wrong[start] = 5;
+        assert!(matches!(error(&wrong), FormError::OtherTag(5)));
+        assert_eq!(place(&wrong), Some((item, start, start + 1)));
     }
-    assert!(matches!(error(b"\x05\0"), FormError::OtherTag(5)));
     assert!(matches!(error(b"\x35\xfe\x01"), FormError::TooLong(254)));
     let padded = error(b"\x84\0\x7f\0\0\x01");
     assert!(matches!(padded, FormError::Failed(error) if error.is_not_minimal()));
