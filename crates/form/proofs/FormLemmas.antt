@@ -5,7 +5,7 @@ use Rattle.std.specs.Prelude.{None}
 use Rattle.multihash.specs.Bytes.{IsPrefix}
 use Rattle.multihash.specs.Varint.{VarintError, insufficient, overflow, not_minimal, IsVarint, IsInsufficient}
 use Rattle.multihash.specs.Encoding.{IsEncoding}
-use Rattle.multihash.specs.Verdict.{Verdict, accepted, HasVerdict, IsIncomplete}
+use Rattle.multihash.specs.Verdict.{Verdict, accepted, invalid_size, invalid_code, malformed, unexpected_eof, HasVerdict, IsIncomplete}
 use Rattle.multihash.specs.Settling.{Settles, IsShortestSettling}
 use Rattle.multihash.specs.Outcome.{IsErrorOf}
 use Rattle.multihash.specs.Refusal.{Refusal, of_varint, of_io, IsReaderError, IsAnyVarintError, IsVarintError}
@@ -15,7 +15,7 @@ use Rattle.multihash.proofs.VerdictLemmas.{verdict_unique}
 use Rattle.multihash.proofs.VarintLemmas.{number_no_error}
 use Rattle.multihash.proofs.SettlingLemmas.{late_settles, none_settles, incomplete_not_settles, verdict_kept}
 use Rattle.multihash.proofs.ReadConsumingLemmas.{incomplete_error}
-use Rattle.multihash.proofs.CallingLemmas.{front_error_unique, incomplete_or_not, exact_fails}
+use Rattle.multihash.proofs.CallingLemmas.{front_error_unique, exact_fails}
 use Rattle.multihash.specs.Fault.{Fault, IsOwnFault, IsUnexpectedEof}
 use Rattle.multihash.specs.Reading.{HasFewerThan, ConsumesFewerThan}
 use Rattle.multihash.specs.Consuming.{FailsBy, ExactFails, ReadFails, ConsumesAtVarintError, ConsumesShortestSettling}
@@ -76,6 +76,16 @@ varint_stops {e = e} {old = Some input} {new = new} cause c = inr (record {
 })
 
 -- ---- multihashes
+
+-- a verdict is incomplete, or it is not
+incomplete_or_not : (v : Verdict) → IsIncomplete v ⊎ (¬ (IsIncomplete v))
+incomplete_or_not (accepted p) = inr (λ h. h)
+incomplete_or_not (invalid_size size) = inr (λ h. h)
+incomplete_or_not (invalid_code code) = inr (λ h. h)
+incomplete_or_not (malformed insufficient) = inl tt
+incomplete_or_not (malformed overflow) = inr (λ h. h)
+incomplete_or_not (malformed not_minimal) = inr (λ h. h)
+incomplete_or_not unexpected_eof = inl tt
 
 module _ (S : ℕ) where
   -- if no prefix settles a verdict, none decides
