@@ -1,18 +1,20 @@
 #!/usr/bin/env python3
 """For `tools/generate tables`: writes the files of packages that have statuses, limits and the version of multihash.h,
-and names of hash functions, of hashes.tsv and codes.tsv of crates/vectors/data.
+texts of multihash_message.h, and names of hash functions, of hashes.tsv and codes.tsv of crates/vectors/data.
 
     tools/tables.py FOLDER      writes them below a folder, by their paths in the repository
 """
 import re
 import sys
 import textwrap
-from collections.abc import Sequence
+from collections.abc import Iterator, Sequence
 from pathlib import Path
 
 TOP = Path(__file__).resolve().parents[1]
 DATA = TOP / "crates/vectors/data"
-HEADER = (TOP / "bindings/c/include/multihash.h").read_text("utf-8")
+INCLUDE = TOP / "bindings/c/include"
+HEADER = (INCLUDE / "multihash.h").read_text("utf-8")
+MESSAGES = (INCLUDE / "multihash_message.h").read_text("utf-8").replace('%" PRIu64 "', "%s").replace('%" PRIu64', '%s"')
 VERSION = re.findall(r'#define MULTIHASH_VERSION "(.*)"', HEADER)[0]
 # The name, the number and what it is the maximum of.
 LIMITS = re.findall(r"#define MULTIHASH_(\w+_MAX) (\d+) +/\* of (.*) \*/", HEADER)
@@ -23,6 +25,8 @@ STATUSES = [
     for comment, name, number in re.findall(r"/\*((?:(?!\*/).)*)\*/\s*MULTIHASH_(\w+) = (\d+)", HEADER, re.S)
 ]
 INCOMPLETE = re.findall(r"status == MULTIHASH_(\w+)", HEADER)
+# The name of a text, its parameters, the format, and the values for it, which a comma precedes. Each conversion is %s.
+TEXT = r'mh_text_(\w+)\(char \*text, size_t text_size(.*)\)\n{\s*return snprintf\(text, text_size, "([^"]*)"([^;]*)\);'
 LISTS = [line.split("\t") for name in ("hashes.tsv", "codes.tsv") for line in (DATA / name).open(encoding="utf-8")]
 NAMES = {int(code, 16): name.strip() for code, name, *_ in LISTS if code != "code"}
 
@@ -47,6 +51,23 @@ def names(one: str, family: str = "") -> str:
             bits = "".join(f"\n        {line}" for line in numbers)
             lines += [family.format(name=stem, code=code, count=count, bits=bits)]
     return "\n".join(lines)
+
+
+def message_texts() -> Iterator[tuple[str, ...]]:
+    """Yields for each text the function in JavaScript: the name, the parameters and the template; and that in Rust, with
+    the words that depend on a number."""
+    for name, given, text, values in re.findall(TEXT, MESSAGES):
+        shown = re.split(r",\s+", values)[1:]
+        choices = re.findall(r'(\w+ == \d) \? (".*?") : (".*?")', values)
+        yield (
+            re.sub("_(.)", lambda letter: letter[1].upper(), name),
+            ", ".join(re.findall(r"(\w+)(?:,|$)", given)),
+            text % tuple(f"${{{value}}}".replace("==", "===").replace('"', "'") for value in shown),
+            name,
+            re.sub(r"uint64_t (\w+)", r"\1: u64", re.sub(r"const char \*(\w+)", r"\1: &str", given)),
+            text % tuple("{}" if "?" in value else f"{{{value}}}" for value in shown),
+            "".join(f", if {case} {{ {one} }} else {{ {other} }}" for case, one, other in choices),
+        )
 
 
 def c_names() -> str:
@@ -93,6 +114,13 @@ export const STATUSES: readonly [
 
 /** Those of truncated input. */
 export const INCOMPLETE: readonly string[];
+""",
+    "js/texts.js": f"""// The texts of errors, of multihash_message.h. Made by tools/generate tables.
+{rows("export const {0} = ({1}) =>", "  `{2}`;", of=[*message_texts()])}
+""",
+    "rust/verified-multihash/src/error/texts.rs": f"""//! The texts of errors, of multihash_message.h. Made by tools/generate tables.
+use core::fmt::{{Formatter, Result}};
+{rows("", "pub(super) fn {3}(f: &mut Formatter<'_>{4}) -> Result {{", '    write!(f, "{5}"{6})', "}}", of=[*message_texts()])}
 """,
     "js/codes.js": f"""// Names of hash functions in the multicodec table. Made by tools/generate tables.
 

@@ -3,6 +3,7 @@ import { checkedLength, checkedWide, wrongType } from './arguments.js';
 import { MultihashError, encodingError } from './errors.js';
 import * as format from './format.js';
 import { DIGEST_MAX } from './limits.js';
+import { tooLarge } from './texts.js';
 
 /** Throws why a code and a digest of that length have no encoding. */
 export function checkPair(code, length) {
@@ -38,7 +39,7 @@ export function encodedLength(code, digestLength) {
 function checkedValue(value) {
   const number = checkedWide(value, 'value');
   if (number < 2 ** 63) return number;
-  throw new MultihashError(`the value ${value} is 2^63 or more`, { status: 'overflow' });
+  throw new MultihashError(tooLarge('value', value), { status: 'overflow' });
 }
 
 /** Returns the varint of a number. */

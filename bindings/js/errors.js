@@ -1,6 +1,7 @@
-// MultihashError, the error of invalid input, and its texts.
+// MultihashError, the error of invalid input, and the choice of its text.
 import { readHead, readVarint } from './format.js';
 import { INCOMPLETE, STATUSES } from './statuses.js';
+import * as texts from './texts.js';
 
 const ALL = [...STATUSES.slice(1), 'not_hexadecimal'];
 
@@ -36,28 +37,21 @@ export class MultihashError extends Error {
 Object.defineProperty(MultihashError.prototype, 'name',
   { value: 'MultihashError', writable: true, configurable: true });
 
-const counted = (count) => `${count} byte${count === 1 ? '' : 's'}`;
-
-const tooLong = (size, limit) => `the digest has ${counted(size)}, and the limit is ${limit}`;
-const tooLarge = (code) => `the code ${code} is 2^63 or more`;
-const truncated = (part, count, length) =>
-  `the input ends ${count === 0 ? 'before' : 'inside'} the ${part} (${count} of ${length} bytes)`;
-
-const malformed = (name, status) =>
-  `the ${name} ${status === 'overflow' ? 'has more than nine bytes' : 'is not minimal: it ends in a zero byte'}`;
+/** Why a varint that has a name is rejected, whose end is there. */
+const malformed = (varint, status) => (status === 'overflow' ? texts.overflow(varint) : texts.notMinimal(varint));
 
 /** Why the bytes from an index on are no multihash with a digest of at most `limit` bytes. */
 function reasonOf(status, bytes, at, end, limit) {
   const { size, next } = readHead(bytes, at, end);
   const rest = end - next;
-  if (status === 'unexpected_eof') return truncated('digest', rest, size);
-  if (status === 'invalid_size' && size > limit) return tooLong(size, limit);
-  if (status === 'invalid_size') return `${counted(rest - size)} follow${rest - size === 1 ? 's' : ''} the multihash`;
+  if (status === 'unexpected_eof') return texts.truncated('digest', rest, size);
+  if (status === 'invalid_size' && size > limit) return texts.tooLong('digest', size, limit);
+  if (status === 'invalid_size') return texts.trailing(rest - size);
   const code = readVarint(bytes, at, end);
   const name = code.status === 'ok' ? "digest's length" : 'code';
   if (status !== 'insufficient') return malformed(`varint of the ${name}`, status);
-  if (at === end) return 'the input is empty';
-  return `the input ends ${code.status === 'ok' && code.next === end ? 'before' : 'inside'} the ${name}`;
+  if (at === end) return texts.empty();
+  return texts.ends(code.status === 'ok' && code.next === end ? 'before' : 'inside', name);
 }
 
 /** The error that was found in the bytes from an index on. A number that does not belong to its status is 0. */
@@ -69,26 +63,26 @@ export function errorOf({ status, size, code, next }, bytes, at, end, limit) {
 /** Why the varint at the start of an input of that length is rejected. */
 export function varintReasonOf(status, length) {
   if (status !== 'insufficient') return malformed('varint', status);
-  return length === 0 ? 'the input is empty' : 'the input ends inside the varint';
+  return length === 0 ? texts.empty() : texts.ends('inside', 'varint');
 }
 
 /** Why the bytes before `end` have no frame of at most `limit` bytes. */
 export function frameReasonOf({ status, size, next }, end, limit) {
-  if (status === 'invalid_size') return `the frame has ${counted(size)}, and the limit is ${limit}`;
-  return status === 'unexpected_eof' ? truncated('frame', end - next, size) : varintReasonOf(status, end);
+  if (status === 'invalid_size') return texts.tooLong('frame', size, limit);
+  return status === 'unexpected_eof' ? texts.truncated('frame', end - next, size) : varintReasonOf(status, end);
 }
 
 /** Why an input of that length is rejected as SCALE. */
 export function scaleReasonOf({ status, code }, input, length) {
-  if (status === 'invalid_code') return tooLarge(code);
-  if (length === 0) return 'the input is empty';
-  if (length < 8) return truncated('code', length, 8);
-  if (length === 8) return "the input ends before the digest's length";
-  return truncated('digest', length - 9, input[8]);
+  if (status === 'invalid_code') return texts.tooLarge('code', code);
+  if (length === 0) return texts.empty();
+  if (length < 8) return texts.truncated('code', length, 8);
+  if (length === 8) return texts.ends('before', "digest's length");
+  return texts.truncated('digest', length - 9, input[8]);
 }
 
 /** The error of an encoding. */
 export function encodingError(status, size, code, limit) {
-  if (status === 'invalid_code') return new MultihashError(tooLarge(code), { status, code });
-  return new MultihashError(tooLong(size, limit), { status, size });
+  if (status === 'invalid_code') return new MultihashError(texts.tooLarge('code', code), { status, code });
+  return new MultihashError(texts.tooLong('digest', size, limit), { status, size });
 }

@@ -23,22 +23,49 @@ extern "C" {
 /* The size in bytes of a buffer for each message. */
 #define MULTIHASH_MESSAGE_SIZE 128
 
-/* The message for a part of an encoding that is truncated. */
-static inline int mh_message_truncated(char *text, size_t text_size, const char *part, uint64_t present, uint64_t whole)
+/* The texts. Those of JavaScript and Rust are made of these functions, by tools/generate tables. */
+
+static inline int mh_text_empty(char *text, size_t text_size)
+{
+    return snprintf(text, text_size, "the input is empty");
+}
+
+static inline int mh_text_ends(char *text, size_t text_size, const char *place, const char *part)
+{
+    return snprintf(text, text_size, "the input ends %s the %s", place, part);
+}
+
+static inline int mh_text_truncated(char *text, size_t text_size, const char *part, uint64_t there, uint64_t whole)
 {
     return snprintf(text, text_size, "the input ends %s the %s (%" PRIu64 " of %" PRIu64 " bytes)",
-                    present == 0 ? "before" : "inside", part, present, whole);
+                    there == 0 ? "before" : "inside", part, there, whole);
 }
 
-static inline int mh_message_too_long(char *text, size_t text_size, uint64_t length, uint64_t limit)
+static inline int mh_text_overflow(char *text, size_t text_size, const char *varint)
 {
-    return snprintf(text, text_size, "the digest has %" PRIu64 " byte%s, and the limit is %" PRIu64, length,
-                    length == 1 ? "" : "s", limit);
+    return snprintf(text, text_size, "the %s has more than nine bytes", varint);
 }
 
-static inline int mh_message_large_code(char *text, size_t text_size, uint64_t code)
+static inline int mh_text_not_minimal(char *text, size_t text_size, const char *varint)
 {
-    return snprintf(text, text_size, "the code %" PRIu64 " is 2^63 or more", code);
+    return snprintf(text, text_size, "the %s is not minimal: it ends in a zero byte", varint);
+}
+
+static inline int mh_text_too_long(char *text, size_t text_size, const char *part, uint64_t length, uint64_t limit)
+{
+    return snprintf(text, text_size, "the %s has %" PRIu64 " %s, and the limit is %" PRIu64, part, length,
+                    length == 1 ? "byte" : "bytes", limit);
+}
+
+static inline int mh_text_too_large(char *text, size_t text_size, const char *name, uint64_t number)
+{
+    return snprintf(text, text_size, "the %s %" PRIu64 " is 2^63 or more", name, number);
+}
+
+static inline int mh_text_trailing(char *text, size_t text_size, uint64_t count)
+{
+    return snprintf(text, text_size, "%" PRIu64 " %s the multihash", count,
+                    count == 1 ? "byte follows" : "bytes follow");
 }
 
 /* The message for a malformed varint: `head` is what multihash_head returns for `bytes`, which are not empty. */
@@ -46,17 +73,13 @@ static inline int mh_message_malformed(char *text, size_t text_size, const uint8
 {
     size_t ended = 0; /* the number of varints that end in the bytes consumed: the malformed one, if it is not minimal */
     for (size_t i = 0; i < head.taken; i++) ended += bytes[i] < 128;
-    int is_minimal = head.status != MULTIHASH_NOT_MINIMAL;
-    const char *number = ended == (is_minimal ? 0 : 1) ? "code" : "digest's length";
+    int is_minimal = head.status != MULTIHASH_NOT_MINIMAL, is_code = ended == (is_minimal ? 0 : 1);
+    const char *varint = is_code ? "varint of the code" : "varint of the digest's length";
 
-    if (!is_minimal) {
-        return snprintf(text, text_size, "the varint of the %s is not minimal: it ends in a zero byte", number);
-    }
-    if (head.status == MULTIHASH_OVERFLOW) {
-        return snprintf(text, text_size, "the varint of the %s has more than nine bytes", number);
-    }
-    const char *where = bytes[head.taken - 1] < 128 ? "before" : "inside";
-    return snprintf(text, text_size, "the input ends %s the %s", where, number);
+    if (!is_minimal) return mh_text_not_minimal(text, text_size, varint);
+    if (head.status == MULTIHASH_OVERFLOW) return mh_text_overflow(text, text_size, varint);
+    const char *place = bytes[head.taken - 1] < 128 ? "before" : "inside";
+    return mh_text_ends(text, text_size, place, is_code ? "code" : "digest's length");
 }
 
 /* Writes why `bytes` is not exactly one multihash with a digest of at most `limit` bytes, after a call of
@@ -79,13 +102,12 @@ static inline int multihash_message(char *text, size_t text_size, const uint8_t 
     uint64_t most = limit < MULTIHASH_DIGEST_MAX ? limit : MULTIHASH_DIGEST_MAX;
     uint64_t present = bytes_length - head.taken, length = head.digest_length;
 
-    if (bytes_length == 0) return snprintf(text, text_size, "the input is empty");
+    if (bytes_length == 0) return mh_text_empty(text, text_size);
     if (head.status != MULTIHASH_OK) return mh_message_malformed(text, text_size, bytes, head);
-    if (length > most) return mh_message_too_long(text, text_size, length, most);
-    if (present < length) return mh_message_truncated(text, text_size, "digest", present, length);
+    if (length > most) return mh_text_too_long(text, text_size, "digest", length, most);
+    if (present < length) return mh_text_truncated(text, text_size, "digest", present, length);
     if (present == length) return snprintf(text, text_size, "ok");
-    return snprintf(text, text_size, "%" PRIu64 " byte%s the multihash", present - length,
-                    present - length == 1 ? " follows" : "s follow");
+    return mh_text_trailing(text, text_size, present - length);
 }
 
 /* Writes the message of multihash_message and a newline to a stream, such as stderr.
@@ -107,11 +129,11 @@ static inline int multihash_scale_message(char *text, size_t text_size, const ui
     multihash_decoded result = multihash_scale_decode(bytes, bytes_length);
 
     if (result.status == MULTIHASH_OK) return snprintf(text, text_size, "ok");
-    if (result.status == MULTIHASH_INVALID_CODE) return mh_message_large_code(text, text_size, result.code);
-    if (bytes_length == 0) return snprintf(text, text_size, "the input is empty");
-    if (bytes_length < 8) return mh_message_truncated(text, text_size, "code", bytes_length, 8);
-    if (bytes_length == 8) return snprintf(text, text_size, "the input ends before the digest's length");
-    return mh_message_truncated(text, text_size, "digest", bytes_length - 9, bytes[8]);
+    if (result.status == MULTIHASH_INVALID_CODE) return mh_text_too_large(text, text_size, "code", result.code);
+    if (bytes_length == 0) return mh_text_empty(text, text_size);
+    if (bytes_length < 8) return mh_text_truncated(text, text_size, "code", bytes_length, 8);
+    if (bytes_length == 8) return mh_text_ends(text, text_size, "before", "digest's length");
+    return mh_text_truncated(text, text_size, "digest", bytes_length - 9, bytes[8]);
 }
 
 /* Writes why a call of multihash_encode, multihash_scale_encode or multihash_encoded_len has failed: `result` is what it
@@ -123,9 +145,9 @@ static inline int multihash_encode_message(char *text, size_t text_size, multiha
 {
     switch (result.status) {
     case MULTIHASH_INVALID_SIZE:
-        return mh_message_too_long(text, text_size, result.size, MULTIHASH_DIGEST_MAX);
+        return mh_text_too_long(text, text_size, "digest", result.size, MULTIHASH_DIGEST_MAX);
     case MULTIHASH_INVALID_CODE:
-        return mh_message_large_code(text, text_size, code);
+        return mh_text_too_large(text, text_size, "code", code);
     case MULTIHASH_NO_ROOM:
         return snprintf(text, text_size, "the buffer has %" PRIu64 " byte%s, and %" PRIu64 " are needed",
                         (uint64_t)out_length, out_length == 1 ? "" : "s", (uint64_t)result.length);

@@ -28,23 +28,20 @@ int keep_part(reader_object *reader, const input *from)
     return 0;
 }
 
-/* What is wrong with the next frame. */
-static PyObject *text_of(const reader_object *reader)
+/* Writes what is wrong with the next frame. */
+static int write_message(const reader_object *reader, char *text, size_t text_size)
 {
-    unsigned long long size = reader->varint.value, kept = reader->kept;
+    uint64_t size = reader->varint.value;
     switch (reader->varint.status) {
     case MULTIHASH_INSUFFICIENT:
-        return PyUnicode_FromString("the input ends inside the varint");
+        return mh_text_ends(text, text_size, "inside", "varint");
     case MULTIHASH_OVERFLOW:
-        return PyUnicode_FromString("the varint has more than nine bytes");
+        return mh_text_overflow(text, text_size, "varint");
     case MULTIHASH_NOT_MINIMAL:
-        return PyUnicode_FromString("the varint is not minimal: it ends in a zero byte");
+        return mh_text_not_minimal(text, text_size, "varint");
     default:
-        if (size > reader->limit) {
-            return PyUnicode_FromFormat("the frame has %llu bytes, and the limit is %zu", size, reader->limit);
-        }
-        return PyUnicode_FromFormat("the input ends %s the frame (%llu of %llu bytes)",
-                                    kept == 0 ? "before" : "inside", kept, size);
+        if (size > reader->limit) return mh_text_too_long(text, text_size, "frame", size, reader->limit);
+        return mh_text_truncated(text, text_size, "frame", reader->kept, size);
     }
 }
 
@@ -53,12 +50,10 @@ static PyObject *frame_error(const reader_object *reader)
     multihash_status status = reader->varint.status;
     int is_long = status == MULTIHASH_OK && reader->varint.value > reader->limit;
     if (status == MULTIHASH_OK) status = is_long ? MULTIHASH_INVALID_SIZE : MULTIHASH_UNEXPECTED_EOF;
-    PyObject *size = PyLong_FromUnsignedLongLong(is_long ? reader->varint.value : 0), *wrong = text_of(reader);
-    PyObject *text = NULL;
-    if (wrong != NULL) {
-        text = PyUnicode_FromFormat("frame %llu at offset %llu: %U", reader->count, reader->taken, wrong);
-        Py_DECREF(wrong);
-    }
+    char wrong[MULTIHASH_MESSAGE_SIZE];
+    write_message(reader, wrong, sizeof wrong);
+    PyObject *text = PyUnicode_FromFormat("frame %llu at offset %llu: %s", reader->count, reader->taken, wrong);
+    PyObject *size = PyLong_FromUnsignedLongLong(is_long ? reader->varint.value : 0);
     return raise_error(reader->own, status, size, PyLong_FromLong(0), reader->length, text);
 }
 

@@ -112,7 +112,8 @@ class Frames(unittest.TestCase):
                     continue
                 file = io.BytesIO(vm.encode_varint(size) + b"a")
                 error = self.error_of(kind(file, *given))
-                text = "frame 0 at offset 0: the frame has %d bytes, and the limit is %d" % (size, size - 1)
+                shown = "1 byte" if size == 1 else "%d bytes" % size
+                text = "frame 0 at offset 0: the frame has %s, and the limit is %d" % (shown, size - 1)
                 self.assertEqual((error.status, error.size, str(error)), (Status.INVALID_SIZE, size, text))
                 self.assertEqual((error.taken, file.read()), (len(vm.encode_varint(size)), b"a"))
                 right = io.BytesIO(vm.encode_varint(size - 1) + bytes(size - 1))

@@ -7,6 +7,8 @@ use crate::rattle::AllocError;
 use core::fmt;
 use io::ErrorKind;
 
+mod texts;
+
 /// Why a multihash or a varint was not read, written or made.
 ///
 /// Its text is a sentence: `the input ends inside the digest (12 of 32 bytes)`. An error has exactly one kind:
@@ -235,18 +237,18 @@ impl fmt::Display for Error {
         match (&self.kind, part) {
             (Kind::Io(error), Part::Unknown) if is_end(error) => f.write_str("the input is truncated"),
             (Kind::Io(error), Part::Unknown) => write!(f, "{error}"), // without width and precision, as upstream
-            (Kind::Insufficient(_), Part::Code) if there == 0 => f.write_str("the input is empty"),
-            (Kind::Io(_) | Kind::Insufficient(_), _) => {
-                write!(f, "the input ends {} the {}", if there == 0 { "before" } else { "inside" }, part.name())?;
-                if whole == 0 { Ok(()) } else { write!(f, " ({there} of {whole} bytes)") }
+            (Kind::Insufficient(_), Part::Code) if there == 0 => texts::empty(f),
+            (Kind::Io(_) | Kind::Insufficient(_), _) if whole > 0 => {
+                texts::truncated(f, part.name(), there.into(), whole.into())
             }
-            (Kind::Overflow, _) => write!(f, "the {} has more than nine bytes", part.varint()),
-            (Kind::NotMinimal, _) => write!(f, "the {} is not minimal: it ends in a zero byte", part.varint()),
-            (Kind::InvalidSize(1), Part::After) => f.write_str("1 byte follows the multihash"),
-            (Kind::InvalidSize(size), Part::After) => write!(f, "{size} bytes follow the multihash"),
-            (Kind::InvalidSize(1), _) => write!(f, "the digest has 1 byte, and the limit is {whole}"),
-            (Kind::InvalidSize(size), _) => write!(f, "the digest has {size} bytes, and the limit is {whole}"),
-            (Kind::InvalidCode(code), _) => write!(f, "the code {code} is 2^63 or more"),
+            (Kind::Io(_) | Kind::Insufficient(_), _) => {
+                texts::ends(f, if there == 0 { "before" } else { "inside" }, part.name())
+            }
+            (Kind::Overflow, _) => texts::overflow(f, part.varint()),
+            (Kind::NotMinimal, _) => texts::not_minimal(f, part.varint()),
+            (Kind::InvalidSize(size), Part::After) => texts::trailing(f, *size),
+            (Kind::InvalidSize(size), _) => texts::too_long(f, "digest", *size, whole.into()),
+            (Kind::InvalidCode(code), _) => texts::too_large(f, "code", *code),
         }
     }
 }
