@@ -62,8 +62,7 @@ new MultihashError('a text', { status: 'ok' });
 new MultihashError('a text', { status: 'no_room' });
 // @ts-expect-error a field may be absent, not undefined
 new MultihashError('a text', { status: 'overflow', taken: undefined });
-is<'insufficient' | 'overflow' | 'not_minimal' | 'invalid_size' | 'invalid_code' | 'unexpected_eof' |
-  'not_hexadecimal'>()(error.status as Status);
+is<Status>()(error.status);
 is<readonly [Wide | undefined, Wide | undefined, number | undefined, boolean]>()(
   [error.size, error.code, error.taken, error.isIncomplete] as const);
 is<{ name: string; message: string; status: Status; size?: number | string; code?: number | string; taken?: number }>()(

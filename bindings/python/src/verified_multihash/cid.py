@@ -56,9 +56,8 @@ class CIDError(ValueError):
     """The error of a text, of bytes or of fields that are no CID. Its text says what is wrong.
 
     `status` is the kind of the error, which has the same name in other languages:
-    `insufficient`, `overflow`, `not_minimal`, `invalid_size`, `unexpected_eof`: the version, the codec or the multihash
-    is invalid or truncated, or bytes follow it, as the Status of that name says; `__cause__` is the MultihashError. An
-    empty text is `insufficient`.
+    A name of Status, in lower case: the version, the codec or the multihash is invalid or truncated, or bytes follow it,
+    as that Status says; `__cause__` is the MultihashError. An empty text is `insufficient`.
     `unknown_base`: the text does not start with `b`, `f`, `z` or `Qm`.
     `invalid_digit`: a character is no digit of the base.
     `too_long`: the text has more than TEXT_MAX characters.
