@@ -85,6 +85,7 @@ class Cids(unittest.TestCase):
         self.assertNotEqual(CID(1, 0x70, HELLO), old)
         with self.assertRaises(AttributeError):
             RAW.codec = 0
+        self.assertEqual(vars(RAW), {"version": 1, "codec": 0x55, "multihash": HELLO})  # pydantic 1 reads them there
         error = shown(CID.parse, "b")[1]
         again = pickle.loads(pickle.dumps(error))
         self.assertEqual((str(again), again.status), (str(error), error.status))

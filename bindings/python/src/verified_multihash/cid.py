@@ -75,7 +75,7 @@ class CIDError(ValueError):
         return str(self.args[1])
 
 
-@dataclass(frozen=True, slots=True, repr=False)
+@dataclass(frozen=True, repr=False)  # no slots: pydantic 1 reads the dictionary of a dataclass
 class CID:
     """A version, which is 0 or 1, a codec below 2**63, and a multihash.
 
