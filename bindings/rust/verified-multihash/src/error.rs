@@ -196,8 +196,8 @@ impl Error {
         }
     }
 
-    /// Returns the number of bytes of the input up to and including the one that determines the error, if it is known: it is
-    /// where the whole input is, as in `from_bytes`, `parse`, `Decoder` and `Reader`.
+    /// Returns the number of bytes from the start of the multihash up to and including the one that determines the error,
+    /// or up to the end of the input. It is known if the bytes are: to `from_bytes`, `parse`, `Decoder` and `Reader`.
     pub fn consumed(&self) -> Option<usize> {
         self.place.consumed.map(usize::from)
     }

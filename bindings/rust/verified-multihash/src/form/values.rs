@@ -10,6 +10,40 @@ use alloc::vec::Vec;
 use core::ops::Deref;
 
 /// What only the parts and `form!` implement, so that each [`Form`](crate::form::Form) is made of parts.
+///
+/// None is made without its constructor, which keeps its limits:
+///
+/// ```compile_fail
+/// let _ = verified_multihash::form::Number { value: 0 };
+/// ```
+///
+/// ```compile_fail
+/// let _ = verified_multihash::form::BigEndian::<1> { value: 0 };
+/// ```
+///
+/// ```compile_fail
+/// let _ = verified_multihash::form::LittleEndian::<1> { value: 0 };
+/// ```
+///
+/// ```compile_fail
+/// let _ = verified_multihash::form::Bytes { bytes: [0] };
+/// ```
+///
+/// ```compile_fail
+/// let _ = verified_multihash::form::Block::<1> { bytes: vec![0] };
+/// ```
+///
+/// ```compile_fail
+/// let _ = verified_multihash::form::Counted::<u8, 1> { items: vec![] };
+/// ```
+///
+/// ```compile_fail
+/// let _ = verified_multihash::form::Tag::<1> {};
+/// ```
+///
+/// ```compile_fail
+/// let _ = verified_multihash::form::Tagged::<u8, 1> { value: 0 };
+/// ```
 pub trait Part: Sized {
     /// How deep types of parts are in this one. A type that contains itself has no such number, and does not compile:
     /// an input could make `read` of it need any amount of stack.
@@ -246,7 +280,7 @@ pub fn to_bytes<T: Form>(value: &T) -> Result<Vec<u8>, FormError> {
 
 /// Makes a struct or an enum of yours a [`Form`](crate::form::Form): the fields of a struct one after another, as
 /// [`Both`](crate::form::Both) has them; of an enum the varint of the tag and the value of the case, as
-/// [`Choice`](crate::form::Choice) has them. [The module](mod@crate::form) has examples.
+/// [`Choice`](crate::form::Choice) has them. It has no parameters. [The module](mod@crate::form) has examples.
 ///
 /// A tag is a number below 2^63. Equal tags do not compile, and neither does a type that contains itself:
 ///
