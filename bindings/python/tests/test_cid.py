@@ -79,7 +79,7 @@ class Cids(unittest.TestCase):
     def test_values(self):
         old = CID(0, 0x70, HELLO)
         for cid in (RAW, old):
-            self.assertEqual(eval(repr(cid)), cid)
+            self.assertEqual((eval(repr(cid)), f"{cid:>60}", f"{cid}"), (cid, str(cid).rjust(60), str(cid)))
             for other in (pickle.loads(pickle.dumps(cid)), copy.copy(cid), CID(cid.version, cid.codec, cid.multihash)):
                 self.assertEqual((other, hash(other)), (cid, hash(cid)))
         self.assertNotEqual(CID(1, 0x70, HELLO), old)
@@ -89,6 +89,9 @@ class Cids(unittest.TestCase):
         error = shown(CID.parse, "b")[1]
         again = pickle.loads(pickle.dumps(error))
         self.assertEqual((str(again), again.status), (str(error), error.status))
+        for args, text in ((["path: %s" % error], "path: %s" % error), ([], "")):
+            again.args = args
+            self.assertEqual((str(again), again.status), (text, error.status))
 
     def test_arguments(self):
         for wrong in (None, 5, [1], "f01550000", object()):

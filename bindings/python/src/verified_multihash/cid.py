@@ -72,7 +72,8 @@ class CIDError(ValueError):
         super().__init__(status, text)
 
     def __str__(self) -> str:
-        return str(self.args[1])
+        """Returns the text. If `args` was replaced, returns what a ValueError does."""
+        return str(self.args[1]) if len(self.args) == 2 else super().__str__()
 
 
 @dataclass(frozen=True, repr=False)  # no slots: pydantic 1 reads the dictionary of a dataclass
@@ -168,6 +169,10 @@ class CID:
 
     def __str__(self) -> str:
         return self.text()
+
+    def __format__(self, format_spec: str) -> str:
+        """Formats what str returns."""
+        return format(str(self), format_spec)
 
     def __repr__(self) -> str:
         return "%s.parse(%r)" % (type(self).__qualname__, str(self))
