@@ -50,6 +50,16 @@ function headOf(bytes, length) {
   return { version: 1, codec: codec.value, start: version.taken + codec.taken };
 }
 
+/** The length of the bytes of a CID. */
+function lengthOf(bytes) {
+  if (typeof bytes === 'string') throw new TypeError('bytes must be a Uint8Array, got string: CID.parse(text) decodes it');
+  return checkedLength(bytes, 'bytes');
+}
+
+/** The encoding of a version, a codec and a multihash. */
+const encode = ({ version, codec, multihash }) =>
+  version === 0 ? multihash.bytes : Uint8Array.of(1, ...encodeVarint(codec), ...multihash.bytes);
+
 /** A version, a codec and a multihash. */
 export class CID {
   #bytes; // once they were asked for
@@ -74,14 +84,14 @@ export class CID {
 
   /** Decodes the CID whose encoding is the whole of the bytes. */
   static decode(bytes) {
-    const length = checkedLength(bytes, 'bytes');
+    const length = lengthOf(bytes);
     const { version, codec, start } = headOf(bytes, length);
     return CID.of(version, codec, ofPart('multihash', () => decode(viewOf(bytes, start, length - start))));
   }
 
   /** Decodes the CID whose encoding is a prefix of the bytes. */
   static read(bytes) {
-    const length = checkedLength(bytes, 'bytes');
+    const length = lengthOf(bytes);
     const { version, codec, start } = headOf(bytes, length);
     const { multihash, taken } = ofPart('multihash', () => read(viewOf(bytes, start, length - start)));
     return { cid: CID.of(version, codec, multihash), taken: start + taken };
@@ -109,8 +119,8 @@ export class CID {
 
   /** The encoding, which is made once. */
   get bytes() {
-    return (this.#bytes ??= this.version === 0 ? this.multihash.bytes :
-      Uint8Array.of(1, ...encodeVarint(this.codec), ...this.multihash.bytes));
+    if (!(#bytes in this)) return encode(this); // a Proxy has no private fields
+    return (this.#bytes ??= encode(this));
   }
 
   /** The text, in the base of a prefix. */

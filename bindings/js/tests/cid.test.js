@@ -100,11 +100,13 @@ test('values', () => {
     same(RAW.equals(other), false, `${other}`);
   same(OLD.equals(CID.of(1, 0x70, HELLO)), false, 'the other version');
   same(CID.of(1n, 0x55n, HELLO).equals(RAW), true, 'bigints');
+  const proxy = new Proxy(RAW, {});
+  same(`${proxy} ${hex(proxy.bytes)} ${proxy.equals(RAW)}`, `${RAW} ${hex(RAW.bytes)} true`, 'a Proxy');
 });
 
 test('arguments', () => {
   for (const wrong of [undefined, null, 'f01550000', [1, 85, 0, 0], new ArrayBuffer(4), new DataView(new ArrayBuffer(4))])
-    for (const call of [CID.decode, CID.read]) fails(TypeError, () => call(wrong), String(wrong), 'bytes');
+    for (const call of [CID.decode, CID.read]) fails(TypeError, () => call(wrong), String(wrong), typeof wrong === 'string' ? 'bytes CID.parse' : 'bytes');
   for (const wrong of [undefined, 5, RAW.bytes, new String('b'), RAW]) fails(TypeError, () => CID.parse(wrong), 'text');
   for (const [cid, base] of [[OLD, 'b'], [RAW, 'm'], [RAW, 'base32'], [RAW, '__proto__'], [RAW, null], [RAW, Symbol('b')]])
     says(fails(RangeError, () => cid.toString(base), String(base)).message, 'base', String(base));
