@@ -81,7 +81,7 @@ export class Hasher {
    * Appends bytes, and returns this hasher. Throws a `TypeError` after `multihash` was called. WebCrypto, of browsers,
    * hashes no parts: there all bytes are kept in memory.
    */
-  update(bytes: Uint8Array): this;
+  update(content: Uint8Array): this;
   /**
    * Returns the multihash of all bytes. Every call returns the same promise. Rejects with a `MultihashError` if `identity`
    * got more than 255 bytes.

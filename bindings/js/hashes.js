@@ -163,7 +163,8 @@ function beginningFor(code, functions = {}) {
 
 /** The code of a name, or itself. */
 function codeOf(hash) {
-  if (typeof hash !== 'string') return checkedWide(hash, 'hash');
+  if (typeof hash === 'number' || typeof hash === 'bigint') return checkedWide(hash, 'hash');
+  if (typeof hash !== 'string') throw wrongType('hash', 'a name in CODES or a code', hash);
   if (CODES[hash] === undefined) throw new RangeError(`hash must be a name in CODES or a code, got ${shown(hash)}`);
   return CODES[hash];
 }
@@ -205,10 +206,10 @@ export class Hasher {
   }
 
   /** Appends bytes, and returns this hasher. */
-  update(bytes) {
-    const length = checkedLength(bytes, 'bytes');
+  update(content) {
+    const length = checkedLength(content, 'content');
     if (this.#multihash) throw new TypeError('multihash() was called, so this hasher takes no more bytes');
-    this.#hash.update(node ? viewOf(bytes, 0, length) : new Uint8Array(bytes)); // WebCrypto hashes at the end
+    this.#hash.update(node ? viewOf(content, 0, length) : new Uint8Array(content)); // WebCrypto hashes at the end
     return this;
   }
 

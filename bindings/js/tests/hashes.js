@@ -171,7 +171,7 @@ export async function ownArguments({ Multihash, digest, verify }) {
   says(await told(verify(claim, ABC, { truncate: 20 })), 'TypeError options functions truncate', 'an option of digest');
   says(await told(digest(ABC, 18, { length: 20 })), 'TypeError options truncate functions length', 'another option');
   const names = [['sha3', 'RangeError hash CODES sha3'], ['toString', 'RangeError hash CODES toString'],
-    [undefined, 'TypeError hash number undefined'], [-1, 'RangeError hash -1'], [{}, 'TypeError hash Object']];
+    [undefined, 'TypeError hash CODES undefined'], [-1, 'RangeError hash -1'], [{}, 'TypeError hash Object']];
   for (const [hash, words] of names) says(await told(digest(ABC, hash)), words, 'a name');
   const long = () => ({ update() {}, digest: () => new Uint8Array(256) });
   says(await told(digest(ABC, 'blake3', { functions: { blake3: long } })), 'MultihashError digest 256 255', 'a long digest');
@@ -207,7 +207,7 @@ export async function hashersOfParts({ Hasher, Multihash, hashers, sha256 }) {
   same(`${await new Hasher(0x1e, { functions }).update(ABC).multihash()}`, `${Multihash.of(0x1e, Uint8Array.of(38, 1, 0, 0))}`, 'own');
   const wrong = [[() => new Hasher('blake3'), 'UnsupportedHashError 0x1e'], [() => new Hasher('sha3'), 'RangeError hash CODES'],
     [() => new Hasher('sha1', { truncate: 2 }), 'TypeError options functions truncate'],
-    [() => new Hasher('sha1').update('abc'), 'TypeError bytes string']];
+    [() => new Hasher('sha1').update('abc'), 'TypeError content string TextEncoder']];
   for (const [call, words] of wrong) says(await told((async () => call())()), words, 'an argument');
   const long = new Hasher('identity').update(new Uint8Array(200)).update(new Uint8Array(56));
   says(await told(long.multihash()), 'MultihashError identity 255 256', 'too long for identity');
