@@ -6,6 +6,7 @@
 #include <multihash.hpp>
 
 #include <fstream>
+#include <map>
 #include <set>
 #include <sstream>
 #include <unordered_set>
@@ -36,7 +37,7 @@ static std::string bytes_of(const std::string &digits)
     return bytes;
 }
 
-/* A value as columns have it, and the word of an error. */
+/* A value as columns have it. */
 static std::string shown(const value &pair)
 {
     std::ostringstream text;
@@ -45,47 +46,41 @@ static std::string shown(const value &pair)
     return text.str() + (digits.empty() ? "-" : digits);
 }
 
-static std::string word_of(const multihash::error &error)
+/* The first word of a column has the same status each time, and no other word has it. */
+static void check_error(const multihash::error &error, const std::string &column)
 {
-    static const char *const words[] = {"",           "insufficient", "overflow",      "not_minimal", "invalid_size",
-                                        "invalid_code", "unexpected_eof"};
-    const std::string word = words[error.status()];
+    static std::map<std::string, multihash_status> statuses;
+    const std::string word = column.substr(0, column.find(' '));
     CHECK(error.is_incomplete() == (word == "insufficient" || word == "unexpected_eof"));
-    return word;
+    statuses.emplace(word, error.status());
+    for (const auto &[other, status] : statuses) CHECK((other == word) == (status == error.status()));
 }
 
-/* What a call returns, as in a column without the numbers of errors. */
-template <typename Call> static std::string result_of(Call call)
+/* A call returns, or throws, what a column says. */
+template <typename Call> static void check(Call call, const std::string &column)
 {
     try {
-        return shown(call());
+        CHECK(shown(call()) == column);
     } catch (const multihash::error &error) {
-        return word_of(error);
+        check_error(error, column);
     }
-}
-
-static std::string without_number(const std::string &column)
-{
-    return column.substr(0, 5) == "pair " ? column : column.substr(0, column.find(' '));
 }
 
 static void check_verdict(const row &columns)
 {
-    const std::string bytes = bytes_of(columns[1]), wanted = without_number(columns[2]);
+    const std::string bytes = bytes_of(columns[1]), &wanted = columns[2];
     const size_t limit = std::stoul(columns[0]);
     std::string_view rest = bytes;
-    CHECK(result_of([&] { return value::read(rest, limit); }) == wanted);
+    check([&] { return value::read(rest, limit); }, wanted);
     const size_t taken = wanted.substr(0, 5) == "pair " ? std::stoul(columns[3]) : 0;
     CHECK(bytes.size() - rest.size() == taken);
-    if (limit >= MULTIHASH_DIGEST_MAX) {
-        CHECK(result_of([&] { return value::decode(bytes); }) == without_number(columns[4]));
-    }
+    if (limit >= MULTIHASH_DIGEST_MAX) check([&] { return value::decode(bytes); }, columns[4]);
     std::istringstream stream(bytes);
     if (bytes.empty()) {
         CHECK(!value::read(stream, limit).has_value());
         return;
     }
-    CHECK(result_of([&] { return value::read(stream, limit).value(); }) == wanted);
+    check([&] { return value::read(stream, limit).value(); }, wanted);
     if (taken > 0) CHECK(stream.tellg() == static_cast<std::streamoff>(taken));
 }
 
@@ -102,7 +97,7 @@ static void check_value(const row &columns)
         CHECK(value(code, reinterpret_cast<const uint8_t *>(digest.data()), digest.size()) == pair);
         CHECK(value::decode(reinterpret_cast<const uint8_t *>(encoding.data()), encoding.size()) == pair);
     } catch (const multihash::error &error) {
-        CHECK(word_of(error) == without_number(columns[4]));
+        check_error(error, columns[4]);
     }
 }
 
