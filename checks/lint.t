@@ -1,5 +1,6 @@
 #!/usr/bin/env bash
-# Checks the scripts of the repository with shellcheck, black, pyflakes, mypy and tsc.
+# Checks the scripts of the repository with shellcheck, black, pyflakes, mypy and tsc, and compares the generated files
+# with what tools/generate makes, and the version that files state.
 # shellcheck source=checks/lib/tap.sh
 . "$(dirname "$0")/lib/tap.sh"
 
@@ -9,7 +10,6 @@ scripts() { git grep --no-color -lIE --untracked "$1" | sort; }
 
 shell=$(scripts '^(#! ?/.*\b(ba)?sh|# shellcheck shell=bash)$')
 python=$({ listed '*.py'; scripts '^#!.*python'; } | sort -u)
-javascript=$(listed '*.js' '*.ts')
 # All but the tests of the package for Python have types.
 typed=$(grep -v '^bindings/python/tests/' <<< "$python")
 
@@ -21,13 +21,14 @@ names() {
 }
 
 export MYPY_CACHE_DIR=$work/mypy
-
-# shellcheck disable=SC2086 # no path has a blank
+# shellcheck disable=SC2046,SC2086 # no path has a blank
 {
   needs=shellcheck try shellcheck shellcheck -x -o check-set-e-suppressed $shell
   needs=black try black black --check --line-length 120 $python
   needs=pyflakes3 try pyflakes3 pyflakes3 $python
   needs=mypy try mypy mypy --strict --warn-unreachable --scripts-are-modules --ignore-missing-imports $typed
-  needs=tsc try names names $javascript
+  needs=tsc try names names $(listed '*.js' '*.ts')
 }
+for what in rust contracts vectors tables chart; do try "tools/generate $what" tools/generate "$what" --check; done
+try "the version that files state" tools/version.py --check
 finish

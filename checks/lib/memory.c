@@ -1,5 +1,5 @@
 /* Is loaded before a program (LD_PRELOAD) and makes the allocation fail whose number is in the variable FAIL. At the
- * end writes the number of allocations, and of those not freed, to the file COUNTS. */
+ * end writes the number of allocations, and of those not freed, to the file descriptor 9. */
 #include <stdio.h>
 #include <stdlib.h>
 
@@ -11,19 +11,14 @@ __attribute__((constructor)) static void begin(void) {
     failing = atol(getenv("FAIL"));
 }
 
-static int fails(void) {
-    asked += 1;
-    return asked == failing;
-}
-
 void *malloc(size_t size) {
-    void *made = fails() ? 0 : __libc_malloc(size);
+    void *made = ++asked == failing ? 0 : __libc_malloc(size);
     live += made != 0;
     return made;
 }
 
 void *realloc(void *old, size_t size) {
-    void *made = fails() ? 0 : __libc_realloc(old, size);
+    void *made = ++asked == failing ? 0 : __libc_realloc(old, size);
     live += made != 0 && old == 0;
     return made;
 }
@@ -34,10 +29,5 @@ void free(void *old) {
 }
 
 __attribute__((destructor)) static void end(void) {
-    long its_asked = asked, its_live = live;
-    FILE *counts;
-    failing = 0; /* fopen allocates */
-    counts = fopen(getenv("COUNTS"), "w");
-    fprintf(counts, "%ld %ld\n", its_asked, its_live);
-    fclose(counts);
+    dprintf(9, "%ld %ld\n", asked, live);
 }

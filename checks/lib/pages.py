@@ -1,11 +1,12 @@
-"""For pages.t: finds errors of the pages. DECLARED and STATED list names, versions and limits, and their sources."""
+#!/usr/bin/env python3
+"""Compares the pages with the sources: links, names, versions, limits, what mh_show prints, code of CALLING.md, and bytes of
+FORMAT.md. Nothing else is compared: no sentence, size or time."""
 
 import os
 import re
 import subprocess
 import sys
 from collections.abc import Iterator
-from contextlib import suppress
 from functools import cache
 from pathlib import Path
 
@@ -14,42 +15,42 @@ sys.path.append(str(TOP / "crates" / "vectors"))
 import verdicts
 
 FENCE = re.compile(r"^ *```(\S*)[^\n]*\n(.*?)^ *```$", re.M | re.S)
-README, FORMAT, DIFFERENCES, CONTRACTS = "README.md", "docs/FORMAT.md", "docs/DIFFERENCES.md", "docs/CONTRACTS.md"
-C, CALLING, HEADER = "bindings/c/README.md", "crates/multihash/CALLING.md", "bindings/c/include/multihash.h"
-RUST, JS, PYTHON = "bindings/rust", "bindings/js", "bindings/python"
-SHIM, VERIFIED = f"{RUST}/multihash/README.md", f"{RUST}/verified-multihash/README.md"
-FORMATS = f"{RUST}/verified-multihash/FORMATS.md"
+README, FORMAT, CALLING, MAN = "README.md", "docs/FORMAT.md", "crates/multihash/CALLING.md", "crates/mh_show/mh_show.1"
+C, HEADER, RUN = "bindings/c/README.md", "bindings/c/include/multihash.h", "crates/mh_show/src/run.rt"
+JS, PYTHON, RUST, SHIM = "bindings/js", "bindings/python", "bindings/rust/verified-multihash", "bindings/rust/multihash"
 # pages of packages: their links lead to no other file
-PACKED = (C, "bindings/c/src/README.md", f"{JS}/README.md", f"{PYTHON}/README.md", SHIM, VERIFIED, FORMATS)
-# a source, what it declares, and the page that names it
+PACKED = (C, f"{RUST}/FORMATS.md", *(f"{package}/README.md" for package in ("bindings/c/src", JS, PYTHON, RUST, SHIM)))
+# a page, a source, and what it declares: the page has all these names
 DECLARED = (
-    (HEADER, r"^(?:static inline )?(?:const char \*|\w+ )(multihash_\w+)\(", C),
-    ("CMakeLists.txt", r"^ *(?:option\(|set\((?=\w+ OFF CACHE))(\w+)", "bindings/c/PACKAGING.md"),
-    (f"{JS}/index.d.ts", r"^export (?:function|class) (\w+)", f"{JS}/README.md"),
-    (f"{JS}/hashes.d.ts", r"^export (?:function|const) (\w+)", f"{JS}/README.md"),
-    (f"{RUST}/verified-multihash/Cargo.toml", r"^(std|alloc|serde|serde-codec) = \[", VERIFIED),
-    (f"{RUST}/multihash/Cargo.toml", r"^([\w-]+) = \[\"?(?:\]|ver|serde)", SHIM),
-    ("crates/multihash/src/error.rt", r"pub fn (\w+)\(&self\)", FORMAT),
-    ("crates.txt", r"^(\w+)[: ]", "docs/ARCHITECTURE.md"),
-    ("bindings/c/examples/mh_show.c", r"(?:return |fail\()\"([\w ]+)\"", "crates/mh_show/mh_show.1"),
+    (C, HEADER, r"^(?:static inline )?(?:const char \*|\w+ )(multihash_\w+)\("),
+    ("bindings/c/PACKAGING.md", "CMakeLists.txt", r"^ *(?:option\(|set\((?=\w+ OFF CACHE))(\w+)"),
+    (f"{JS}/README.md", f"{JS}/index.d.ts", r"^export (?:function|class) (\w+)"),
+    (f"{JS}/README.md", f"{JS}/hashes.d.ts", r"^export (?:function|const) (\w+)"),
+    (f"{RUST}/README.md", f"{RUST}/Cargo.toml", r"^(std|alloc|serde|serde-codec) = \["),
+    (f"{SHIM}/README.md", f"{SHIM}/Cargo.toml", r"^([\w-]+) = \[\"?(?:\]|ver|serde)"),
+    (FORMAT, "crates/multihash/src/error.rt", r"pub fn (\w+)\(&self\)"),
+    ("docs/ARCHITECTURE.md", "crates.txt", r"^(\w+)[: ]"),
+    (MAN, "bindings/c/examples/mh_show.c", r"(?:return |fail\()\"([\w ]+)\""),
 )
-CARGO, RULES, MAN = f"{RUST}/multihash/Cargo.toml", verdicts.RULES, "crates/mh_show/mh_show.1"
-# a version or a limit as pages and core.js state it, and where it is from
+# a page, a text of it, in which {} is a version or a limit, and where that is from
 STATED = (
-    (r"Rust\s+(\d[\d.]*\d)", CARGO, r'rust-version = "(.*)"'),
-    (r"Rust\s+(\d[\d.]*\d)", f"{RUST}/verified-multihash/Cargo.toml", r'rust-version = "(.*)"'),
-    (r"CMake\s+(\d[\d.]*\d)", "CMakeLists.txt", r"cmake_minimum_required\(VERSION (.*)\)"),
-    (r"(?<!In )CPython\s+(\d\.\d+)", f"{PYTHON}/pyproject.toml", r'requires-python = ">=(.*)"'),
-    (r"Node\.js\s+(\d+\.\d+)", f"{JS}/package.json", r'"node": ">=(.*)"'),
-    (r"`multihash`\s+(\d[\d.]*\d)", CARGO, r'\nversion = "(.*)"'),
-    (r"logic\s+`([^`]*)`", "tools/tool_versions", r"(?m)^logic=(.*)"),
-    (r"digest \| 0 to `min\(S, (\d+)\)", HEADER, r"MULTIHASH_DIGEST_MAX (\d+)"),
-    (r"encoding \| 2 to (\d+)", HEADER, r"MULTIHASH_LENGTH_MAX (\d+)"),
-    (r"varints[^|]*\| 2 to (\d+)", HEADER, r"MULTIHASH_HEAD_MAX (\d+)"),
-    (r"SCALE[^|]*\| 9 to (\d+)", HEADER, r"MULTIHASH_SCALE_LENGTH_MAX (\d+)"),
-    (r"input has at most ([\d,]+)", "crates/mh_show/src/run.rt", r"MOST_INPUT: usize = (.*);"),
-    (r"error, and exits with status (\d+)", "crates/mh_show/src/run.rt", r"ExitCode::from\((\d+)\)"),
-    (r"digest of at most (\d+)", "crates/mh_show/src/show.rt", r"Multihash::<(\d+)>::from_bytes"),
+    (f"{JS}/README.md", "Node.js {}", f"{JS}/package.json", r'"node": ">=(.*)"'),
+    (f"{PYTHON}/README.md", "CPython {}", f"{PYTHON}/pyproject.toml", r'requires-python = ">=(.*)"'),
+    (f"{RUST}/README.md", "Rust {}", f"{RUST}/Cargo.toml", r'rust-version = "(.*)"'),
+    (f"{SHIM}/README.md", "Rust {}", f"{SHIM}/Cargo.toml", r'rust-version = "(.*)"'),
+    (f"{SHIM}/README.md", "`multihash` {}", f"{SHIM}/Cargo.toml", r'\nversion = "(.*)"'),
+    (C, "CMake {}", "CMakeLists.txt", r"cmake_minimum_required\(VERSION (.*)\)"),
+    (README, "Node.js {}", f"{JS}/package.json", r'"node": ">=(.*)"'),
+    (README, "CPython {}", f"{PYTHON}/pyproject.toml", r'requires-python = ">=(.*)"'),
+    (README, "Rust {}", f"{RUST}/Cargo.toml", r'rust-version = "(.*)"'),
+    (README, "CMake {}", "CMakeLists.txt", r"cmake_minimum_required\(VERSION (.*)\)"),
+    (FORMAT, "0 to `min(S {})`", HEADER, r"MULTIHASH_DIGEST_MAX (\d+)"),
+    (FORMAT, "an encoding | 2 to {} bytes", HEADER, r"MULTIHASH_LENGTH_MAX (\d+)"),
+    (FORMAT, "both varints together | 2 to {} bytes", HEADER, r"MULTIHASH_HEAD_MAX (\d+)"),
+    (FORMAT, "SCALE encoding | 9 to {} bytes", HEADER, r"MULTIHASH_SCALE_LENGTH_MAX (\d+)"),
+    (MAN, "status {}", RUN, r"ExitCode::from\((\d+)\)"),
+    (MAN, "digest of at most {}", "crates/mh_show/src/show.rt", r"Multihash::<(\d+)>::from_bytes"),
+    (MAN, "at most {} bytes", RUN, r"MOST_INPUT: usize = (.*);"),
 )
 
 
@@ -63,10 +64,6 @@ def paths() -> list[str]:
 @cache
 def read(path: str) -> str:
     return (TOP / path).read_bytes().decode("utf-8", "replace")
-
-
-def pages() -> list[str]:
-    return [path for path in paths() if path.endswith(".md")]
 
 
 def placed(path: str, part: str) -> str:
@@ -86,56 +83,37 @@ def anchors(path: str) -> set[str]:
 
 def link_errors() -> Iterator[str]:
     """Returns the links that lead to no file, folder or heading of the repository; other addresses are not followed."""
-    for page in pages():
-        text = FENCE.sub("", read(page))
-        if "```" in text:
-            yield f"{page}: a block has no end"
-        for link in re.findall(r"\[[^\]]*\](?:\(<?|: +)(?!<?[a-z]+:)([^\s)>]+)", text):
+    for page in (path for path in paths() if path.endswith(".md")):
+        for link in re.findall(r"\[[^\]]*\](?:\(<?|: +)(?!<?[a-z]+:)([^\s)>]+)", FENCE.sub("", read(page))):
             target, _, anchor = link.partition("#")
             to = os.path.normpath(os.path.join(os.path.dirname(page), target)) if target else page
             if page in PACKED and target:
-                yield f"{page}: it is installed without {target}"
+                yield f"{placed(page, link)}: it is installed without {target}"
             if not (TOP / to).exists() or anchor and anchor not in anchors(to):
                 yield f"{placed(page, link)}: a link leads nowhere: {link}"
-
-
-def name_errors() -> Iterator[str]:
-    """Returns what a source declares and its page does not name, and the public names of the library that neither the
-    type for Rust nor DIFFERENCES.md nor FORMAT.md has."""
-    for source, form, page in DECLARED:
-        names = {*re.findall(form, read(source), re.M)}
-        missing = [name for name in names if not re.search(rf"(?<![\w-])(?:-D)?{name}(?![\w-])", read(page))]
-        if missing or not names:
-            yield f"{page} does not name all of {source}: {missing}"
-    library = [path for path in paths() if re.match(r"crates/multihash/src/.*(?<!laws)(?<!exposed)\.rt", path)]
-    public = re.compile(r"^ *pub (?:fn|struct|enum|trait|type|mod|const) (\w+)", re.M)
-    names = {name for path in library for name in public.findall(read(path))}
-    upstream = [f"{RUST}/verified-multihash/src/{module}.rs" for module in ("error", "multihash", "no_std_io")]
-    known = {*re.findall(r"\w+", "".join(map(read, [*upstream, DIFFERENCES, FORMAT])))}
-    yield from (f"{DIFFERENCES} does not have {name}" for name in sorted(names - known))
 
 
 def flat(text: str) -> str:
     return " ".join(text.split())
 
 
-def stated_errors() -> Iterator[str]:
-    """Compares versions and limits of pages with where they are from."""
-    for form, source, origin in STATED:
-        wanted = "".join(re.findall(origin, read(source)))
-        for path in (*pages(), f"{JS}/core.js", MAN) if wanted else ():
-            parts = [*re.finditer(form, read(path))]
-            if wanted not in [part[1].replace(",", "") for part in parts]:
-                yield from (f"{placed(path, part[0])}: {part[0]}, {source} has {wanted}" for part in parts)
-
-
-def shown_errors() -> Iterator[str]:
-    """Compares the output of mh_show that pages show, and the Rattle code of CALLING.md, which is from sources."""
+def source_errors() -> Iterator[str]:
+    """Compares names, versions, limits, output and code of pages with the sources."""
+    for page, source, form in DECLARED:
+        for name in re.findall(form, read(source), re.M) or ["no name"]:
+            if not re.search(rf"(?<![\w-])(?:-D)?{name}(?![\w-])", read(page)):
+                yield f"{page}: {source} has {name}, which the page does not name"
+    for page, text, source, origin in STATED:
+        wanted = text.format(*re.findall(origin, read(source))[:1])
+        if wanted not in flat(read(page)).replace(",", ""):
+            yield f"{page}: by {source} it has to say: {wanted}"
     shown = read("crates/mh_show/stdout")
-    if ("text", shown) not in FENCE.findall(read(README)):
-        yield f"{README} shows another output than that of mh_show"
-    if f"$ echo {read('crates/mh_show/stdin').strip()} | mh_show\n{shown}" not in read(MAN):
-        yield f"{MAN} shows another output"
+    for page, text in (README, f"```text\n{shown}"), (
+        MAN,
+        f"$ echo {read('crates/mh_show/stdin').strip()} | mh_show\n{shown}",
+    ):
+        if text not in read(page):
+            yield f"{page} shows another output than that of mh_show"
     known = flat("\n".join(read(path) for path in paths() if not path.endswith((".md", ".edit"))))
     blocks = [body for language, body in FENCE.findall(read(CALLING)) if language in ("rust", "text")]
     for part in "\n\n".join(blocks).split("\n\n"):
@@ -144,22 +122,12 @@ def shown_errors() -> Iterator[str]:
 
 
 def byte_errors() -> Iterator[str]:
-    """Computes by the rules of verdicts.py what pages show of bytes: varints and results."""
-    prose, python = read(FORMAT), f"{PYTHON}/README.md"
-    for power, number, data in re.findall(r"^\| (?:2\^(\d+) - 1|(\d+)) \| `([0-9a-f ]+)` \|$", prose, re.M):
-        if RULES.varint(bytes.fromhex(data), 0)[0] != int(number or 2 ** int(power) - 1):
-            yield f"{FORMAT}: {data} is not {number}"
-    for part in prose.split("\n\n"):
-        for data in [] if part.startswith("|") else re.findall(r"`([0-9a-f]{2}(?: [0-9a-f]{2})+)`", part):
-            with suppress(verdicts.Rejected):
-                number, end = RULES.varint(bytes.fromhex(data), 0)
-                if data[3 * end :] == "" and str(number) not in part:
-                    yield f"{placed(FORMAT, data)}: {data} is the varint of no number that is there"
-    for data in re.findall(r"python -m verified_multihash (\w+)", read(python)):
-        if verdicts.result(RULES.read, 64, bytes.fromhex(data))[1] != len(data) // 2:
-            yield f"{python}: no multihash: {data}"
-    for head, table in re.findall(r"^(\|.*\| Consumed \|)\n\|[-:|]+\n((?:\|.*\n)+)", prose, re.M):
-        call = RULES.read if "Verdict" in head else RULES.scale_decode
+    """Computes the results of the bytes in the tables of FORMAT.md by the rules of verdicts.py."""
+    for power, number, data in re.findall(r"^\| (?:2\^(\d+) - 1|(\d+)) \| `([0-9a-f ]+)` \|$", read(FORMAT), re.M):
+        if verdicts.RULES.varint(bytes.fromhex(data), 0)[0] != int(number or 2 ** int(power) - 1):
+            yield f"{placed(FORMAT, data)}: {data} is not {number}"
+    for head, table in re.findall(r"^(\|.*\| Consumed \|)\n\|[-:|]+\n((?:\|.*\n)+)", read(FORMAT), re.M):
+        call = verdicts.RULES.read if "Verdict" in head else verdicts.RULES.scale_decode
         size = int(re.findall(r"`S` = (\d+)", head)[0])
         for row in table.splitlines():
             _, _, result, *_, inputs, consumed, _ = (cell.strip() for cell in row.split("|"))
@@ -167,4 +135,8 @@ def byte_errors() -> Iterator[str]:
                 found, taken = verdicts.result(call, size, bytes.fromhex(data))
                 name = found.split()[0].replace("unexpected_eof", "truncated").replace("_", " ")
                 if name not in result or consumed != str(taken or ""):
-                    yield f"{FORMAT}: {data} is {found}, and {taken} bytes are consumed"
+                    yield f"{placed(FORMAT, row)}: {data} is {found}, and {taken} bytes are consumed"
+
+
+if __name__ == "__main__":
+    sys.exit("\n".join([*link_errors(), *source_errors(), *byte_errors()]) or None)

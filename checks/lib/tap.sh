@@ -3,35 +3,53 @@
 # fails ends its check, and outside of one the script: lint.t rejects what bash would go on after.
 #
 #   try NAME COMMAND..             a check
-#   needs="TOOL.." try ..          is left out without one of these tools, in the forms of is_there.sh
+#   needs="TOOL.." try ..          is left out without one of these tools:
+#     NAME, NAME=VERSION+            a command, of this version or a later one
+#     /PATH, python:MODULE           a file, which a pattern may name; a module of /usr/bin/python3
+#     --all                          nothing is to be left out: ALL=1
 #   ONLY='' try ..                 is run whatever ONLY is, since other checks need it
 #   require TOOL..                 the next checks are left out without one of these
 #   prints TEXT COMMAND..          in a check: the command ends with status 0, and prints the text
 #   rejects TEXT COMMAND..         it ends with another status
 #   finish                         the last line of the script: prints the plan, without which prove fails
 #
-# The variable ONLY is a regular expression: checks with other names are not run.
+# The variable ONLY is a regular expression: checks with other names are not run. In the folder RUN_FOLDER the CPU minutes
+# are left for .ci/run, and what was left out.
 set -euo pipefail
 shopt -s inherit_errexit
 unset CDPATH CLICOLOR_FORCE FORCE_COLOR
 cd "$(dirname "${BASH_SOURCE[0]}")/../.."
-# shellcheck source=checks/lib/is_there.sh
-. checks/lib/is_there.sh
 export LC_ALL=C.UTF-8
 number=0 failed=0 is_finished=0 without="" needs=""
 work=$(mktemp -d)
 finish() { is_finished=1; echo "1..$number"; }
 end() {
   local ended=$?
+  times > "$work/times"
+  # the second line is of the processes that ended, as 1m2.345s 0m1.234s
+  awk -F '[ms ]+' -v check="$0" 'NR == 2 { print $1 + $3 + ($2 + $4) / 60, check }' "$work/times" >> "${RUN_FOLDER:-$work}/times"
   rm -rf "$work"
   exit $((ended || failed || !is_finished || number == 0))
 }
 trap end EXIT
 
-require() { without=$(missing "$@"); }
-
-# Joins lines that are not empty.
-list() { sed '/^$/d' | paste -sd, | sed 's/,/, /g'; }
+is_there() {
+  case $1 in
+    --all) [ "${ALL-}" = 1 ] ;;
+    */*) compgen -G "$1" ;;
+    python:*) env -C / /usr/bin/python3 -c "import ${1#*:}" ;;
+    *=*) printf '%s\n' "${1#*=}" "$("${1%%=*}" --version | grep -om1 '[0-9][0-9.]*')+" | sort -VC ;;
+    *) command -v "$1" ;;
+  esac > /dev/null 2>&1
+}
+# Prints those of the words that are not there.
+missing() {
+  local tool gone=()
+  # shellcheck disable=SC2310 # its status is what it returns
+  for tool in "$@"; do is_there "$tool" || gone+=("$tool"); done
+  echo "${gone[*]-}"
+}
+require() { without=$*; }
 
 # Runs a command, what it prints goes to a file, and sets `ended` to its status. If it fails, the file ends with the
 # places in scripts where it did, from the innermost call.
@@ -48,20 +66,19 @@ trace() {
 }
 
 try() {
-  local lack ended result=ok
+  local lack ended=0 skip=""
   [[ $1 =~ ${ONLY-} ]] || return 0
   number=$((number + 1))
   # shellcheck disable=SC2086 # words
-  lack=$without$'\n'$(missing $needs)
-  if [ "$lack" != $'\n' ]; then
-    [ -z "${ALL-}" ] || result="not ok" failed=1
-    echo "$result $number - $1 # SKIP no $(list <<< "$lack")"
-    return
+  lack=$(missing $without $needs)
+  if [ "$lack" ]; then
+    skip=" # SKIP no $lack" ended=${ALL-0}
+    echo "$lack" >> "${RUN_FOLDER:-$work}/left_out"
+  else
+    run "$work/log" "${@:2}"
+    [ "$ended" = 0 ] || sed 's/^/# /' "$work/log" >&2
   fi
-  run "$work/log" "${@:2}"
-  [ "$ended" = 0 ] || result="not ok" failed=1
-  echo "$result $number - $1"
-  [ "$ended" = 0 ] || sed 's/^/# /' "$work/log" >&2
+  if [ "$ended" = 0 ]; then echo "ok $number - $1$skip"; else failed=1; echo "not ok $number - $1$skip"; fi
 }
 
 prints() { ends 0 "$@"; }
@@ -77,10 +94,7 @@ ends() {
 }
 
 # Of the files that Git has in a folder, another one has all but those whose paths match.
-has_all_but() {
-  git -C "$2" ls-files | sort > "$work/listed"
-  find "$3" -type f -printf '%P\n' | sort | comm -12 "$work/listed" - | diff <(grep -vE "$1" "$work/listed") -
-}
+has_all_but() { git -C "$2" ls-files | grep -vE "$1" | (cd "$3"; xargs -d '\n' ls -d) > /dev/null; }
 
 # The first block of a page in a language.
 block_of() { awk -v fence="\`\`\`$2" '$0 == fence { on = 1; next } on && /^```/ { exit } on' "$1"; }

@@ -1,7 +1,6 @@
 // Opens a page in a browser, with what it needs from folders served on a port of this machine, and prints the text that
 // the page sends to /report. The status is 0 if that ends in ' 0 failed'. A page that is a file gets the port in its
 // address.
-//   node browser.js chromium|firefox|webkit PATH|file://PATH FOLDER..
 import { spawn } from 'node:child_process';
 import { existsSync, mkdtempSync, readFileSync, rmSync } from 'node:fs';
 import { createServer } from 'node:http';
@@ -17,8 +16,6 @@ const commands = {
   chromium: (profile, url) => ['chromium', '--headless', '--no-sandbox', '--disable-gpu', '--disable-dev-shm-usage',
     '--no-first-run', '--remote-debugging-port=0', `--user-data-dir=${profile}`, url],
   firefox: (profile, url) => ['firefox-esr', '--headless', '--no-remote', '--profile', profile, url],
-  // the example browser of WebKitGTK needs a display
-  webkit: (_, url) => ['bash', '-c', 'exec xvfb-run -a /usr/lib/*/webkit2gtk-4.1/MiniBrowser "$0"', url],
 };
 
 async function serve(request, response) {

@@ -1,5 +1,5 @@
 //! Memory: that it suffices for usual lengths and codes, with exactly the promised capacity; and
-//! allocations that fail. `checks/memory.t` counts those of each test `allocating_…`, and makes each fail in
+//! allocations that fail. `checks/rt.t` counts those of each test `allocating_…`, and makes each fail in
 //! turn: the call then has to return out of memory, and the test fails with `FAILED`.
 ghost use Rattle.std.specs.Prelude.{◌<◌, ◌^◌};
 

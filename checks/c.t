@@ -1,0 +1,173 @@
+#!/usr/bin/env bash
+# The library for C: CMake builds it, with the tests, by compilers, under sanitizers and for other machines; what is
+# installed; projects that use it; its headers, its objects without a C library, its functions for other languages.
+# shellcheck disable=SC2086 # flags are words
+# shellcheck source=checks/lib/tap.sh
+. "$(dirname "$0")/lib/tap.sh"
+require cc cmake python3 pkg-config
+top=$PWD c=$PWD/bindings/c data=$PWD/crates/vectors/data prefix="$work/a #prefix's" # whose name is no word of a shell
+warnings="-Wall -Wextra -Wpedantic -Wconversion -Wsign-conversion -Wshadow -Wcast-qual -Werror"
+san="-g -O1 -fsanitize=address,undefined -fno-sanitize-recover=all"
+strict="-std=c11 $warnings -Wstrict-prototypes -Wmissing-prototypes"
+runtime=$(clang --rtlib=compiler-rt -print-libgcc-file-name 2> /dev/null || true) # what Clang needs for sanitizers
+ulimit -c 0
+umask 022
+unset "${!CMAKE_@}"
+
+# Builds all in a folder, with flags of the compilers and options of CMake, and runs the tests.
+build() {
+  cmake -S . -B "$work/$1" -DCMAKE_C_FLAGS="$strict $2" -DCMAKE_CXX_FLAGS="$warnings $2" "${@:3}"
+  cmake --build "$work/$1"
+  ctest --no-tests=error --output-on-failure --test-dir "$work/$1"
+}
+# For a machine, whose programs a command runs.
+on_machine() {
+  local -x CXX=none WINEPREFIX=$work/wine WINEDEBUG=-all
+  build "$1" "" -DCMAKE_C_COMPILER="$1-gcc" -DCMAKE_CROSSCOMPILING_EMULATOR="$2" -DCMAKE_SYSTEM_NAME="${3-Linux}" \
+    -DMULTIHASH_C_SHARED=OFF -DCMAKE_EXE_LINKER_FLAGS=-static
+  [ "$2" != wine ] || wineserver -k || true
+}
+
+# By a compiler for C and one for C++, of the oldest and the newest standards, each after multihash.h, which it includes
+# or needs. A field or a parameter of another type is an error.
+headers() {
+  local header standard
+  for header in "$c"/include/*.h; do
+    for standard in c99 c++11 c++20; do
+      "$1" -std=$standard $warnings -x "${standard%[0-9][0-9]}" -fsyntax-only -include "$c/include/multihash.h" \
+        -include "$header" /dev/null
+    done
+  done
+}
+
+# The first files describe all, and the installed test builds the examples with each library.
+installs() {
+  cmake --install "$work/cc"
+  cmp CHANGES "$prefix/share/doc/multihash_c/changelog"
+  "$prefix/share/doc/multihash_c/examples/test.sh" "$prefix"
+  PKG_CONFIG_PATH=$prefix/lib/pkgconfig pkg-config --validate multihash_c
+}
+# The shared library exports the functions of two headers, and keeps no state: no section of an object is written.
+exports() {
+  nm -D --defined-only "$prefix/lib/libmultihash_c.so" | sed -n 's/.* T \(\w*\).*/\1/p' | sort |
+    diff - <(cat "$c"/include/multihash{,_ffi}.h | grep -oP '^(?!static)\w.*\b\Kmultihash_\w+(?=\()' | sort)
+  cc -O2 -I "$c/include" -c "$c/src/multihash.c" -o "$work/state.o"
+  objdump -h "$work/state.o" | awk '$2 ~ /^\./ { name = $2; size = $3 }
+    /ALLOC/ && !/READONLY/ && size !~ /^0+$/ { print name }' | diff /dev/null -
+}
+# The flags and folders of a distribution reach the library, and hide no function. It needs neither C++ nor Python.
+with_flags() {
+  CXX=none LDFLAGS=-Wl,--build-id=0x01234567 cmake -S . -B "$work/flags" -DCMAKE_C_FLAGS=-fvisibility=hidden \
+    -DBUILD_TESTING=OFF -DCMAKE_DISABLE_FIND_PACKAGE_Python3=ON -DCMAKE_INSTALL_{LIBDIR=lib/multi,INCLUDEDIR=headers/c}
+  cmake --build "$work/flags"
+  prints 'Build ID: 01234567' readelf -n "$work/flags/libmultihash_c.so"
+  cmake --install "$work/flags" --prefix "$work/other"
+  "$work/other/share/doc/multihash_c/examples/test.sh" "$work/other"
+}
+
+# A project of CMake, which ends with the lines of the standard input, with each library. Further words are options.
+in_project() {
+  local kind to=$1
+  mkdir "$to"
+  { printf '%s\n' "$(grep ^cmake_minimum_required CMakeLists.txt)" 'project(example VERSION 7 LANGUAGES C)' \
+    "add_executable(program $c/examples/mh_show.c)"; cat; } > "$to/CMakeLists.txt"
+  for kind in shared static; do
+    cmake -S "$to" -B "$to/$kind" -Dkind=$kind "${@:2}"
+    cmake --build "$to/$kind"
+    "$to/$kind/program" < crates/mh_show/stdin | diff - crates/mh_show/stdout
+  done
+}
+# As the page says, over what find_package finds, and with the repository as a part, which installs nothing unless told.
+in_projects() {
+  # shellcheck disable=SC2016 # what CMake expands
+  block_of bindings/c/README.md cmake | sed 's/::shared/::${kind}/' | in_project "$work/finds" "-DCMAKE_PREFIX_PATH=$prefix"
+  # shellcheck disable=SC2016
+  sed -n '/^include(FetchContent)/,/^```/p' bindings/c/README.md |
+    sed "/^\`/d; s|URL [^ )]*|SOURCE_DIR \"$top\"|; s/::static/::\${kind}/" |
+    in_project "$work/parent" -DCMAKE_C_VISIBILITY_PRESET=hidden -DCMAKE_INSTALL_PREFIX="$work/parent/prefix"
+  cmake --install "$work/parent/static"
+  [ ! -e "$work/parent/prefix" ]
+  cmake -DMULTIHASH_C_INSTALL=ON "$work/parent/shared"
+  cmake --install "$work/parent/shared"
+  [ -e "$work/parent/prefix/lib/cmake/multihash_c" ]
+}
+
+# The programs of the page in C++ and in Go. cgo takes no prefix with a blank.
+page_programs() {
+  local -x PKG_CONFIG_PATH=$work/plain/lib/pkgconfig LD_LIBRARY_PATH=$work/plain/lib GOCACHE=$work/go.cache
+  cmake --install "$work/cc" --prefix "$work/plain"
+  block_of bindings/c/README.md go > "$work/plain/main.go"
+  block_of bindings/c/README.md cpp > "$work/count.cpp"
+  cd "$work/plain"
+  # shellcheck disable=SC2046 # words
+  c++ -std=c++17 $warnings ../count.cpp $(pkg-config --cflags --libs multihash_c) -o count
+  printf '\22\1a\0\5hello\22\1a' | ./count | diff <(printf '%s\n' '1 identity 000568656c6c6f' '2 sha2-256 120161') -
+  echo 'module example' > go.mod
+  go run . | diff <(echo 'code 18, digest abc') -
+}
+# The reader of a file prints each multihash, also one that is cut where a part of the file ends.
+lengths() {
+  cc $strict $san -I "$c/include" "$c"/{examples/lengths,src/multihash}.c -o "$work/lengths"
+  { printf '\0\5hello%.0s' {1..1001}; printf '\22\1a%.0s' {1..40000}; } | "$work/lengths" | uniq -c |
+    diff <(printf '%7d %s\n' 1001 'identity 5' 40000 'sha2-256 1') -
+  rejects "2 of 3" "$work/lengths" < <(printf '\0\5hello\22\3ab')
+}
+# The example that hashes, over content that is the same, another, and what it cannot hash.
+verify() {
+  cc $strict $san -I "$c/include" "$c"/{examples/verify,src/multihash}.c -lcrypto -o "$work/verify"
+  local hex
+  hex=1220$(head -c 4097 "$c/src/multihash.c" | sha256sum | cut -c -64)
+  prints "the same" "$work/verify" "$hex" < <(head -c 4097 "$c/src/multihash.c")
+  rejects "another content" "$work/verify" "$hex" < <(head -c 4096 "$c/src/multihash.c")
+  rejects "another content" "$work/verify" 1201ba < <(printf abc)
+  rejects "no hash function" "$work/verify" 0003616263 < <(printf abc)
+  rejects "1 of 32" "$work/verify" 1220ba
+  rejects "the content cannot be hashed" "$work/verify" 1201ba < "$work"
+}
+
+# Objects for machines without a C library, and for macOS and MSVC's mode of Clang without their headers. All that they
+# need are the functions that the page names, and what linkers make; the last has no name that only GCC and Clang know.
+freestanding() {
+  local target free="-ffreestanding -nostdlibinc -I $c/include $c/src/multihash.c"
+  for target in arm64-apple-macos11 wasm32-unknown-unknown thumbv7em-none-eabi riscv32-unknown-elf \
+    x86_64-pc-windows-msvc; do
+    clang --target=$target $strict -O2 -c $free -o "$work/free.o"
+    llvm-nm --undefined-only -j "$work/free.o" | sed -E 's/^_*//; /^stack_(chk_fail|chk_guard|pointer)$/d' | sort |
+      comm -23 - <(printf "%s\n" aeabi_memclr8 memcmp memcpy memset) | diff /dev/null -
+  done
+  clang --target=x86_64-pc-windows-msvc -E -P $free | { grep -w '__[[:alnum:]_]*' || true; } | diff /dev/null -
+}
+
+# What a compiler that is neither GCC nor Clang makes of the source passes the tests.
+without_extensions() {
+  cc $strict -O2 -U__GNUC__ -I "$c/include" -c "$c/src/multihash.c" -o "$work/other.o"
+  cc $strict -O2 -I "$c/include" "$c"/tests/{test,verdicts,cid,inputs}.c "$work/other.o" -o "$work/other_test"
+  "$work/other_test" "$data"/{verdicts,values,messages,hashes,codes,cids}.tsv
+}
+
+ONLY='' try "cc" build cc "" -DCMAKE_INSTALL_PREFIX="$prefix"
+try "cc, sanitizers" build cc-san "$san" -DCMAKE_BUILD_TYPE=None -DCMAKE_CXX_STANDARD=20
+needs=c++ try "cc, headers" headers cc
+needs="clang++ $runtime" try "clang, sanitizers" build clang-san "$san" -DCMAKE_BUILD_TYPE=None -DCMAKE_C_COMPILER=clang \
+  -DCMAKE_CXX_COMPILER=clang++ -DCMAKE_CXX_STANDARD=20
+CXX=none needs="clang $runtime" try "clang, memory sanitizer" build clang-memory "-g -O1 -fsanitize=memory" \
+  -DCMAKE_BUILD_TYPE=None -DCMAKE_C_COMPILER=clang
+needs="clang" try "clang, headers" headers clang
+try "other compilers" without_extensions
+needs="clang llvm-nm" try "objects without a C library" freestanding
+needs="i686-linux-gnu-gcc qemu-i386" try "x86, 32 bits" on_machine i686-linux-gnu qemu-i386
+needs="--all riscv64-linux-gnu-gcc qemu-riscv64" try "riscv64" on_machine riscv64-linux-gnu qemu-riscv64
+needs="arm-linux-gnueabihf-gcc qemu-arm" try "armhf, 32 bits" on_machine arm-linux-gnueabihf qemu-arm
+needs="aarch64-linux-gnu-gcc qemu-aarch64" try "aarch64" on_machine aarch64-linux-gnu qemu-aarch64
+needs="s390x-linux-gnu-gcc qemu-s390x" try "s390x, big-endian" on_machine s390x-linux-gnu qemu-s390x
+needs="x86_64-w64-mingw32-gcc wine" try "Windows" on_machine x86_64-w64-mingw32 wine Windows
+ONLY='' try "installing" installs
+needs=objdump try "what it exports" exports
+needs=mandoc try "man pages" mandoc -T lint "$prefix"/share/man/man{3/multihash.3,1/mh_show.1}
+needs=readelf try "flags and folders of a distribution" with_flags
+try "projects of CMake" in_projects
+needs="c++ go" try "the page's programs in C++ and Go" page_programs
+needs=luajit try "other languages" luajit "$c/tests/ffi.lua" "$c/include/multihash_ffi.h" "$work/cc/libmultihash_c.so" "$data"
+try "the reader of a file" lengths
+needs=/usr/include/openssl/evp.h try "the example that hashes" verify
+finish
