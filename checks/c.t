@@ -167,7 +167,7 @@ needs=mandoc try "man pages" mandoc -T lint "$prefix"/share/man/man{3/multihash.
 needs=readelf try "flags and folders of a distribution" with_flags
 try "projects of CMake" in_projects
 needs="c++ go" try "the page's programs in C++ and Go" page_programs
-needs=luajit try "other languages" luajit "$c/tests/ffi.lua" "$c/include/multihash_ffi.h" "$work/cc/libmultihash_c.so" "$data"
+needs=luajit try "other languages" luajit "$c/tests/ffi.lua" "$c/include/multihash_ffi.h" "$work/cc/libmultihash_c.so"
 try "the reader of a file" lengths
 needs=/usr/include/openssl/evp.h try "the example that hashes" verify
 finish

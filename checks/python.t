@@ -8,17 +8,17 @@ here=$PWD/bindings/python python=$work/venv/bin/python
 require cc /usr/bin/python3 /usr/include/python3*/Python.h python:{_testcapi,build,ensurepip,setuptools,wheel}
 export MULTIHASH_VERDICTS=$PWD/crates/vectors/data/verdicts.tsv
 
-# The module has no warnings. What is installed has the licence, and is imported from the environment.
 installs() {
   "$python" -m pip install --quiet --disable-pip-version-check --no-index --no-build-isolation --force-reinstall "$1"
-  cmp LICENSE "$work"/venv/lib/*/site-packages/verified_multihash-*/LICENSE
-  cd "$work"
-  "$python" -c 'import verified_multihash as found; print(found.__file__)' | grep "^$work/venv/"
 }
+# The module has no warnings. What is installed has the licence, and is imported from the environment.
 wheel() {
   CC="cc -std=c89 -Wall -Wextra -Wshadow -Wconversion -Wsign-conversion -Werror" "$here/pack.sh" "$work/dist"
   /usr/bin/python3 -m venv --system-site-packages "$work/venv"
   installs "$work"/dist/*.whl
+  cmp LICENSE "$work"/venv/lib/*/site-packages/verified_multihash-*/LICENSE
+  cd "$work"
+  "$python" -c 'import verified_multihash as found; print(found.__file__)' | grep "^$work/venv/"
 }
 
 # The tests of a folder over what is installed, with variables. No process may take more than that CPU time.
@@ -41,7 +41,7 @@ drawn() {
 sdist_under_sanitizers() {
   mkdir "$work/sdist"
   tar xf "$work"/dist/*.tar.gz -C "$work/sdist" --strip-components=1
-  (CFLAGS="-g -O1 -fsanitize=address,undefined -fno-sanitize-recover=all" installs "$work/sdist")
+  CFLAGS="-g -O1 -fsanitize=address,undefined -fno-sanitize-recover=all" installs "$work/sdist"
   unit_tests "$work/sdist/tests" LD_PRELOAD="$(cc -print-file-name=libasan.so) $(cc -print-file-name=libubsan.so)" \
     ASAN_OPTIONS=detect_leaks=0:allocator_may_return_null=1 PYTHONMALLOC=malloc
 }

@@ -93,8 +93,5 @@ ends() {
   return 1
 }
 
-# Of the files that Git has in a folder, another one has all but those whose paths match.
-has_all_but() { git -C "$2" ls-files | grep -vE "$1" | (cd "$3"; xargs -d '\n' ls -d) > /dev/null; }
-
 # The first block of a page in a language.
 block_of() { awk -v fence="\`\`\`$2" '$0 == fence { on = 1; next } on && /^```/ { exit } on' "$1"; }

@@ -1,11 +1,10 @@
-//! Formats: the laws, over drawn values, changed inputs, and readers that are cut, fail or keep no law.
+//! Formats: the laws, over drawn values, changed inputs, and readers that are cut or fail.
 #![cfg(feature = "alloc")]
 #[path = "support/draw.rs"]
 mod draw;
 
 use draw::{Draw, Fails, Slow};
 use std::fmt::Debug;
-use std::panic::{catch_unwind, AssertUnwindSafe};
 use verified_multihash::form::*;
 use verified_multihash::{form, Multihash};
 
@@ -14,7 +13,7 @@ use std::io;
 #[cfg(not(feature = "std"))]
 use verified_multihash::no_std_io as io;
 
-use io::{Error, Read, Write};
+use io::{Error, Read};
 
 /// The error of a reader or a writer itself.
 fn other(text: &'static str) -> Error {
@@ -200,84 +199,6 @@ fn drawn() {
     }
     println!("{rejected} inputs rejected");
     assert!(rejected > 0);
-}
-
-/// What is read and written is drawn: bytes, counts that may be too large, and errors.
-struct Lawless<'a>(&'a mut Draw, u32);
-
-impl Read for Lawless<'_> {
-    fn read(&mut self, buf: &mut [u8]) -> Result<usize, Error> {
-        buf.fill_with(|| [0, 1, 1, 2, 4, 0x12, 32, 0x80, 255][self.0.below(9) as usize]);
-        self.1 += 1;
-        Ok(match self.0.below(12) {
-            _ if self.1 > 5000 => 0,
-            0 => 0,
-            1 => return Err(other("lawless")),
-            2 | 3 => return Err(unexpected_eof()),
-            4 => buf.len() + 1 + self.0.below(5) as usize,
-            5 => usize::MAX,
-            6 => self.0.below(buf.len() as u64 + 1) as usize,
-            _ => buf.len(),
-        })
-    }
-}
-
-impl Write for Lawless<'_> {
-    fn write(&mut self, buf: &[u8]) -> Result<usize, Error> {
-        match self.0.below(8) {
-            0 => Ok(0),
-            1 => Ok(buf.len() + 1),
-            2 => Err(unexpected_eof()),
-            _ => Ok(buf.len()),
-        }
-    }
-
-    #[cfg(feature = "std")]
-    fn flush(&mut self) -> Result<(), Error> {
-        unreachable!("nothing flushes")
-    }
-}
-
-/// Reads a value from a lawless reader, and returns whether it is read back.
-fn is_read_back<T: Form + PartialEq>(reader: &mut Lawless) -> Result<bool, FormError> {
-    let value = read::<T, _>(reader)?;
-    Ok(from_bytes::<T>(&to_bytes(&value)?)? == value)
-}
-
-/// Of a reader that keeps no law a value is read, or there is an error, or the panic that `Read` documents.
-#[test]
-fn lawless() {
-    std::panic::set_hook(Box::new(|_| {}));
-    let draw = &mut Draw(7);
-    let [mut values, mut errors, mut panics] = [0; 3];
-    for round in 0..20_000 {
-        let result = catch_unwind(AssertUnwindSafe(|| {
-            let mut reader = Lawless(draw, 0);
-            match round % 5 {
-                0 => is_read_back::<Node>(&mut reader),
-                1 => is_read_back::<PeerRecord>(&mut reader),
-                2 => is_read_back::<Protocol>(&mut reader),
-                3 => Stream::new(reader).read_next::<Identifier>().map(|_| true),
-                _ => is_read_back::<Cid>(&mut reader),
-            }
-        }));
-        let _ = catch_unwind(AssertUnwindSafe(|| protocol(&mut Draw(9)).write(&mut Lawless(draw, 0))));
-        match result {
-            Ok(Ok(is_same)) => {
-                assert!(is_same);
-                values += 1;
-            }
-            Ok(Err(_)) => errors += 1,
-            Err(what) => {
-                let what = what.downcast_ref::<String>().map_or("", |text| text);
-                assert!(what.contains("out of range for slice"), "{what}");
-                panics += 1;
-            }
-        }
-    }
-    let _ = std::panic::take_hook();
-    println!("{values} values, {errors} errors, {panics} panics");
-    assert!(values > 0 && errors > 0 && panics > 0);
 }
 
 #[test]
