@@ -1,7 +1,6 @@
 #!/usr/bin/env bash
 # The packages for Rust: their tests over the test vectors and drawn inputs, with and without std, by other versions and
-# on other targets, beside other crates; that the source is the proved one, without its contracts; the packages as
-# packed, and in place of upstream's; serde; lints.
+# on other targets, beside other crates; the packages as packed, and in place of upstream's; serde; lints.
 # shellcheck source=checks/lib/tap.sh
 . "$(dirname "$0")/lib/tap.sh"
 registry=/usr/share/cargo/registry
@@ -88,28 +87,6 @@ rust_switch() {
   in_crate multihash cargo build --no-default-features --features serde-codec
 }
 
-# Wrong edits of the package, which the comparison with the proved source refuses: a module and an edit, which names
-# nothing private.
-wrong_edits() {
-  local module edit
-  while IFS='|' read -r module edit; do
-    rm -rf "$work/wrong"
-    cp -r bindings/rust/verified-multihash "$work/wrong"
-    sed -i "$edit" "$work/wrong/src/$module.rs"
-    rejects "/$module.rs: fn " python3 checks/lib/proved_text.py "$work/wrong"
-  done <<'EOF'
-proved/varint|/if [a-z]* == 0 {/,/}/d
-proved/varint/word|s/= !/= /
-proved/binary|/if [a-z.]*() > [a-z]* {/,/}/d
-proved/binary|/self\.code(), w/{h;d};/self\.size()), w/G
-proved/scale|s/ > S / >= S /
-proved/compare|s/if .*size != .* {/if false {/
-form/block|s/if [a-z]* > MAX as u64/#[cfg(any())]\n&/
-form/counted|s/ in 0\.\./&=/
-form/tag|s/varint::write(.*)?;/&&/
-EOF
-}
-
 rust_lints() {
   local package
   for package in verified-multihash multihash; do
@@ -127,8 +104,6 @@ needs=$bare try "the tests without std" without_std
 needs="/usr/bin/cargo /usr/bin/rustc $crates" try "the tests with Debian's Rust" debians_rust
 needs="$cargo $registry/cid-0.5* $registry/multihash-0.11*" try "beside other crates" \
   tests tests/neighbours cargo test
-try "the proved source" python3 checks/lib/proved_text.py
-try "wrong edits of the proved source are refused" wrong_edits
 needs=$cargo try "the packed packages" rust_packed
 needs=$bare try "the switch from upstream's package" rust_switch
 needs="$bare cargo-clippy" try "lints" rust_lints

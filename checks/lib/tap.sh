@@ -38,7 +38,7 @@ is_there() {
     --all) [ "${ALL-}" = 1 ] ;;
     */*) compgen -G "$1" ;;
     python:*) env -C / /usr/bin/python3 -c "import ${1#*:}" ;;
-    *=*) printf '%s\n' "${1#*=}" "$("${1%%=*}" --version | grep -om1 '[0-9][0-9.]*')+" | sort -VC ;;
+    *=*) printf '%s\n' "${1#*=}" "$("${1%%=*}" --version | sed -nE '1s/[^0-9]*([0-9.]+).*/\1/p')+" | sort -VC ;;
     *) command -v "$1" ;;
   esac > /dev/null 2>&1
 }

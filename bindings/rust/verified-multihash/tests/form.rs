@@ -23,10 +23,6 @@ fn other(text: &'static str) -> Error {
     return Error::other(text);
 }
 
-fn unexpected_eof() -> Error {
-    Read::read_exact(&mut &b""[..], &mut [0]).expect_err("there are no bytes")
-}
-
 type Cid = Both<Tag<1>, Both<Number, Multihash<64>>>;
 type Identifier = Choice<Case<Both<Number, Multihash<64>>, 1, Tagged<Both<Tag<32>, Bytes<32>>, 0x12>>>;
 type Node = Both<Number, Both<Counted<Multihash<64>, 1000>, Block<1_000_000>>>;

@@ -1,6 +1,8 @@
-"""For rust.t: compares the proved modules of the package for Rust, in a folder, with the source, word by word.
+#!/usr/bin/env python3
+"""Compares the proved modules of the package for Rust with the source, word by word.
 
-    proved_text.py [PACKAGE]
+    check_rust.py            prints where a module is not its source
+    check_rust.py --wrong    shows that wrong edits are refused, each in the function that it names
 
 All of the source has to be there, in its order, and nothing else, in each function and between them. Left out are
 comments, `(crate)` and derives; of Rattle contracts, ghosts, marks for proofs, and what OF_RATTLE finds; of Rust
@@ -8,12 +10,15 @@ what ADDED finds.
 """
 
 import re
+import shutil
 import sys
+from collections.abc import Iterator
 from itertools import zip_longest
 from pathlib import Path
+from tempfile import TemporaryDirectory
 
-TOP = Path(__file__).resolve().parents[2]
-PACKAGE = Path(sys.argv[1] if len(sys.argv) > 1 else TOP / "bindings/rust/verified-multihash", "src")
+TOP = Path(__file__).resolve().parents[1]
+PACKAGE = TOP / "bindings/rust/verified-multihash/src"
 # each crate, where it is in the package, and its modules that are by hand there, or have no code
 CRATES = (
     ("multihash", "proved", "lib exposed laws json error list no_std_io "
@@ -104,16 +109,48 @@ def difference(path: Path, source: Path) -> str:
     return ""
 
 
-if __name__ == "__main__":
+def errors(package: Path) -> Iterator[str]:
+    """Returns where the modules in a folder are not their sources, and those that have none."""
     sources = {
-        PACKAGE / place / source.relative_to(folder).with_suffix(".rs"): source
+        package / place / source.relative_to(folder).with_suffix(".rs"): source
         for crate, place, others in CRATES
         for folder in [TOP / "crates" / crate / "src"]
         for source in folder.rglob("*.rt")
         if str(source.relative_to(folder).with_suffix("")) not in others.split()
     }
-    sources[PACKAGE / "form.rs"] = sources.pop(PACKAGE / "form/lib.rs")
-    errors = [difference(path, source) for path, source in sources.items()]
-    unknown = {*PACKAGE.rglob("*.rs")} - {*sources}
-    errors += [f"{path} has no source" for path in unknown if "Made by tools/generate rust" in path.read_text("utf-8")]
-    sys.exit("\n".join(filter(None, errors)) or None)
+    sources[package / "form.rs"] = sources.pop(package / "form/lib.rs")
+    yield from filter(None, (difference(path, source) for path, source in sources.items()))
+    unknown = {*package.rglob("*.rs")} - {*sources}
+    yield from (f"{path} has no source" for path in unknown if "Made by tools/generate rust" in path.read_text("utf-8"))
+
+
+# a module, a text that it has once, what replaces it, and the function whose comparison has to refuse that
+EDITS = (
+    ("proved/varint", "if byte == 0 {", "if false {", "read_after"),
+    ("proved/varint", "            return Err(Error::not_minimal());\n", "", "read_after"),
+    ("proved/varint/word", "!low & HIGH_BITS", "low & HIGH_BITS", "read_word"),
+    ("proved/binary", "return Err(Error::from_size((digest.len() - len) as u64));", "", "from_bytes"),
+    ("proved/binary", "write_in_range(self.code(), w)?", "write_in_range(u64::from(self.size()), w)?", "write"),
+    ("proved/scale", "size > S", "size >= S", "scale_decode"),
+    ("proved/compare", "self.size != other.size", "false", "cmp"),
+    ("form/block", "if len > MAX as u64", "#[cfg(any())]\n        if len > MAX as u64", "read"),
+    ("form/counted", "for _ in 0..count {", "for _ in 0..=count {", "read_items"),
+    ("form/tag", "varint::write(N, w)?;", "varint::write(N, w)?;varint::write(N, w)?;", "write"),
+)
+
+
+def accepted() -> Iterator[str]:
+    """Returns the wrong edits that are not refused."""
+    for module, old, new, name in EDITS:
+        with TemporaryDirectory() as work:
+            path = Path(shutil.copytree(PACKAGE, Path(work, "src")), f"{module}.rs")
+            text = path.read_text("utf-8")
+            path.write_text(text.replace(old, new), "utf-8")
+            if text.count(old) != 1 or not any(
+                f"{module}.rs: fn {name}:" in each for each in errors(path.parents[module.count("/")])
+            ):
+                yield f"{module}.rs, fn {name}: not refused: {new!r} in place of {old!r}"
+
+
+if __name__ == "__main__":
+    sys.exit("\n".join(accepted() if sys.argv[1:] == ["--wrong"] else errors(PACKAGE)) or None)
