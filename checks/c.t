@@ -28,13 +28,12 @@ on_machine() {
   [ "$2" != wine ] || wineserver -k || true
 }
 
-# By a compiler for C and one for C++, of the oldest and the newest standards, each after multihash.h, which it includes
-# or needs. A field or a parameter of another type is an error.
+# By compilers for C and for C++, of the oldest and the newest standards, each after multihash.h, which it includes or needs.
 headers() {
   local header standard
   for header in "$c"/include/*.h; do
     for standard in c99 c++11 c++20; do
-      "$1" -std=$standard $warnings -x "${standard%[0-9][0-9]}" -fsyntax-only -include "$c/include/multihash.h" \
+      "$1" -std=$standard $warnings -x "${standard%[0-9][0-9]}" -fsyntax-only -include "$c"/include/multihash.h \
         -include "$header" /dev/null
     done
   done
@@ -87,9 +86,6 @@ in_projects() {
     in_project "$work/parent" -DCMAKE_C_VISIBILITY_PRESET=hidden -DCMAKE_INSTALL_PREFIX="$work/parent/prefix"
   cmake --install "$work/parent/static"
   [ ! -e "$work/parent/prefix" ]
-  cmake -DMULTIHASH_C_INSTALL=ON "$work/parent/shared"
-  cmake --install "$work/parent/shared"
-  [ -e "$work/parent/prefix/lib/cmake/multihash_c" ]
 }
 
 # The programs of the page in C++ and in Go. cgo takes no prefix with a blank.
@@ -105,24 +101,19 @@ page_programs() {
   echo 'module example' > go.mod
   go run . | diff <(echo 'code 18, digest abc') -
 }
-# The reader of a file prints each multihash, also one that is cut where a part of the file ends.
-lengths() {
+# The examples: the reader of a file, also where a multihash is cut where a part of the file ends, and the one that hashes.
+examples() {
+  local hex
   cc $strict $san -I "$c/include" "$c"/{examples/lengths,src/multihash}.c -o "$work/lengths"
   { printf '\0\5hello%.0s' {1..1001}; printf '\22\1a%.0s' {1..40000}; } | "$work/lengths" | uniq -c |
     diff <(printf '%7d %s\n' 1001 'identity 5' 40000 'sha2-256 1') -
   rejects "2 of 3" "$work/lengths" < <(printf '\0\5hello\22\3ab')
-}
-# The example that hashes, over content that is the same, another, and what it cannot hash.
-verify() {
   cc $strict $san -I "$c/include" "$c"/{examples/verify,src/multihash}.c -lcrypto -o "$work/verify"
-  local hex
   hex=1220$(head -c 4097 "$c/src/multihash.c" | sha256sum | cut -c -64)
   prints "the same" "$work/verify" "$hex" < <(head -c 4097 "$c/src/multihash.c")
   rejects "another content" "$work/verify" "$hex" < <(head -c 4096 "$c/src/multihash.c")
-  rejects "another content" "$work/verify" 1201ba < <(printf abc)
   rejects "no hash function" "$work/verify" 0003616263 < <(printf abc)
   rejects "1 of 32" "$work/verify" 1220ba
-  rejects "the content cannot be hashed" "$work/verify" 1201ba < "$work"
 }
 
 # Objects for machines without a C library, and for macOS and MSVC's mode of Clang without their headers. All that they
@@ -155,11 +146,11 @@ CXX=none needs="clang $runtime" try "clang, memory sanitizer" build clang-memory
 needs="clang" try "clang, headers" headers clang
 try "other compilers" without_extensions
 needs="clang llvm-nm" try "objects without a C library" freestanding
-needs="i686-linux-gnu-gcc qemu-i386" try "x86, 32 bits" on_machine i686-linux-gnu qemu-i386
+for machine in "i686-linux-gnu qemu-i386" "arm-linux-gnueabihf qemu-arm" "aarch64-linux-gnu qemu-aarch64" \
+  "s390x-linux-gnu qemu-s390x"; do # the last is big-endian
+  needs=${machine/ /-gcc } try "$machine" on_machine $machine
+done
 needs="--all riscv64-linux-gnu-gcc qemu-riscv64" try "riscv64" on_machine riscv64-linux-gnu qemu-riscv64
-needs="arm-linux-gnueabihf-gcc qemu-arm" try "armhf, 32 bits" on_machine arm-linux-gnueabihf qemu-arm
-needs="aarch64-linux-gnu-gcc qemu-aarch64" try "aarch64" on_machine aarch64-linux-gnu qemu-aarch64
-needs="s390x-linux-gnu-gcc qemu-s390x" try "s390x, big-endian" on_machine s390x-linux-gnu qemu-s390x
 needs="x86_64-w64-mingw32-gcc wine" try "Windows" on_machine x86_64-w64-mingw32 wine Windows
 ONLY='' try "installing" installs
 needs=objdump try "what it exports" exports
@@ -168,6 +159,5 @@ needs=readelf try "flags and folders of a distribution" with_flags
 try "projects of CMake" in_projects
 needs="c++ go" try "the page's programs in C++ and Go" page_programs
 needs=luajit try "other languages" luajit "$c/tests/ffi.lua" "$c/include/multihash_ffi.h" "$work/cc/libmultihash_c.so"
-try "the reader of a file" lengths
-needs=/usr/include/openssl/evp.h try "the example that hashes" verify
+needs=/usr/include/openssl/evp.h try "the examples" examples
 finish

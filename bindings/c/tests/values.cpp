@@ -112,17 +112,6 @@ static void check_order(const row &columns)
     CHECK(std::unordered_set<value>({left, right}).size() == (order == 0 ? 1 : 2));
 }
 
-static void check_message(const row &columns)
-{
-    if (columns[1] == "scale_decode" || columns[2] != "255") return;
-    try {
-        value::decode(bytes_of(columns[3]));
-        CHECK(false); // an error was expected
-    } catch (const multihash::error &error) {
-        CHECK(error.what() == columns[5]);
-    }
-}
-
 static void check_texts()
 {
     static const struct {
@@ -157,7 +146,6 @@ int main(int argc, char **argv)
     for (const row &columns : rows_of(folder + "/values.tsv")) {
         (columns[0] == "order" ? check_order : check_value)(columns);
     }
-    for (const row &columns : rows_of(folder + "/messages.tsv")) check_message(columns);
     check_texts();
     puts("passed");
 }

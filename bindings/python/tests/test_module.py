@@ -1,7 +1,6 @@
 """What the package exports, its texts and types, and that interpreters and abstract classes can use it."""
 
 import abc
-import ast
 import collections.abc
 import ctypes
 import doctest
@@ -10,7 +9,6 @@ import inspect
 import re
 import subprocess
 import sys
-import typing
 import unittest
 from concurrent.futures import ThreadPoolExecutor
 from pathlib import Path
@@ -65,28 +63,6 @@ class Module(unittest.TestCase):
             own = type("Own", (kind, collections.abc.Sized), {"__len__": id})
             self.assertTrue(issubclass(own, collections.abc.Sized))
             self.assertFalse(issubclass(abc.ABCMeta("Other", (), {}), own))
-
-    def test_hints(self):
-        """Tools that evaluate annotations find what they name."""
-        tried = 0
-        for module in (vm, hashes):
-            public = [vars(module)[name] for name in module.__all__]
-            methods = [it for each in public if isinstance(each, type) for it in vars(each).values()]
-            for call in filter(inspect.isfunction, public + methods):
-                tried += "return" in typing.get_type_hints(call)
-        self.assertGreater(tried, 9)
-
-    def test_stub(self):
-        """Editors show the texts of the stub, help those of the module."""
-
-        def compare(node, found):
-            for part in node.body:
-                if isinstance(part, (ast.ClassDef, ast.FunctionDef)):
-                    text, own = ast.get_docstring(part), getattr(found, part.name)
-                    self.assertIn(text, (None, inspect.getdoc(own)), part.name)
-                    compare(part, own)
-
-        compare(ast.parse(Path(vm.__file__).with_name("_core.pyi").read_text("utf-8")), vm._core)
 
     def test_exports(self):
         module = ctypes.CDLL(vm._core.__file__)

@@ -21,8 +21,6 @@ fn check<const S: usize>(input: &[u8], columns: [&str; 5]) {
     }
     check_heads(input, read, count);
     check_conversions::<S>(input, columns[2]);
-    #[cfg(feature = "alloc")]
-    check_cid::<S>(input, [read, taken, columns[2]]);
     for length in [1, 3, input.len().max(1)] {
         check_parts::<S>(input, length, read, count);
     }
@@ -42,40 +40,6 @@ fn check_conversions<const S: usize>(input: &[u8], whole: &str) {
         }
         Err(TextError::NotMultihash(error)) => check_error(&error, whole),
         Err(error) => panic!("{error}"),
-    }
-}
-
-/// The input as the multihash of a CID has the same results, if a CID is a format made of parts.
-#[cfg(feature = "alloc")]
-fn check_cid<const S: usize>(input: &[u8], [read, taken, whole]: [&str; 3]) {
-    use verified_multihash::form::{from_bytes, to_bytes, Both, Form, FormError, Number, Tag};
-    type Cid<const S: usize> = Both<Tag<1>, Both<Number, Multihash<S>>>;
-    let check = |found: Result<Cid<S>, FormError>, column: &str| {
-        let is_incomplete = found.as_ref().map_or_else(FormError::is_incomplete, |_| false);
-        let found = found.map(|cid| {
-            assert_eq!(cid.second.first.get(), 0x55);
-            cid.second.second
-        });
-        match found {
-            Err(FormError::Trailing(count)) => assert_eq!(format!("invalid_size {count}"), column),
-            Err(FormError::Failed(error)) => check_error(&error, column),
-            Err(error) => panic!("{error}"),
-            Ok(found) => check_result(&Ok(found), column),
-        }
-        assert_eq!(is_incomplete, taken == "-");
-    };
-    let cid = [b"\x01\x55", input].concat();
-    let mut rest = &cid[..];
-    let found = Cid::<S>::read(&mut rest);
-    if let Ok(found) = &found {
-        assert_eq!(to_bytes(found).expect("memory"), cid[..cid.len() - rest.len()]);
-        assert_eq!(Ok(input.len() - rest.len()), taken.parse());
-    }
-    check(found, read);
-    check(from_bytes(&cid), whole);
-    for tag in [2, 0x12] {
-        let other = from_bytes::<Cid<S>>(&[&[tag], &cid[1..]].concat());
-        assert!(matches!(other, Err(FormError::OtherTag(found)) if found == tag.into()));
     }
 }
 
