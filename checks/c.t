@@ -54,16 +54,6 @@ exports() {
   objdump -h "$work/state.o" | awk '$2 ~ /^\./ { name = $2; size = $3 }
     /ALLOC/ && !/READONLY/ && size !~ /^0+$/ { print name }' | diff /dev/null -
 }
-# The flags and folders of a distribution reach the library, and hide no function. It needs neither C++ nor Python.
-with_flags() {
-  CXX=none LDFLAGS=-Wl,--build-id=0x01234567 cmake -S . -B "$work/flags" -DCMAKE_C_FLAGS=-fvisibility=hidden \
-    -DBUILD_TESTING=OFF -DCMAKE_DISABLE_FIND_PACKAGE_Python3=ON -DCMAKE_INSTALL_{LIBDIR=lib/multi,INCLUDEDIR=headers/c}
-  cmake --build "$work/flags"
-  prints 'Build ID: 01234567' readelf -n "$work/flags/libmultihash_c.so"
-  cmake --install "$work/flags" --prefix "$work/other"
-  "$work/other/share/doc/multihash_c/examples/test.sh" "$work/other"
-}
-
 # A project of CMake, which ends with the lines of the standard input, with each library. Further words are options.
 in_project() {
   local kind to=$1
@@ -155,7 +145,6 @@ needs="x86_64-w64-mingw32-gcc wine" try "Windows" on_machine x86_64-w64-mingw32 
 ONLY='' try "installing" installs
 needs=objdump try "what it exports" exports
 needs=mandoc try "man pages" mandoc -T lint "$prefix"/share/man/man{3/multihash.3,1/mh_show.1}
-needs=readelf try "flags and folders of a distribution" with_flags
 try "projects of CMake" in_projects
 needs="c++ go" try "the page's programs in C++ and Go" page_programs
 needs=luajit try "other languages" luajit "$c/tests/ffi.lua" "$c/include/multihash_ffi.h" "$work/cc/libmultihash_c.so"
