@@ -72,7 +72,7 @@ try() {
   # shellcheck disable=SC2086 # words
   lack=$(missing $without $needs)
   if [ "$lack" ]; then
-    skip=" # SKIP no $lack" ended=${ALL-0}
+    skip=" # SKIP no $lack" ended=${ALL:-0}
     echo "$lack" >> "${RUN_FOLDER:-$work}/left_out"
   else
     run "$work/log" "${@:2}"
