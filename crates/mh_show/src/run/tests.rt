@@ -273,7 +273,7 @@ fn a_write_of_zero_bytes_is_the_last(rt: HostRuntime) {
     expect_cut_line(&rt, End::Nothing);
 }
 
-// `memory.t` makes each allocation of this test fail: there is none.
+// `checks/rt.t` makes each allocation of this test fail: there is none.
 #[test]
 fn an_odd_line_needs_no_memory(rt: HostRuntime) {
     for text in [b"0".as_slice(), b"0\n", b"016"] {
