@@ -107,6 +107,7 @@ fn kinds() {
     assert_eq!(of(Value::wrap(u64::MAX, b"").expect_err("too large")), ErrorKind::InvalidData);
     assert_eq!(of(Value::from_bytes(b"\x12\x03ab").expect_err("an end")), ErrorKind::UnexpectedEof);
     assert_eq!(of(Value::from_bytes(b"\x12").expect_err("an end")), ErrorKind::UnexpectedEof);
+    assert_eq!(of(Value::read(&b"\x12\x03ab"[..]).expect_err("an end")), ErrorKind::UnexpectedEof);
     let failed = list::read_list::<4, _>(&b""[..], usize::MAX).expect_err("out of memory");
     assert_eq!(io::Error::from(failed).kind(), ErrorKind::OutOfMemory);
 }
@@ -142,7 +143,8 @@ fn continued() {
     }
 }
 
-/// Nothing after a multihash is consumed. The error of one that is malformed stays, and ends a loop.
+/// Nothing after a multihash is consumed. The error of one that is malformed stays, and ends a loop, as that of one that is
+/// cut does.
 #[test]
 fn malformed() {
     let mut reader = Reader::<_, 4>::new(&b"\x12\x03abc\x12\x05abcde"[..]);
@@ -157,6 +159,8 @@ fn malformed() {
         assert_eq!((error.kind(), inner.invalid_size()), (ErrorKind::InvalidData, Some(5)));
         assert_eq!(error.to_string(), "the digest has 5 bytes, and the limit is 4");
     }
+    let cut: Vec<_> = Reader::<_, 4>::new(&b"\0\0\x12\x01"[..]).take(3).map(|next| next.is_err()).collect();
+    assert_eq!(cut, [false, true]);
     let found: io::Result<Vec<Multihash<4>>> = Reader::new(&b"\0\0\x12\x01a"[..]).collect();
     assert_eq!(found.expect("they are whole").len(), 2);
 }

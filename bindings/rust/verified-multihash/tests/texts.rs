@@ -102,6 +102,8 @@ fn other_errors() {
     assert_eq!(text(varint::len(1 << 63).expect_err("too large")), large);
     let long = "the digest has 5 bytes, and the limit is 4";
     assert_eq!(text(Multihash::<4>::scale_decode(&b"\x12\0\0\0\0\0\0\0\x05abcde"[..]).expect_err("too long")), long);
+    assert_eq!(text(Multihash::<4>::read_next(&b"\x12\x05abcde"[..]).expect_err("too long")), long);
+    assert_eq!(text(Value::read(&b""[..]).expect_err("no bytes")), "the input is empty");
     assert_eq!(text(Multihash::<4>::wrap(18, b"abcde").expect_err("too long")), long);
     assert_eq!(text(Multihash::<5>::wrap(18, b"abcde").expect("it fits").resize::<4>().expect_err("too long")), long);
     for (input, wanted) in [
