@@ -27,6 +27,8 @@ fn implemented() {
 
 #[test]
 fn limits() {
+    let value = Value::wrap(0x12, b"abc").expect("it fits");
+    assert_eq!([3, 4, 64, 255].map(|size| value.truncate(size)), [value; 4]);
     let error = varint::write(CODE_MAX + 1, &mut io::sink()).expect_err("too large");
     assert_eq!((error.invalid_code(), varint::len(CODE_MAX + 1).is_ok()), (Some(1 << 63), false));
 }
