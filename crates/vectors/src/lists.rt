@@ -123,7 +123,12 @@ fn put_readings<const S: usize>(page: &mut Page, encoding: Encoding, input: &[u8
     for most in 1..8 {
         let mut cuts = Cuts::new(input, most);
         let found = encoding.read::<S, _>(&mut cuts);
-        put_reading(page, &found, input.len().saturating_sub(cuts.left.len()), input.len());
+        put_reading(
+            page,
+            &found,
+            input.len().saturating_sub(cuts.left.len()),
+            input.len(),
+        );
         page.result(format_args!(" or by {most} bytes "));
     }
     if !is_incomplete(&found) {

@@ -94,11 +94,11 @@ truncated_consumed : (S before after : ℕ) (old new : Option (List ℕ)) (r : R
 truncated_consumed S before after None new r unique verdict err = tt
 truncated_consumed S before after (Some rest) new r unique verdict err = λ same. (
   (λ short. let (e, named, t) = ended same (malformed insufficient) short tt in
-  let (left, is, cut) = Consumes-known rest t.consumed new t.consumes in
-  is ∙ ap Some (subst IsAtEnd is (t.insufficient named).1)),
+      let (left, is, cut) = Consumes-known rest t.consumed new t.consumes in
+      is ∙ ap Some (subst IsAtEnd is (t.insufficient named).1)),
   λ eof. let (e, named, t) = ended same unexpected_eof eof tt in
-  let (left, is, cut) = Consumes-known rest t.consumed new t.consumes in
-  (t.consumed, left, is, cut, t.eof named),
+      let (left, is, cut) = Consumes-known rest t.consumed new t.consumes in
+      (t.consumed, left, is, cut, t.eof named),
 )
   where
     ended : after ≡ before → (w : Verdict) → HasVerdict S rest w → IsIncomplete w
