@@ -13,7 +13,7 @@ use std::io;
 #[cfg(not(feature = "std"))]
 use verified_multihash::no_std_io as io;
 
-use io::{Error, Read};
+use io::Error;
 
 /// The error of a reader or a writer itself.
 fn other(text: &'static str) -> Error {
@@ -238,6 +238,6 @@ fn kinds() {
     let full = node(&mut Draw(3)).write(&mut &mut [0; 2][..]).expect_err("it is full");
     assert_eq!(Error::from(full).kind(), ErrorKind::WriteZero);
     assert_eq!(read::<Node, _>(&mut io::Cursor::new(b"\x01\0\0")).expect("a node").first.get(), 1);
-    let mut file: Box<dyn Read> = Box::new(&b"\x01\0\0"[..]);
+    let mut file: Box<dyn io::Read> = Box::new(&b"\x01\0\0"[..]);
     assert_eq!(read::<Node, _>(&mut file).expect("a node").first.get(), 1);
 }
