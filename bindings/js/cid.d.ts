@@ -43,6 +43,8 @@ export type CIDStatus =
 export class CIDError extends Error {
   constructor(status: CIDStatus, message: string, options?: { cause?: unknown });
   readonly status: CIDStatus;
+  /** Returns the name, the text and the status. */
+  toJSON(): { name: string; message: string; status: CIDStatus };
 }
 
 /**

@@ -25,6 +25,11 @@ export class CIDError extends Error {
     super(message, options);
     this.status = status;
   }
+
+  /** The name, the text and the status, for JSON.stringify. */
+  toJSON() {
+    return { name: this.name, message: this.message, status: this.status };
+  }
 }
 Object.defineProperty(CIDError.prototype, 'name', { value: 'CIDError', writable: true, configurable: true });
 

@@ -72,6 +72,7 @@ test('texts of errors', () => {
   for (const [text, status, message] of rows) {
     const error = fails(CIDError, () => CID.parse(text), text);
     same(`${error.name} ${error.status} ${error.message}`, `CIDError ${status} ${message}`, text);
+    same(JSON.stringify(error), JSON.stringify({ name: 'CIDError', message, status }), text);
   }
 });
 
