@@ -110,6 +110,8 @@ class ReadMany(Check):
                 self.suggest(path, there)
         self.at(*self.before)
         self.arrive()
+        if not self.growth:
+            raise Refused(f"{NOT_SHOWN}: no first turn writes an item")
         before = 0
         while len(self.growth) != before:
             before = len(self.growth)
