@@ -47,6 +47,8 @@ class Arithmetic(Memory):
 
     def converted(self, x: Value, old: str, new: str) -> Value:
         """A number of a type as one of another type, which a signed type has to have."""
+        if new == "char" != old:
+            raise Refused("unknown: a number as char, which may have a sign or none")
         x, more, is_signed = self.number(x, old), self.unit.width(new) - self.unit.width(old), self.unit.is_signed(old)
         if self.unit.is_signed(new) and (more < 0 or more == 0 and not is_signed or isinstance(x, int)):
             self.must_fit(x, new, f"a number as {new}", not is_signed)

@@ -186,6 +186,8 @@ class Run(Arithmetic):
             callee = callee["inner"][0]
         if callee["kind"] != "DeclRefExpr" or callee["referencedDecl"]["kind"] != "FunctionDecl":
             raise Refused("unknown: a call of a pointer")
+        if callee["type"]["qualType"].endswith("()"):
+            raise Refused("unknown: a call without a prototype")
         given = self.each(*(lambda x=x: self.value(x) for x in arguments))
         self.line = node["line"]
         return self.call(callee["referencedDecl"]["name"], given)

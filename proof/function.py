@@ -22,6 +22,10 @@ class Check:
             raise Refused(f"unknown: the source has no {self.name}")
         self.parameters, _ = unit.function(self.name)
         self.result = unit.functions[self.name]["type"]["qualType"].split("(")[0].strip()
+        names = [node["name"] for node in self.parameters]
+        for node, following in zip(self.parameters, [*names[1:], ""]):
+            if is_pointer(node) and following != f"{node['name']}_length" and name != SUMMARY:
+                raise Refused(f"unknown: {node['name']} without its length after it")
         numbers = [node for node in self.parameters if not is_pointer(node)]
         self.given = {node["name"]: z3.BitVec(node["name"], unit.width(type_of(node))) for node in numbers}
         self.solver = z3.SolverFor("QF_BV")
@@ -30,8 +34,10 @@ class Check:
     def case(self) -> Case:
         if self.name == SUMMARY:
             return definitions.front_varint(*self.given.values())
-        definition: Callable[..., Case] = getattr(definitions, self.name.removeprefix("multihash_"))
-        return definition(**self.given)
+        definition: Callable[..., Case] | None = getattr(definitions, self.name.removeprefix("multihash_"), None)
+        if not definition:
+            raise Refused("unknown: definitions.py does not have this function")
+        return definition(*self.given.values())
 
     def arguments(self) -> dict[str, Value]:
         """The arguments by their names, anew for each path."""

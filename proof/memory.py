@@ -74,11 +74,9 @@ class Memory(Path):
 
     def size(self, x: Value) -> Any:
         """A size or an offset as a bit vector."""
-        if isinstance(x, int):
-            return z3.BitVecVal(x, self.word)
-        if x.size() > self.word:
+        if (x.bit_length() if isinstance(x, int) else x.size()) > self.word:
             raise Refused("unknown: an offset with more bits than a size")
-        return z3.ZeroExt(self.word - x.size(), x)
+        return z3.BitVecVal(x, self.word) if isinstance(x, int) else z3.ZeroExt(self.word - x.size(), x)
 
     # ---- pointers
 

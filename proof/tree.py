@@ -10,27 +10,25 @@ from path import Refused
 
 Node = Any  # a node of the tree
 
-DIRECTIVE = (
-    r'include "multihash\.h"|include <(string|stddef|stdint)\.h>|if __STDC_HOSTED__|else|endif|ifndef MULTIHASH_H|'
-)
-DIRECTIVE += r"ifdef __cplusplus|define \w+(\([\w, ]*\))?( .*)?"
-MACHINE = r"\b__(?!STDC_HOSTED__|cplusplus)\w+|\b_[A-Z]\w*|\[\[|##|%:|\?\?|'|\\$|\b(long|short|asm)\b|\b\d\w*[lL]\w*"
-MACHINE += r"|\w*(FAST|LEAST|fast|least|PTR|ptr|wchar|WCHAR)\w*"
+# what compilers read in different ways, even in a comment or a text
+TEXT = r"[^\n -~]|\\|\?\?"
+# what depends on the compiler, but is the same for this library, without comments
+BLOCK = r'#if __STDC_HOSTED__\s*#include <string\.h>\s*#else\s|#ifdef __cplusplus\s*(extern "C" \{|\})\s*#endif\s'
+DIRECTIVE = r'include "multihash\.h"|include <std(def|int)\.h>|endif|ifndef MULTIHASH_H|define [A-Z]\w*( [^#]*)?'
+MACHINE = r"#|\b__\w+|\b_[A-Z]\w*|\[\[|\[\s*static|%:|'|\b(long|short|asm|restrict)\b|\b\d\w*[lL]\w*"
+MACHINE += r"|\w*(FAST|LEAST|fast|least|PTR|ptr|wchar|WCHAR|WINT|ATOMIC|INTMAX|intmax)\w*"
 
 
 def refuse_machine(text: str) -> None:
     """Refuses a text that may mean something else for another compiler or machine."""
-    text = re.sub(
-        r'/\*.*?\*/|//[^\n]*|"[^"\n]*"',
-        lambda found: found[0] if found[0] == '"multihash.h"' else " ",
-        text,
-        flags=re.S,
-    )
-    for line in text.splitlines():
+    if found := re.search(TEXT, text):
+        raise Refused(f"unknown: the character {found[0]!r}, which compilers read in different ways")
+    text = re.sub(r'/\*.*?\*/|//[^\n]*|("[^"\n]*")', lambda found: found[1] or " ", text, flags=re.S)
+    for line in re.sub(BLOCK, "\n", text).splitlines():
         directive = re.fullmatch(r"\s*#\s*(.*?)\s*", line)
         if directive and not re.fullmatch(DIRECTIVE, re.sub(r"\s+", " ", directive[1])):
             raise Refused(f"unknown: the directive #{directive[1]}")
-        if found := re.search(MACHINE, line):
+        if found := re.search(MACHINE, re.sub('"[^"]*"', " ", directive[1] if directive else line)):
             raise Refused(f"unknown: {found[0]}, which depends on the compiler or the machine")
 
 
@@ -52,12 +50,16 @@ class Unit:
 
     def __init__(self, source: File, include: File, target: str, word: int):
         for file in (source, include / "multihash.h"):
-            refuse_machine(file.read_text("utf-8"))
-        command = ["clang", f"--target={target}", "-std=c11", "-ffreestanding", "-fsyntax-only", "-w", f"-I{include}"]
-        found = subprocess.run([*command, "-Xclang", "-ast-dump=json", source], stdout=-1, stderr=-1, text=True)
-        if found.returncode:
-            raise Refused(f"unknown: Clang says {found.stderr[:300]}")
-        tree = json.loads(found.stdout)
+            refuse_machine(file.read_bytes().decode())
+        headers = {source.parent / "multihash.h", *(include / f"{x}.h" for x in ("string", "stddef", "stdint"))}
+        if found := [each for each in headers if each.exists()]:
+            raise Refused(f"unknown: {found[0]}, which is read in place of another header")
+        command = ["clang", f"--target={target}", "-std=c11", "-ffreestanding", "-fsyntax-only", f"-I{include}"]
+        command += ["-pedantic-errors", "-Werror=initializer-overrides", "-Xclang", "-ast-dump=json", str(source)]
+        run = subprocess.run(command, stdout=-1, stderr=-1, text=True)
+        if run.returncode:
+            raise Refused(f"unknown: Clang says {' '.join(re.findall('error: .*', run.stderr))[:300]}")
+        tree = json.loads(run.stdout)
         self.word = word
         # the types of numbers: how many bits each has, and whether it has negative ones
         self.numbers = {"char": (8, True), "int": (32, True), "long": (word, True), "long long": (64, True)}
@@ -77,8 +79,9 @@ class Unit:
                 self.declared.append(node["name"])
             if any(x["kind"] == "CompoundStmt" for x in inner):
                 self.functions[node["name"]] = node
-                if node["name"] in ("memcpy", "memcmp"):
-                    raise Refused(f"unknown: a {node['name']} of its own")
+                is_api = node["name"] in self.declared and not node.get("inline")
+                if node["name"] in ("memcpy", "memcmp") or node.get("storageClass") != "static" and not is_api:
+                    raise Refused(f"unknown: {node['name']}, which other files may define too")
         elif kind == "EnumDecl":
             value = -1
             for each in inner:

@@ -11,6 +11,12 @@ PUT_DIGEST = "    put_digest(out + 9, digest, digest_length);\n"
 ROOM = "    if (length > out_length) return (multihash_encoded){.status = MULTIHASH_NO_ROOM, .length = length};\n"
 ROOM_FOR_VARINT = ROOM + "    put_varint(out, value);\n"
 MANY = "    while (count < out_length && consumed < bytes_length) {\n"
+TURN = "        const uint8_t *next = bytes + consumed;\n        const size_t rest = bytes_length - consumed;\n"
+LATE = "        if (n == 0) n = 1; else if (bytes[0] == 7) consumed = bytes_length; else\n"
+HOSTED = "#include <string.h>\n#else"
+INCOMPLETE = "/* Returns whether a status means that the input is truncated"  # in multihash.h
+ALL_CONSUMED = "    *consumed = end;\n"
+LIMIT = "decode_start(const uint8_t *bytes, size_t length, size_t limit)"
 CASES = "return Case(parts=cases + [malformed(OVERFLOW, at + 9).if_all(*before)])"
 SOLVER = 'self.solver = z3.SolverFor("QF_BV")'
 
@@ -63,6 +69,38 @@ WRONG = (
     ("read_varint", READ_VARINT, "    size_t n = 0;\n    n = n++ + 1;\n" + READ_VARINT, "order: n"),
     ("read_varint", READ_VARINT, f"    if (sizeof(size_t) == 2) {BAD}\n" + READ_VARINT, "unknown: UnaryExpr"),
     ("read_varint", READ_VARINT, '    __asm__ volatile("");\n' + READ_VARINT, "unknown: __asm__"),
+    # what compilers, or their modes, read in different ways
+    ("read_varint", READ_VARINT, f"#if __STDC_HOSTED__\n    {BAD}\n#endif\n" + READ_VARINT, "unknown: the directive"),
+    ("read_varint", READ_VARINT, f"    if (__STDC_HOSTED__) {BAD}\n" + READ_VARINT, "unknown: __STDC_HOSTED__"),
+    ("scale_encode", HOSTED, "#define memcpy(a, b, c) (void)(c)\n" + HOSTED, "unknown: the directive"),
+    ("read_varint", READ_VARINT, f"    // ??/\n    {BAD}\n" + READ_VARINT, "unknown: the character"),
+    ("read_varint", READ_VARINT, f"    // \\ \n    {BAD}\n" + READ_VARINT, "unknown: the character"),
+    ("get_varint", ALL_CONSUMED, "    // all\r" + ALL_CONSUMED, "unknown: the character"),
+    ("read_varint", READ_VARINT, READ_VARINT + f'    "\\""; if (__GNUC__ > 4) {BAD} "";\n', "unknown: the character"),
+    (
+        "read_varint",
+        READ_VARINT,
+        f"    const char c = -1;\n    if (c > 0) {BAD}\n" + READ_VARINT,
+        "unknown: a number as char",
+    ),
+    ("read_varint", READ_VARINT, f"    if (WINT_MAX < 70000) {BAD}\n" + READ_VARINT, "unknown: WINT_MAX"),
+    (
+        "read",
+        LIMIT,
+        "decode_start(bytes, length, limit) const uint8_t *bytes; size_t length, limit;",
+        "unknown: a call",
+    ),
+    ("get_varint", "get_varint(const uint8_t *bytes,", "get_varint(const uint8_t bytes[static 9],", "unknown: [static"),
+    (
+        "read_varint",
+        READ_VARINT,
+        "    size_t n = 1, *restrict p = &n;\n    *p = n;\n" + READ_VARINT,
+        "unknown: restrict",
+    ),
+    ("read_varint", ".value = value, ", ".length = length++, .value = value, ", "unknown: Clang says"),
+    ("scale_decode", "static inline uint64_t get_u64(", "uint64_t get_u64(", "unknown: get_u64"),
+    ("is_incomplete", INCOMPLETE, "#define multihash_is_incomplete(x) 0\n" + INCOMPLETE, "unknown: the directive"),
+    ("is_incomplete", INCOMPLETE, "#else\n" + INCOMPLETE, "unknown: the directive"),
     # memory that others may change, or that may not be there
     ("read_varint", BEFORE_READ_VARINT, "int debug;\n" + BEFORE_READ_VARINT, "unknown: VarDecl debug"),
     ("version", VERSION, VERSION.replace("{", "{\n    static uint32_t n; return n;"), "unknown: static"),
@@ -104,6 +142,7 @@ WRONG = (
     # the loop of multihash_read_many
     ("read_many", MANY, MANY.replace(") {", " && count != (size_t)1 << 28) {"), "not shown: "),
     ("read_many", MANY, MANY.replace("consumed < bytes", "consumed + 1 < bytes"), "not shown: "),
+    ("read_many", MANY + TURN, "    int n = 0;\n" + MANY + TURN + LATE, "not shown: read_many: no first"),
     ("read_many", "            consumed += USUAL_LENGTH;\n", "", "not shown: "),
     ("read_many", "consumed + result.digest_offset, result", "consumed, result", "not shown: "),
     # a definition without a case, one whose conditions no call meets, and a solver that gives up
