@@ -1,6 +1,7 @@
 """Runs a function of a module of plain JavaScript for all arguments at once, from the tree that acorn prints. It knows what
 format.js uses. Everything else is refused: what is not exact, what is not there, and what this file does not name."""
 import json
+import re
 import subprocess
 from collections import ChainMap
 from collections.abc import Callable, Iterator
@@ -10,12 +11,13 @@ from pathlib import Path as File
 from typing import Any
 
 import z3
-from js_values import INT, WIDTH, Bytes, Number, Operators, Value, known, related, symbol
+from js_values import WIDTH, Bytes, Number, Operators, Value, known, related, symbol
 from path import Refused
 
 Node = dict[str, Any]  # of acorn's tree
 GLOBALS = frozenset(["BigInt", "Math", "Number", "Uint8Array"])
 MOST_DEPTH = 20  # of calls
+MOST_BYTES = 1000  # of a new array
 
 
 @dataclass
@@ -101,7 +103,7 @@ class Run(Operators):
                 return a if self.decide(related("<=" if name == "Math.min" else ">=", a, b)) else b
             case "BigInt.asUintN", [Number(is_known=True, type="number") as bits, x] if 0 <= bits.high < WIDTH:
                 return self.binary("&", self.number(x, "bigint"), known(2**bits.high - 1, "bigint"))
-            case "new Uint8Array", [Number(type="number") as count] if count.low >= 0 and count.high <= INT:
+            case "new Uint8Array", [Number(type="number") as count] if count.low >= 0 and count.high <= MOST_BYTES:
                 return Bytes("a new array", count, role="new")
         raise Refused(f"unknown: {name} of {arguments}")
 
@@ -264,6 +266,8 @@ def unknown(node: Node, what: str) -> Refused:
 
 @cache
 def tree_of(text: str) -> list[Node]:
+    if found := re.search(r"[@#]__\w*", text):
+        raise Refused(f"unknown: {found[0]}, by which a bundler leaves out calls")
     command = ["acorn", "--ecma2022", "--module", "--locations", "--compact"]
     done = subprocess.run(command, input=text, capture_output=True, text=True)
     if done.returncode:

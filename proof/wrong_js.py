@@ -59,6 +59,9 @@ EDITS = [
     ("readVarint", VARINT, f"{VARINT}\n  if (at < end) bytes[at] = 0;", "unknown: bytes is written"),
     ("compareMultihashes", "Bytes(left, right, leftSize)", "Bytes(left, left, leftSize)", "unknown: other"),
     ("encodeMultihash", "new Uint8Array(encodedLength", "new Array(encodedLength", "unknown: new Array"),
+    ("encodeScale", "  bytes.set(digest, 9)", "  /* @__PURE__ */ bytes.set(digest, 9)", "unknown: @__PURE__"),
+    ("encodeScale", "function writeWord", "/* @__NO_SIDE_EFFECTS__ */\nfunction writeWord", "unknown: @__NO"),
+    ("readVarint", VARINT, f"{VARINT}\n  const waste = new Uint8Array(2 ** 31 - 1);", "unknown: new Uint8Array"),
     # numbers that are not exact, or none
     ("readVarint", "high < 2 ** (53 - bits)", "high < 2 ** (54 - bits)", "not exact"),
     ("readVarint", "weight *= 128;", "weight *= weight + 127;", "unknown: *"),
