@@ -1,5 +1,5 @@
-"""For c_items.py, contracts.py and rust_source.py: reads .rt files, as `rt fmt` lays them out, as items with their
-fields, members and contracts."""
+"""For contracts.py and rust_source.py: reads .rt files, as `rt fmt` lays them out, as items with their fields, members
+and contracts."""
 
 import re
 from collections.abc import Iterator

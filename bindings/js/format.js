@@ -1,4 +1,5 @@
-// The format: decodes, encodes and compares bytes. Each function that is exported is checked for all inputs, by proof.
+// The format: decodes, encodes and compares bytes. Each function that is exported is checked for all inputs, by
+// proof/check_js.py of the repository.
 //
 // Bytes are a Uint8Array. Its length is an argument, since a subclass may define another one. Codes, sizes and other varints
 // are a number where that is exact, up to 2^53 - 1, and a bigint above.
