@@ -29,7 +29,10 @@ WORD = re.compile(r'//[^\n]*|"(?:\\.|[^"\\])*"|\'(?:\\[^\']*|[^\\\'])\'|::|->|\w
 # a part that is left out up to its closing bracket: what it begins with, as words
 CONTRACT = re.compile(r"(?:requires|ensures) (?:\* )?(?:\w+ )?$")
 MARK = re.compile(r"# (?:! )?$")
-KEPT = re.compile(r"# (?:! )?\[ (?!tactic|derive|non_exhaustive|allow\b|cfg_attr \( any .*FORMATS|doc \( hidden)")
+KEPT = re.compile(
+    r"# (?:! )?\[ (?!tactic\b|derive\b|non_exhaustive\b|allow\b|doc \( hidden|"
+    r'cfg_attr \( any \( feature = "std" , not \( doctest \) \) , doc = include_str ! \( "\.\./FORMATS\.md" \) \) \])'
+)
 GHOST = re.compile(r"(?:pub )?ghost ")
 # what Rust has in another way: the allocator, the drop of values, the parameter of a formatter; a constant that only
 # contracts know; the modules that are not there, and a function that is by hand
@@ -134,6 +137,12 @@ EDITS = (
     ("proved/scale", "size > S", "size >= S", "scale_decode"),
     ("proved/compare", "self.size != other.size", "false", "cmp"),
     ("form/block", "if len > MAX as u64", "#[cfg(any())]\n        if len > MAX as u64", "read"),
+    (
+        "proved/varint/word",
+        "    if varint >>",
+        '    #[cfg_attr(any(unix), cfg(any()), doc = "FORMATS")]\n    if varint >>',
+        "read_word",
+    ),
     ("form/counted", "for _ in 0..count {", "for _ in 0..=count {", "read_items"),
     ("form/tag", "varint::write(N, w)?;", "varint::write(N, w)?;varint::write(N, w)?;", "write"),
 )
