@@ -33,6 +33,16 @@ packed() {
       decode(Uint8Array.of(1, 0)).code === 1, Multihash === one.Multihash, Multihash === require('verified-multihash/hashes').Multihash));"
 }
 
+# A bundle with decode alone is as small as the page says.
+bundle() {
+  cd "$work/elsewhere"
+  echo "import { decode } from 'verified-multihash'; console.log(decode(Uint8Array.of(1, 0)).code);" > one.mjs
+  esbuild one.mjs --bundle --minify --format=esm --outfile=bundle.mjs
+  prints 1 node bundle.mjs
+  gzip -9 < bundle.mjs | wc -c
+  [ "$(gzip -9 < bundle.mjs | wc -c)" -lt 4000 ]
+}
+
 # The types of what is packed, which need none of pages.
 packed_types() {
   local strict=(tsc --noEmit --strict --exactOptionalPropertyTypes --target es2022)
@@ -60,6 +70,7 @@ export MULTIHASH_VERDICTS=$vectors/verdicts.tsv
 needs="$node npm" try "in Node.js" npm_test
 needs="$node npm" try "drawn inputs" drawn
 ONLY='' needs="$node npm" try "the packed package" packed
+needs="$node npm esbuild" try "a bundle of the packed package" bundle
 needs="$node npm tsc" try "the packed package's types" packed_types
 needs="$node chromium" try "in chromium" in_browser chromium tests/page.html "$here" "$vectors"
 needs="$node firefox-esr" try "in firefox" in_browser firefox tests/page.html "$here" "$vectors"

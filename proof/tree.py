@@ -13,7 +13,9 @@ Node = Any  # a node of the tree
 # what compilers read in different ways, even in a comment or a text
 TEXT = r"[^\n -~]|\\|\?\?"
 # what depends on the compiler, but is the same for this library, without comments
-BLOCK = r'#if __STDC_HOSTED__\s*#include <string\.h>\s*#else\s|#ifdef __cplusplus\s*(extern "C" \{|\})\s*#endif\s'
+BLOCK = r"#if __STDC_HOSTED__\s*#include <string\.h>\s*#else\s*void \*memcpy\(void \*, const void \*, size_t\);\s*"
+BLOCK += r"int memcmp\(const void \*, const void \*, size_t\);\s*#endif\s"
+BLOCK += r'|#ifdef __cplusplus\s*(extern "C" \{|\})\s*#endif\s'
 DIRECTIVE = r'include "multihash\.h"|include <std(def|int)\.h>|endif|ifndef MULTIHASH_H|define [A-Z]\w*( [^#]*)?'
 MACHINE = r"#|\b__\w+|\b_[A-Z]\w*|\[\[|\[\s*static|%:|'|\b(long|short|asm|restrict)\b|\b\d\w*[lL]\w*"
 MACHINE += r"|\w*(FAST|LEAST|fast|least|PTR|ptr|wchar|WCHAR|WINT|ATOMIC|INTMAX|intmax)\w*"

@@ -2,6 +2,7 @@
 starts. Most are of multihash.c and multihash.h; the last ones are of the definitions, and of how z3 is called."""
 
 BAD = "return (multihash_varint){0};"
+HOSTED_ELSE = "#if __STDC_HOSTED__\n#include <string.h>\n#else\n"
 READ_VARINT = "    uint64_t value;\n    size_t length;\n"  # the first lines of multihash_read_varint
 BEFORE_READ_VARINT = "multihash_varint multihash_read_varint(const uint8_t *bytes, size_t bytes_length)\n{\n"
 VERSION = "uint32_t multihash_version(void)\n{\n    return MULTIHASH_VERSION_NUMBER;"
@@ -72,6 +73,7 @@ WRONG = (
     # what compilers, or their modes, read in different ways
     ("read_varint", READ_VARINT, f"#if __STDC_HOSTED__\n    {BAD}\n#endif\n" + READ_VARINT, "unknown: the directive"),
     ("read_varint", READ_VARINT, f"    if (__STDC_HOSTED__) {BAD}\n" + READ_VARINT, "unknown: __STDC_HOSTED__"),
+    ("read_varint", READ_VARINT, f"{HOSTED_ELSE}{READ_VARINT}#endif\n", "unknown: the directive"),
     ("scale_encode", HOSTED, "#define memcpy(a, b, c) (void)(c)\n" + HOSTED, "unknown: the directive"),
     ("read_varint", READ_VARINT, f"    // ??/\n    {BAD}\n" + READ_VARINT, "unknown: the character"),
     ("read_varint", READ_VARINT, f"    // \\ \n    {BAD}\n" + READ_VARINT, "unknown: the character"),
