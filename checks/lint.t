@@ -1,6 +1,6 @@
 #!/usr/bin/env bash
 # Checks the scripts of the repository with shellcheck, black, pyflakes, mypy and tsc, and compares the generated files
-# with what tools/generate makes, and the version that files state.
+# with what tools/generate makes.
 # shellcheck source=checks/lib/tap.sh
 . "$(dirname "$0")/lib/tap.sh"
 
@@ -30,5 +30,4 @@ export MYPY_CACHE_DIR=$work/mypy
   needs=tsc try names names $(listed '*.js' '*.ts')
 }
 for what in rust contracts vectors tables chart; do try "tools/generate $what" tools/generate "$what" --check; done
-try "the version that files state" tools/version.py --check
 finish

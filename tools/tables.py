@@ -1,6 +1,7 @@
 #!/usr/bin/env python3
 """For `tools/generate tables`: writes the files of packages that have statuses, limits and the version of multihash.h,
-texts of multihash_message.h, and names of hash functions, of hashes.tsv and codes.tsv of crates/vectors/data.
+texts of multihash_message.h, and names of hash functions, of hashes.tsv and codes.tsv of crates/vectors/data; and the
+version in files that are written by hand otherwise.
 
     tools/tables.py FOLDER      writes them below a folder, by their paths in the repository
 """
@@ -292,6 +293,17 @@ static inline uint64_t multihash_code(const char *name)
 #endif
 """,
 }
+
+# Files by hand, and what comes before the version in each.
+STATED = {
+    "js/package.json": '"version": "',
+    "python/src/verified_multihash/__init__.py": '__version__ = "',
+    "rust/multihash/Cargo.toml": 'verified-multihash = { version = "',
+    "rust/verified-multihash/Cargo.toml": '\nversion = "',
+}
+for path, before in STATED.items():
+    text = (TOP / "bindings" / path).read_text("utf-8")
+    FILES[path] = re.sub(rf'(?<={before})[^"]*', VERSION, text, count=1)
 
 
 if __name__ == "__main__":
