@@ -7,16 +7,20 @@ public name can go, without a difference in that page. Left out are other commen
 is private. The words of the clauses follow, with the comments of their definitions.
 """
 import re
-from collections.abc import Iterator
+from collections.abc import Iterable, Iterator
 from itertools import takewhile
 from pathlib import Path
-
-from rt_source import Item, items
+from typing import NamedTuple
 
 TOP = Path(__file__).resolve().parents[1]
 CRATES = ("theorems", "multihash", "form", "mh_show")
+# What an item begins with, as `rt fmt` lays it out.
+HEAD = re.compile(
+    r" *(pub )?(?:pub\(\w+\) )?(?:unsafe )?(?:(?:const +|extern +)*(fn)\b"
+    r"|(ghost|use|impl|mod|struct|enum|trait|type|const|extern|macro_rules)\b) ?(\w*)"
+)
 # attributes that no caller can see
-OF_BODIES = re.compile(r"#\[(cold|inline|tactic)\b")
+OF_BODIES = re.compile(r" *#\[(cold|inline|tactic)\b")
 INTRODUCTION = """\
 # Contracts
 
@@ -31,81 +35,108 @@ can know about the library's own readers and writers, and about the parts of `fo
 """
 
 
-def kept_lines(text: str) -> Iterator[str]:
-    """Returns the lines of a text that are not empty."""
-    return filter(None, text.splitlines())
+class Item(NamedTuple):
+    """The lines of an item of a source, and those of the comments and attributes before it."""
+
+    above: list[str]
+    lines: list[str]
+    is_public: bool
+    kind: str
+    name: str
+
+    @property
+    def head(self) -> str:
+        return self.lines[0].partition("{")[0]
+
+    def attributes(self) -> Iterator[str]:
+        """Returns the documentation, and the attributes that a caller can see."""
+        yield from (line for line in self.above if line.lstrip().startswith("///"))
+        yield from (line for line in self.above if line.lstrip()[0] not in "/" and not OF_BODIES.match(line))
 
 
-def attribute_lines(item: Item, indent: str) -> Iterator[str]:
-    """Returns an item's documentation, and the attributes that a caller can see."""
-    yield from (line for line in item.comments() if line.startswith(f"{indent}///"))
-    for line in map(str.strip, kept_lines(item.attributes)):
-        if not OF_BODIES.match(line):
-            yield indent + line
+def items(lines: Iterable[str], indent: str = "") -> list[Item]:
+    """Returns the items with that indent. Lines that are indented more, or begin with a bracket, belong to the one before."""
+    above: list[str] = []
+    found: list[Item] = []
+    for line in lines:
+        begins = line[len(indent) :][:1]
+        if not line:
+            above = []
+        elif begins in "(){} ]":
+            (found[-1].lines if found and not above else above).append(line)
+        elif begins in "/#":
+            above.append(line)
+        else:
+            head = HEAD.match(line)
+            if not head:
+                raise ValueError(f"no known item: {line}")
+            found.append(Item(above, [line], bool(head[1]), head[2] or head[3], head[4]))
+            above = []
+    return found
 
 
-def function_lines(function: Item, indent: str) -> Iterator[str]:
-    """Returns a function's signature and contract."""
-    yield from attribute_lines(function, indent)
-    yield from kept_lines(indent + function.text[function.start : function.contract_end()])
-
-
-def has_no_body(function: Item) -> bool:
-    return function.source.rstrip().endswith("\n{}")
+def function_lines(function: Item) -> Iterator[str]:
+    """Returns a function's signature and contract: what precedes the body."""
+    yield from function.attributes()
+    is_contract = False
+    for line in function.lines:
+        is_contract = is_contract or re.match(r" *(requires|ensures)\b", line) is not None
+        if re.fullmatch(r" *\{\}?| *ghost .*", line):
+            return
+        if not is_contract and re.search(r" \{\}?$", line):
+            yield line.rpartition(" {")[0]
+            return
+        yield line if "//" in line else line.removesuffix(";")
 
 
 def member_lines(owner: Item) -> Iterator[str]:
     """Returns the members of an impl or a trait that a caller can see."""
     is_of_trait = owner.kind == "trait" or " for " in owner.head
-    for member in owner.members():
+    for member in items(owner.lines[1:-1], "    "):
         if member.kind == "fn" and (is_of_trait or member.is_public):
-            yield from function_lines(member, "    ")
-        elif is_of_trait and not member.source.startswith("ghost use"):
-            yield from kept_lines("    " + member.source)
+            yield from function_lines(member)
+        elif is_of_trait and not member.head.startswith("    ghost use"):
+            yield from member.lines
 
 
-def field_lines(item: Item) -> Iterator[str]:
+def field_lines(item: Item, named: set[str]) -> Iterator[str]:
     """Returns the fields of a struct that are public, ghost or named by a ghost member."""
     documentation: list[str] = []
-    for line in kept_lines(item.text[item.inner() : item.end]):
+    for line in item.lines[1:-1]:
         if line.startswith("    ///"):
             documentation.append(line)
-        elif line != "}":
-            name = re.escape(line.strip().partition(":")[0])
-            is_named = re.search(rf"(?m)^    ghost \w+ = .*\.{name}\b", item.text)
-            if is_named or line.startswith(("    pub ", "    ghost ")):
+        else:
+            if line.startswith(("    pub ", "    ghost ")) or line.strip().partition(":")[0] in named:
                 yield from (*documentation, line)
             documentation = []
 
 
-def item_lines(item: Item, private: set[str]) -> Iterator[str]:
-    """Returns the lines of an item that a caller can see.
-
-    Those of an impl of a private type are none.
-    """
+def item_lines(item: Item, private: set[str], named: set[str]) -> Iterator[str]:
+    """Returns the lines of an item that a caller can see: of an impl of a private type none."""
     if item.kind == "fn":
-        if item.is_public or has_no_body(item):
-            yield from function_lines(item, "")
+        if item.is_public or item.lines[-1] == "{}":
+            yield from function_lines(item)
     elif item.kind in ("struct", "trait", "impl"):
         is_impl = item.kind == "impl"
-        lines = [*(member_lines(item) if is_impl or item.kind == "trait" else field_lines(item))]
+        lines = [*(field_lines(item, named) if item.kind == "struct" else member_lines(item))]
         if private.isdisjoint(re.findall(r"\w+", item.head)) if is_impl else item.is_public:
-            first, _, _ = item.source.partition("\n")
-            yield from attribute_lines(item, "")
+            first = item.lines[0]
+            yield from item.attributes()
             if lines:
                 yield from (first, *lines, "}")
             else:
                 yield f"{first} .. }}" if first.endswith("{") else first
     elif item.is_public or item.name == "exposed":
-        yield from attribute_lines(item, "")
-        yield from kept_lines(item.source)
+        yield from item.attributes()
+        yield from item.lines
 
 
 def section_of(path: str, text: str) -> str:
     """Returns the section of a file, which is empty if the file has no public items."""
-    top_items = items(text)
+    top_items = items(text.splitlines())
     private = {item.name for item in top_items if item.kind in ("struct", "enum") and not item.is_public}
-    blocks = [[*item_lines(item, private)] for item in top_items]
+    named = {name for line in re.findall(r"(?m)^    ghost \w+ = .*", text) for name in re.findall(r"\.(\w+)", line)}
+    blocks = [[*item_lines(item, private, named)] for item in top_items]
     # an empty line precedes and follows what has several lines
     block = "\n".join("\n".join(lines if len(lines) < 2 else ["", *lines, ""]) for lines in blocks if lines)
     block = re.sub(r"\n{3,}", "\n\n", block).strip("\n")

@@ -15,8 +15,6 @@ import re
 import sys
 from pathlib import Path
 
-import rt_source
-
 TOP = Path(__file__).resolve().parents[1]
 # The crates, and what comes in a path before the names of each.
 CRATES = {"multihash": "proved::", "form": "form::"}
@@ -74,6 +72,8 @@ CUT = (
     (r"(?:requires|ensures)\b", OF_CONTRACT),
     (r"#!?\[tactic\(|#\[derive\(Drop\)\]|use std::(?:marker::Model|alloc::Global);", NONE),
 )
+# A string, a character or a comment.
+TEXT = re.compile(r'"(?:\\.|[^"\\])*"|\'(?:\\[^\']*|[^\\\'])\'|//[^\n]*', re.S)
 # What is removed from the other lines.
 WORDS = re.compile(
     r", Drop\b(?=[\w, ]*\)\]\n)|(?<=\bT): Drop\b| \+ Drop\b|<W: fmt::Write>|(?<=fmt::Formatter)<W>"
@@ -109,7 +109,7 @@ EXAMPLE = re.compile(r"^ *///\n *///? ```\n(?: *///[^\n]*\n)*? */// ```\n", re.M
 
 def without_words(text: str) -> str:
     """Removes WORDS wherever they are no text and no comment."""
-    code = rt_source.TEXT.sub(lambda quoted: rt_source.blank(quoted[0]), text)
+    code = TEXT.sub(lambda quoted: re.sub(r"[^\n]", " ", quoted[0]), text)
     for found in reversed([*WORDS.finditer(code)]):
         text = text[: found.start()] + text[found.end() :]
     return text
@@ -120,7 +120,7 @@ def without_parts(text: str) -> str:
     kept: list[str] = []
     depth, above = 0, ""
     for line in text.splitlines(keepends=True):
-        code = rt_source.TEXT.sub("", line).strip()
+        code = TEXT.sub("", line).strip()
         if not depth:
             above = next((above for first, above in CUT if re.match(first, code)), "")
         if not above:
@@ -153,7 +153,7 @@ def derived(attribute: re.Match[str]) -> str:
 def erased(path: Path, crate: str) -> str:
     """Returns a module without what is removed, and with what is added. Ends the program at what is no Rust."""
     text = TO_BYTES.sub("", EXAMPLE.sub("", path.read_text("utf-8")))
-    if refused := REQUIRES.search(rt_source.TEXT.sub("", text)):
+    if refused := REQUIRES.search(TEXT.sub("", text)):
         sys.exit(f"{path.relative_to(TOP)}: {refused[1]} is public, and requires something")
     text = RESTRICTED.sub(closed, text)
     if crate != "multihash":
@@ -161,7 +161,7 @@ def erased(path: Path, crate: str) -> str:
     text = without_words(re.sub(r"\n *\{\n", " {\n", without_parts(text)))
     for pattern, other in OTHER:
         text = pattern.sub(other, text)
-    if left := RATTLE.search(rt_source.TEXT.sub("", text)):
+    if left := RATTLE.search(TEXT.sub("", text)):
         sys.exit(f"{path.relative_to(TOP)}: no Rust: {left[0]}")
     # empty lines that are then doubled, or at the start or the end of a block
     text = re.sub(r"(?<=\{\n)\n|\n(?=\n *\})", "", re.sub(r"\n{3,}", "\n\n", text))
@@ -176,7 +176,7 @@ def placed(about: str, code: str, name: str) -> str:
     first = MADE + ALLOWED.get(name, "")
     if name == "lib":
         return first + INNER + BY_HAND + code
-    used = rt_source.TEXT.sub("", code)
+    used = TEXT.sub("", code)
     imports = "".join(line for pattern, line in IMPORTS if re.search(pattern, used))
     return about + first + imports + ("" if code.startswith("\n") else "\n") + code
 
