@@ -5,7 +5,7 @@
 # shellcheck source=checks/lib/tap.sh
 . "$(dirname "$0")/lib/tap.sh"
 require cc cmake python3 pkg-config
-top=$PWD c=$PWD/bindings/c data=$PWD/crates/vectors/data prefix="$work/a #prefix's" # whose name is no word of a shell
+top=$PWD c=$PWD/bindings/c prefix="$work/a #prefix's" # whose name is no word of a shell
 warnings="-Wall -Wextra -Wpedantic -Wconversion -Wsign-conversion -Wshadow -Wcast-qual -Werror"
 san="-g -O1 -fsanitize=address,undefined -fno-sanitize-recover=all"
 strict="-std=c11 $warnings -Wstrict-prototypes -Wmissing-prototypes"
@@ -32,27 +32,29 @@ on_machine() {
 headers() {
   local header standard
   for header in "$c"/include/*.h; do
-    for standard in c99 c++11 c++20; do
-      "$1" -std=$standard $warnings -x "${standard%[0-9][0-9]}" -fsyntax-only -include "$c"/include/multihash.h \
-        -include "$header" /dev/null
+    for standard in "c -std=c99" "c++ -Wold-style-cast -std=c++11" "c++ -Wold-style-cast -std=c++20"; do
+      "$1" -x $standard $warnings -fsyntax-only -include "$c"/include/multihash.h -include "$header" /dev/null
     done
   done
+  "$1" -x c++ -Wold-style-cast -std=c++17 $warnings -fsyntax-only -include "$c/include/multihash.hpp" /dev/null
 }
 
-# The first files describe all, and the installed test builds the examples with each library.
+# A program is built as the page says, with each library. The shell reads what pkg-config escapes.
 installs() {
+  local option
+  local -x PKG_CONFIG_PATH=$prefix/lib/pkgconfig LD_LIBRARY_PATH=$prefix/lib
   cmake --install "$work/cc"
-  cmp CHANGES "$prefix/share/doc/multihash_c/changelog"
-  "$prefix/share/doc/multihash_c/examples/test.sh" "$prefix"
-  PKG_CONFIG_PATH=$prefix/lib/pkgconfig pkg-config --validate multihash_c
+  pkg-config --validate multihash_c
+  eval "set -- $(pkg-config --cflags --libs multihash_c)"
+  for option in -O2 -static; do
+    cc -std=c11 $option "$prefix/share/doc/multihash_c/examples/mh_show.c" "$@" -o "$work/shows"
+    "$work/shows" < crates/mh_show/stdin | diff - crates/mh_show/stdout
+  done
 }
-# The shared library exports the functions of two headers, and keeps no state: no section of an object is written.
+# The shared library exports the functions of two headers.
 exports() {
   nm -D --defined-only "$prefix/lib/libmultihash_c.so" | sed -n 's/.* T \(\w*\).*/\1/p' | sort |
     diff - <(cat "$c"/include/multihash{,_ffi}.h | grep -oP '^(?!static)\w.*\b\Kmultihash_\w+(?=\()' | sort)
-  cc -O2 -I "$c/include" -c "$c/src/multihash.c" -o "$work/state.o"
-  objdump -h "$work/state.o" | awk '$2 ~ /^\./ { name = $2; size = $3 }
-    /ALLOC/ && !/READONLY/ && size !~ /^0+$/ { print name }' | diff /dev/null -
 }
 # A project of CMake, which ends with the lines of the standard input, with each library. Further words are options.
 in_project() {
@@ -107,23 +109,15 @@ examples() {
 }
 
 # Objects for machines without a C library, and for macOS and MSVC's mode of Clang without their headers. All that they
-# need are the functions that the page names, and what linkers make; the last has no name that only GCC and Clang know.
+# need are the functions that the page names, and what linkers make.
 freestanding() {
-  local target free="-ffreestanding -nostdlibinc -I $c/include $c/src/multihash.c"
+  local target
   for target in arm64-apple-macos11 wasm32-unknown-unknown thumbv7em-none-eabi riscv32-unknown-elf \
     x86_64-pc-windows-msvc; do
-    clang --target=$target $strict -O2 -c $free -o "$work/free.o"
+    clang --target=$target $strict -O2 -ffreestanding -nostdlibinc -I "$c/include" -c "$c/src/multihash.c" -o "$work/free.o"
     llvm-nm --undefined-only -j "$work/free.o" | sed -E 's/^_*//; /^stack_(chk_fail|chk_guard|pointer)$/d' | sort |
       comm -23 - <(printf "%s\n" aeabi_memclr8 memcmp memcpy memset) | diff /dev/null -
   done
-  clang --target=x86_64-pc-windows-msvc -E -P $free | { grep -w '__[[:alnum:]_]*' || true; } | diff /dev/null -
-}
-
-# What a compiler that is neither GCC nor Clang makes of the source passes the tests.
-without_extensions() {
-  cc $strict -O2 -U__GNUC__ -I "$c/include" -c "$c/src/multihash.c" -o "$work/other.o"
-  cc $strict -O2 -I "$c/include" "$c"/tests/{test,verdicts,cid,inputs}.c "$work/other.o" -o "$work/other_test"
-  "$work/other_test" "$data"/{verdicts,values,messages,hashes,codes,cids}.tsv
 }
 
 ONLY='' try "cc" build cc "" -DCMAKE_INSTALL_PREFIX="$prefix"
@@ -134,7 +128,6 @@ needs="clang++ $runtime" try "clang, sanitizers" build clang-san "$san" -DCMAKE_
 CXX=none needs="clang $runtime" try "clang, memory sanitizer" build clang-memory "-g -O1 -fsanitize=memory" \
   -DCMAKE_BUILD_TYPE=None -DCMAKE_C_COMPILER=clang
 needs="clang" try "clang, headers" headers clang
-try "other compilers" without_extensions
 needs="clang llvm-nm" try "objects without a C library" freestanding
 for machine in "i686-linux-gnu qemu-i386" "arm-linux-gnueabihf qemu-arm" "aarch64-linux-gnu qemu-aarch64" \
   "s390x-linux-gnu qemu-s390x"; do # the last is big-endian
@@ -143,10 +136,11 @@ done
 needs="--all riscv64-linux-gnu-gcc qemu-riscv64" try "riscv64" on_machine riscv64-linux-gnu qemu-riscv64
 needs="x86_64-w64-mingw32-gcc wine" try "Windows" on_machine x86_64-w64-mingw32 wine Windows
 ONLY='' try "installing" installs
-needs=objdump try "what it exports" exports
+try "what it exports" exports
 needs=mandoc try "man pages" mandoc -T lint "$prefix"/share/man/man{3/multihash.3,1/mh_show.1}
 try "projects of CMake" in_projects
 needs="c++ go" try "the page's programs in C++ and Go" page_programs
-needs=luajit try "other languages" luajit "$c/tests/ffi.lua" "$c/include/multihash_ffi.h" "$work/cc/libmultihash_c.so"
+needs=luajit try "other languages" luajit "$c/tests/ffi.lua" "$c/include/multihash_ffi.h" \
+  "$work/cc/libmultihash_c.so" crates/vectors/data/cids.tsv
 needs=/usr/include/openssl/evp.h try "the examples" examples
 finish

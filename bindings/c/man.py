@@ -15,11 +15,11 @@ import time
 from pathlib import Path
 
 # multihash_ffi.h is for other languages.
-HEADERS = [Path(__file__).parent / "include" / f"multihash{part}.h" for part in ("", "_message", "_names", "_cid")]
+HEADERS = [Path(__file__).parent / "include" / f"multihash{part}.h" for part in ("", "_message", "_names", "_cid", "_frame")]
 COMMENT = r"/\*((?:(?!\*/).)*)\*/\n"
 ABOUT = COMMENT + "#ifndef"
 # A type, constants, or a function, whose declaration has a parenthesis.
-PART = COMMENT + r"(?:static inline )?(typedef .*?\w;(?=\n\n)|#define.*?(?=\n\n)|[\w *]*multihash_\w+\([^()]*\))"
+PART = COMMENT + r"(?:static inline )?(typedef .*?;(?=\n\n)|#define.*?(?=\n\n)|[\w *]*multihash_\w+\([^()]*\))"
 STATUS = COMMENT + r" *(MULTIHASH_\w+) = \d+"
 
 

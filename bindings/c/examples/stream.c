@@ -64,9 +64,13 @@ int main(void)
         for (size_t i = 0; i < found.digest_length; i++) printf("%02x", from.bytes[found.digest_offset + i]);
         printf("\n");
     }
-    if (result == STREAM_REJECTED || result == STREAM_CUT)
+    if (result == STREAM_REJECTED || result == STREAM_CUT) {
         multihash_print_message(stderr, from.bytes, from.have, from.limit);
+    }
     if (result == STREAM_FAILED) perror("read");
-    if (fflush(stdout) != 0 || ferror(stdout)) return fprintf(stderr, "the output cannot be written\n"), 1;
-    return result != STREAM_END;
+    if (fflush(stdout) != 0 || ferror(stdout)) {
+        fprintf(stderr, "the output cannot be written\n");
+        return 1;
+    }
+    return result == STREAM_END ? 0 : 1;
 }

@@ -34,28 +34,38 @@ static unsigned hash_stream(FILE *from, const EVP_MD *function, uint8_t *digest)
     return is_good ? length : 0;
 }
 
+/* Prints why the content cannot be verified. Returns the status of the program. */
+static int fail(const char *reason)
+{
+    fprintf(stderr, "verify: %s\n", reason);
+    return 2;
+}
+
 /* Compares the content, on standard input, with a multihash. Returns the status of the program. */
 static int verify(const uint8_t *bytes, size_t length)
 {
     multihash_decoded found = multihash_from_bytes(bytes, length);
-    if (found.status != MULTIHASH_OK) return multihash_print_message(stderr, bytes, length, MULTIHASH_DIGEST_MAX), 2;
+    if (found.status != MULTIHASH_OK) {
+        multihash_print_message(stderr, bytes, length, MULTIHASH_DIGEST_MAX);
+        return 2;
+    }
     EVP_MD *function = function_of(found.code);
-    if (function == NULL) return fprintf(stderr, "OpenSSL has no hash function of that code\n"), 2;
+    if (function == NULL) return fail("OpenSSL has no hash function of that code");
     uint8_t digest[EVP_MAX_MD_SIZE];
     unsigned size = hash_stream(stdin, function, digest);
     EVP_MD_free(function);
-    if (size == 0) return fprintf(stderr, "the content cannot be hashed\n"), 2;
+    if (size == 0) return fail("the content cannot be hashed");
     /* a truncated digest is not that of the content */
     int is_same = size == found.digest_length && CRYPTO_memcmp(digest, bytes + found.digest_offset, size) == 0;
     puts(is_same ? "the same" : "another content");
-    return !is_same;
+    return is_same ? 0 : 1;
 }
 
-int main(int count, char **words)
+int main(int argc, char **argv)
 {
     long length = 0;
-    uint8_t *bytes = count == 2 ? OPENSSL_hexstr2buf(words[1], &length) : NULL;
-    if (bytes == NULL) return fprintf(stderr, "usage: verify HEX < CONTENT\n"), 2;
+    uint8_t *bytes = argc == 2 ? OPENSSL_hexstr2buf(argv[1], &length) : NULL;
+    if (bytes == NULL) return fail("usage: verify HEX < CONTENT");
     int status = verify(bytes, (size_t)length);
     OPENSSL_free(bytes);
     return status;

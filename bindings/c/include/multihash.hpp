@@ -1,11 +1,12 @@
 /* SPDX-License-Identifier: MIT
  * Copyright (c) 2026 The Gilmekhus developers */
 
-/* Multihashes as values of C++17, over multihash.h: they are compared as multihashes are, and are keys of std::map and
- * std::unordered_map. Errors are exceptions with the messages of multihash_message.h. */
+/* Multihashes and content identifiers (CIDs) as values of C++17, over multihash.h and multihash_cid.h. They are compared,
+ * and are keys of std::map and std::unordered_map. Errors are exceptions. */
 #ifndef MULTIHASH_HPP
 #define MULTIHASH_HPP
 
+#include "multihash_cid.h"
 #include "multihash_message.h"
 #include "multihash_names.h"
 
@@ -15,10 +16,12 @@
 #include <stdexcept>
 #include <string>
 #include <string_view>
+#include <utility>
 
 namespace multihash {
 
-/* Why bytes are no multihash, or why a code and a digest have no encoding. */
+/* Why bytes are no multihash, or why a code and a digest have no encoding, with a message of multihash_message.h; or the
+ * same of a CID, with a text of multihash_cid.h. */
 class error : public std::invalid_argument {
   public:
     error(multihash_status status, const char *message) : std::invalid_argument(message), status_(status) {}
@@ -32,8 +35,18 @@ class error : public std::invalid_argument {
     multihash_status status_;
 };
 
+/* The operators of a type that has `compare`. */
+template <typename Type> class ordered {
+    friend bool operator==(const Type &a, const Type &b) noexcept { return a.compare(b) == 0; }
+    friend bool operator!=(const Type &a, const Type &b) noexcept { return a.compare(b) != 0; }
+    friend bool operator<(const Type &a, const Type &b) noexcept { return a.compare(b) < 0; }
+    friend bool operator>(const Type &a, const Type &b) noexcept { return a.compare(b) > 0; }
+    friend bool operator<=(const Type &a, const Type &b) noexcept { return a.compare(b) <= 0; }
+    friend bool operator>=(const Type &a, const Type &b) noexcept { return a.compare(b) >= 0; }
+};
+
 /* A code below 2^63 and a digest of at most 255 bytes. Bytes are the chars of a string or of a string_view. */
-class value {
+class value : private ordered<value> {
   public:
     /* The code 0 and the empty digest. */
     value() = default;
@@ -141,14 +154,9 @@ class value {
                                  other.digest_.size());
     }
 
-    friend bool operator==(const value &a, const value &b) noexcept { return a.compare(b) == 0; }
-    friend bool operator!=(const value &a, const value &b) noexcept { return a.compare(b) != 0; }
-    friend bool operator<(const value &a, const value &b) noexcept { return a.compare(b) < 0; }
-    friend bool operator>(const value &a, const value &b) noexcept { return a.compare(b) > 0; }
-    friend bool operator<=(const value &a, const value &b) noexcept { return a.compare(b) <= 0; }
-    friend bool operator>=(const value &a, const value &b) noexcept { return a.compare(b) >= 0; }
-
   private:
+    friend class cid;
+
     static constexpr std::string_view DIGITS = "0123456789abcdef";
 
     static const std::uint8_t *bytes_of(std::string_view chars) noexcept
@@ -180,12 +188,112 @@ class value {
     std::string digest_;
 };
 
+/* A version, which is 0 or 1, a codec below 2^63, and a multihash. */
+class cid : private ordered<cid> {
+  public:
+    /* Throws error if the version is unknown, the codec 2^63 or more, or if version 0 has another codec than
+     * MULTIHASH_CID_DAG_PB, or another multihash than one of SHA2-256 with 32 bytes. */
+    cid(std::uint64_t version, std::uint64_t codec, value multihash)
+        : version_(version), codec_(codec), multihash_(std::move(multihash))
+    {
+        std::uint8_t out[MULTIHASH_CID_LENGTH_MAX];
+        check(encode(out).status);
+    }
+
+    /* Decodes bytes that must be exactly one CID. Throws error. */
+    static cid decode(std::string_view bytes)
+    {
+        return cid(multihash_cid_from_bytes(value::bytes_of(bytes), bytes.size()), bytes);
+    }
+
+    /* Decodes the CID at the start of the bytes, and removes it from them. Throws error, and then leaves them unchanged. */
+    static cid read(std::string_view &bytes)
+    {
+        const multihash_cid found = multihash_cid_read(value::bytes_of(bytes), bytes.size());
+        cid first(found, bytes);
+        bytes.remove_prefix(found.taken);
+        return first;
+    }
+
+    /* Decodes a text: b.. (base32), f.. (base16), z.. (base58btc), or Qm.. (version 0). Throws error. */
+    static cid parse(std::string_view text)
+    {
+        std::uint8_t out[MULTIHASH_CID_LENGTH_MAX];
+        const multihash_cid found = multihash_cid_parse(text.data(), text.size(), out, sizeof out);
+        return cid(found, value::chars_of(out, found.taken));
+    }
+
+    std::uint64_t version() const noexcept { return version_; }
+
+    std::uint64_t codec() const noexcept { return codec_; }
+
+    const value &multihash() const noexcept { return multihash_; }
+
+    /* Returns the encoding. */
+    std::string bytes() const
+    {
+        std::uint8_t out[MULTIHASH_CID_LENGTH_MAX];
+        return std::string(value::chars_of(out, encode(out).length));
+    }
+
+    /* Returns the text in a base: 'b' is base32, 'f' base16 and 'z' base58btc. Throws error for other bases, and for any
+     * but 'z' of version 0, whose text is Qm.. */
+    std::string text(char base) const
+    {
+        char out[MULTIHASH_CID_TEXT_SIZE];
+        const std::string encoding = bytes();
+        check(multihash_cid_text(value::bytes_of(encoding), encoding.size(), base, out, sizeof out).status);
+        return out;
+    }
+
+    /* Returns the text in base32, or of version 0 in base58btc. */
+    std::string text() const { return text(version_ == 0 ? 'z' : 'b'); }
+
+    /* Returns -1, 0 or 1: compares by version, then by codec, then by multihash. */
+    int compare(const cid &other) const noexcept
+    {
+        if (version_ != other.version_) return version_ < other.version_ ? -1 : 1;
+        if (codec_ != other.codec_) return codec_ < other.codec_ ? -1 : 1;
+        return multihash_.compare(other.multihash_);
+    }
+
+  private:
+    /* A CID that was found in bytes. */
+    cid(const multihash_cid &found, std::string_view bytes) : version_(found.version), codec_(found.codec)
+    {
+        check(found.status);
+        multihash_ = value(found.code, bytes.substr(found.digest_offset, found.digest_length));
+    }
+
+    multihash_encoded encode(std::uint8_t (&out)[MULTIHASH_CID_LENGTH_MAX]) const noexcept
+    {
+        const std::string &digest = multihash_.digest();
+        return multihash_cid_encode(version_, codec_, multihash_.code(), value::bytes_of(digest), digest.size(), out,
+                                    sizeof out);
+    }
+
+    static void check(multihash_status status)
+    {
+        if (status != MULTIHASH_OK) throw error(status, multihash_cid_status_text(status));
+    }
+
+    std::uint64_t version_, codec_;
+    value multihash_;
+};
+
 } // namespace multihash
 
 template <> struct std::hash<multihash::value> {
     std::size_t operator()(const multihash::value &value) const noexcept
     {
         return std::hash<std::string>()(value.digest()) ^ std::hash<std::uint64_t>()(value.code());
+    }
+};
+
+template <> struct std::hash<multihash::cid> {
+    std::size_t operator()(const multihash::cid &cid) const noexcept
+    {
+        return std::hash<multihash::value>()(cid.multihash()) ^ std::hash<std::uint64_t>()(cid.codec());
     }
 };
 

@@ -134,13 +134,13 @@ static inline const char *mh_cid_digits(char base)
     }
 }
 
-/* Returns the value of a digit, or -1. */
-static inline int mh_cid_value(const char *digits, char digit)
+/* Returns the value of a digit, or 255. */
+static inline uint8_t mh_cid_value(const char *digits, char digit)
 {
-    for (int value = 0; digits[value] != '\0'; value++) {
+    for (uint8_t value = 0; digits[value] != '\0'; value++) {
         if (digits[value] == digit) return value;
     }
-    return -1;
+    return 255;
 }
 
 /* Decodes digits of `bits` bits to `bytes`. Returns whether they encode whole bytes, with zeros after the last. */
@@ -153,7 +153,7 @@ static inline int mh_cid_from_bits(const uint8_t *values, size_t count, unsigned
         kept_count += bits;
         if (kept_count >= 8) {
             kept_count -= 8;
-            bytes[(*length)++] = (uint8_t)(kept >> kept_count);
+            bytes[(*length)++] = (kept >> kept_count) & 255;
             kept &= (1u << kept_count) - 1;
         }
     }
@@ -169,10 +169,10 @@ static inline size_t mh_cid_to_bits(const uint8_t *bytes, size_t bytes_length, u
         kept = kept << 8 | bytes[i];
         for (kept_count += 8; kept_count >= bits; kept &= (1u << kept_count) - 1) {
             kept_count -= bits;
-            values[count++] = (uint8_t)(kept >> kept_count);
+            values[count++] = (kept >> kept_count) & 255;
         }
     }
-    if (kept_count > 0) values[count++] = (uint8_t)(kept << (bits - kept_count));
+    if (kept_count > 0) values[count++] = (kept << (bits - kept_count)) & 255;
     return count;
 }
 
@@ -186,10 +186,10 @@ static inline size_t mh_cid_convert(const uint8_t *from, size_t from_length, uns
         unsigned carry = from[i];
         for (size_t k = 0; k < length; k++) {
             carry += to[k] * from_base;
-            to[k] = (uint8_t)(carry % to_base);
+            to[k] = (carry % to_base) & 255;
             carry /= to_base;
         }
-        for (; carry > 0; carry /= to_base) to[length++] = (uint8_t)(carry % to_base);
+        for (; carry > 0; carry /= to_base) to[length++] = (carry % to_base) & 255;
     }
     for (size_t i = 0; i < from_length && from[i] == 0; i++) to[length++] = 0;
     for (size_t i = 0; i < length / 2; i++) {
@@ -220,9 +220,8 @@ static inline multihash_cid multihash_cid_parse(const char *text, size_t text_le
     if (digits == NULL) return mh_cid_error(MULTIHASH_CID_UNKNOWN_BASE, 0);
     size_t start = has_prefix ? 1 : 0, length = text_length - start;
     for (size_t i = start; i < text_length && i < most; i++) {
-        int value = mh_cid_value(digits, text[i]);
-        if (value < 0) return mh_cid_error(MULTIHASH_CID_INVALID_DIGIT, 0);
-        values[i - start] = (uint8_t)value;
+        values[i - start] = mh_cid_value(digits, text[i]);
+        if (values[i - start] == 255) return mh_cid_error(MULTIHASH_CID_INVALID_DIGIT, 0);
     }
     if (text_length > most) return mh_cid_error(MULTIHASH_CID_TOO_LONG, 0);
     if (base == 'z') {
@@ -308,6 +307,8 @@ static inline multihash_encoded multihash_cid_text(const uint8_t *bytes, size_t 
 static inline const char *multihash_cid_status_text(multihash_status status)
 {
     switch (status) {
+    case MULTIHASH_INSUFFICIENT:
+        return "the input is empty, or ends before or inside a varint";
     case MULTIHASH_CID_UNKNOWN_BASE:
         return "the text must start with b, f, z or Qm";
     case MULTIHASH_CID_INVALID_DIGIT:

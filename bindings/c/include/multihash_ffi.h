@@ -33,8 +33,23 @@ uint32_t multihash_ffi_scale_encode(uint64_t code, const uint8_t *digest, size_t
                                     size_t out_length, uint64_t *result);
 uint32_t multihash_ffi_write_varint(uint64_t value, uint8_t *out, size_t out_length, uint64_t *result);
 
+/* The functions of multihash_cid.h. An encoding of a CID has at most 276 bytes, and a text, with its zero byte, at most 554.
+ *
+ * version, codec, code, multihash_offset, digest_offset, digest_length, taken */
+uint32_t multihash_ffi_cid_from_bytes(const uint8_t *bytes, size_t bytes_length, uint64_t *result);
+uint32_t multihash_ffi_cid_read(const uint8_t *bytes, size_t bytes_length, uint64_t *result);
+uint32_t multihash_ffi_cid_parse(const char *text, size_t text_length, uint8_t *out, size_t out_length,
+                                 uint64_t *result);
+
+/* size, length */
+uint32_t multihash_ffi_cid_encode(uint64_t version, uint64_t codec, uint64_t code, const uint8_t *digest,
+                                  size_t digest_length, uint8_t *out, size_t out_length, uint64_t *result);
+uint32_t multihash_ffi_cid_text(const uint8_t *bytes, size_t bytes_length, char base, char *out, size_t out_length,
+                                uint64_t *result);
+
 /* Static strings; the name of an unknown code is a null pointer, and the code of an unknown name is 2^64 - 1. */
 const char *multihash_ffi_status_text(uint32_t status);
+const char *multihash_ffi_cid_status_text(uint32_t status);
 const char *multihash_ffi_name(uint64_t code);
 uint64_t multihash_ffi_code(const char *name);
 

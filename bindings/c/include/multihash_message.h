@@ -143,6 +143,8 @@ static inline int multihash_scale_message(char *text, size_t text_size, const ui
 static inline int multihash_encode_message(char *text, size_t text_size, multihash_encoded result, uint64_t code,
                                            size_t out_length)
 {
+    const uint64_t present = out_length, needed = result.length;
+
     switch (result.status) {
     case MULTIHASH_INVALID_SIZE:
         return mh_text_too_long(text, text_size, "digest", result.size, MULTIHASH_DIGEST_MAX);
@@ -150,7 +152,7 @@ static inline int multihash_encode_message(char *text, size_t text_size, multiha
         return mh_text_too_large(text, text_size, "code", code);
     case MULTIHASH_NO_ROOM:
         return snprintf(text, text_size, "the buffer has %" PRIu64 " byte%s, and %" PRIu64 " are needed",
-                        (uint64_t)out_length, out_length == 1 ? "" : "s", (uint64_t)result.length);
+                        present, present == 1 ? "" : "s", needed);
     default:
         return snprintf(text, text_size, "%s", multihash_status_text(result.status));
     }

@@ -3,6 +3,7 @@
 
 /* The functions of multihash_ffi.h: what the other headers define inline, and results through a pointer, as symbols of
  * the shared library. A program in C or C++ needs none of them. */
+#include "multihash_cid.h"
 #include "multihash_message.h"
 #include "multihash_names.h"
 
@@ -43,6 +44,16 @@ static uint32_t varint(multihash_varint from, uint64_t *result)
     return put(from.status, result, from.value, from.length);
 }
 
+static uint32_t cid(multihash_cid from, uint64_t *result)
+{
+    result[2] = from.code;
+    result[3] = from.multihash_offset;
+    result[4] = from.digest_offset;
+    result[5] = from.digest_length;
+    result[6] = from.taken;
+    return put(from.status, result, from.version, from.codec);
+}
+
 static uint32_t encoded(multihash_encoded from, uint64_t *result)
 {
     return put(from.status, result, from.size, from.length);
@@ -80,7 +91,23 @@ MH_FFI(uint32_t, scale_encode,
 MH_FFI(uint32_t, write_varint, (uint64_t value, uint8_t *out, size_t out_length, uint64_t *result),
        encoded(multihash_write_varint(value, out, out_length), result))
 
+MH_FFI(uint32_t, cid_from_bytes, (const uint8_t *bytes, size_t bytes_length, uint64_t *result),
+       cid(multihash_cid_from_bytes(bytes, bytes_length), result))
+MH_FFI(uint32_t, cid_read, (const uint8_t *bytes, size_t bytes_length, uint64_t *result),
+       cid(multihash_cid_read(bytes, bytes_length), result))
+MH_FFI(uint32_t, cid_parse,
+       (const char *text, size_t text_length, uint8_t *out, size_t out_length, uint64_t *result),
+       cid(multihash_cid_parse(text, text_length, out, out_length), result))
+MH_FFI(uint32_t, cid_encode,
+       (uint64_t version, uint64_t codec, uint64_t code, const uint8_t *digest, size_t digest_length, uint8_t *out,
+        size_t out_length, uint64_t *result),
+       encoded(multihash_cid_encode(version, codec, code, digest, digest_length, out, out_length), result))
+MH_FFI(uint32_t, cid_text,
+       (const uint8_t *bytes, size_t bytes_length, char base, char *out, size_t out_length, uint64_t *result),
+       encoded(multihash_cid_text(bytes, bytes_length, base, out, out_length), result))
+
 MH_FFI(const char *, status_text, (uint32_t status), multihash_status_text(status))
+MH_FFI(const char *, cid_status_text, (uint32_t status), multihash_cid_status_text(status))
 MH_FFI(const char *, name, (uint64_t code), multihash_name(code))
 MH_FFI(uint64_t, code, (const char *name), multihash_code(name))
 MH_FFI(int, is_incomplete, (uint32_t status), multihash_is_incomplete(status))

@@ -1,4 +1,4 @@
-/* What the files of the tests share: the macro CHECK, and functions. */
+/* What the files of the tests share. */
 #ifndef CHECK_H
 #define CHECK_H
 
@@ -17,15 +17,20 @@
         }                                                                       \
     } while (0)
 
-typedef multihash_encoded (*encoder)(uint64_t, const uint8_t *, size_t, uint8_t *, size_t);
+/* Returns zeros in a block of exactly that length, so that sanitizers see an access after its end; null for none. */
+static inline uint8_t *buffer(size_t length)
+{
+    uint8_t *bytes = length == 0 ? NULL : (uint8_t *)calloc(1, length);
+    CHECK(length == 0 || bytes != NULL);
+    return bytes;
+}
 
-/* inputs.c */
-uint8_t *buffer(size_t length);
-uint8_t *copy_of(const uint8_t *bytes, size_t length);
-void release(uint8_t *bytes);
-uint8_t *marked(size_t length);
-void check_marks(const uint8_t *bytes, size_t from, size_t length);
-uint8_t *sparse(uint64_t length);
+static inline uint8_t *copy_of(const uint8_t *bytes, size_t length)
+{
+    uint8_t *copy = buffer(length);
+    if (length > 0) memcpy(copy, bytes, length);
+    return copy;
+}
 
 /* verdicts.c */
 void replay(const char *name);

@@ -56,13 +56,14 @@ static void check_result(multihash_cid cid, const uint8_t *bytes, const char *co
     CHECK(cid.multihash_offset < cid.digest_offset && cid.digest_offset + cid.digest_length == cid.taken);
 }
 
-/* Whether a buffer has zeros alone, as before a call. */
-static int is_zero(const uint8_t *out, size_t room)
+/* Whether a call wrote the bytes to `out`, or, after an error, left the zeros there. */
+static int is_written(multihash_status status, const uint8_t *out, size_t room, const void *bytes, size_t length)
 {
+    if (status == MULTIHASH_OK) return length <= room && memcmp(out, bytes, length) == 0;
     for (size_t i = 0; i < room; i++) {
         if (out[i] != 0) return 0;
     }
-    return 1;
+    return status == MULTIHASH_NO_ROOM && room < length;
 }
 
 /* Each function makes the same of a CID, and fails for each smaller buffer, which is unchanged. */
@@ -70,21 +71,19 @@ static void check_rooms(multihash_cid cid, const uint8_t *bytes, const char *tex
 {
     const uint8_t *of_digest = bytes + cid.digest_offset;
     for (size_t room = 0; room <= text_length + 1; room++) {
-        uint8_t *out = buffer(room), *out_of_text = buffer(room);
+        uint8_t *encoding = buffer(room), *parsed = buffer(room), *shown = buffer(room);
         multihash_encoded made =
-            multihash_cid_encode(cid.version, cid.codec, cid.code, of_digest, cid.digest_length, out, room);
-        CHECK(made.length == cid.taken && made.status == (room < cid.taken ? MULTIHASH_NO_ROOM : MULTIHASH_OK));
-        CHECK(made.status == MULTIHASH_OK ? memcmp(out, bytes, cid.taken) == 0 : is_zero(out, room));
-        multihash_cid found = multihash_cid_parse(text, text_length, out, room);
-        CHECK(found.taken == cid.taken && found.status == made.status);
-        CHECK(found.status == MULTIHASH_OK ? memcmp(out, bytes, cid.taken) == 0 : is_zero(out, room));
-        made = multihash_cid_text(bytes, cid.taken, cid.version == 0 ? 'z' : text[0], (char *)out_of_text, room);
-        CHECK(made.status == (room < text_length + 1 ? MULTIHASH_NO_ROOM : MULTIHASH_OK));
+            multihash_cid_encode(cid.version, cid.codec, cid.code, of_digest, cid.digest_length, encoding, room);
+        CHECK(made.length == cid.taken && is_written(made.status, encoding, room, bytes, cid.taken));
+        multihash_cid found = multihash_cid_parse(text, text_length, parsed, room);
+        CHECK(found.taken == cid.taken && is_written(found.status, parsed, room, bytes, cid.taken));
+        made = multihash_cid_text(bytes, cid.taken, cid.version == 0 ? 'z' : text[0], (char *)shown, room);
+        CHECK(is_written(made.status, shown, room, text, made.status == MULTIHASH_OK ? text_length : text_length + 1));
         CHECK(made.length == text_length + (made.status != MULTIHASH_OK));
-        CHECK(made.status == MULTIHASH_OK ? memcmp(out_of_text, text, text_length) == 0 : is_zero(out_of_text, room));
-        CHECK(made.status != MULTIHASH_OK || out_of_text[text_length] == '\0');
-        release(out);
-        release(out_of_text);
+        CHECK(made.status != MULTIHASH_OK || shown[text_length] == '\0');
+        free(encoding);
+        free(parsed);
+        free(shown);
     }
 }
 
@@ -108,9 +107,9 @@ static void check_line(char *line)
         CHECK(multihash_cid_read(bytes, bytes_length + 9).taken == bytes_length);
         check_rooms(cid, input, (const char *)text, length);
     }
-    release(text);
-    release(input);
-    release(out);
+    free(text);
+    free(input);
+    free(out);
 }
 
 static void check_encode(multihash_status status, uint64_t version, uint64_t codec, uint64_t code, size_t digest_length)
@@ -139,6 +138,7 @@ void check_cids(void)
     }
     CHECK(multihash_cid_text(bytes, length - 1, 'z', text, sizeof text).status == MULTIHASH_UNEXPECTED_EOF);
     CHECK(text[0] == '\0' && strcmp(multihash_cid_status_text(99), "unknown status") == 0);
+    CHECK(strstr(multihash_cid_status_text(multihash_cid_parse(text, 0, bytes, length).status), "empty") != NULL);
 }
 
 void replay_cids(const char *name)

@@ -1,9 +1,11 @@
--- Calls each function of multihash_ffi.h, which do what those of multihash.h do: luajit ffi.lua HEADER LIBRARY
+-- Calls each function of multihash_ffi.h, which do what those of the other headers do; of CIDs over the list cids.tsv.
+--
+--   luajit ffi.lua HEADER LIBRARY CIDS
 local ffi = require 'ffi'
-local header, library = ...
+local header, library, cids = ...
 ffi.cdef(assert(io.open(header)):read('*a'))
 local C = ffi.load(library)
-local result, text, out = ffi.new('uint64_t[5]'), ffi.new('char[128]'), ffi.new('uint8_t[300]')
+local result, text, out = ffi.new('uint64_t[7]'), ffi.new('char[554]'), ffi.new('uint8_t[300]')
 local BINARY, SCALE, PADDED = '\18\3abc', '\18\0\0\0\0\0\0\0\3abc', '\128\0'
 local LARGE = 0x8000000000000000ULL -- a code that is none
 
@@ -53,3 +55,36 @@ same(ffi.string(C.multihash_ffi_name(18)), 'sha2-256')
 same(C.multihash_ffi_name(1), nil)
 same(C.multihash_ffi_code('sha2-256'), 18ULL)
 same(C.multihash_ffi_code('none'), -1ULL)
+
+-- CIDs: each row that has one, from its text and its bytes to the other.
+local function unhex(digits)
+  return (digits:gsub('^-$', ''):gsub('%x%x', function(pair) return string.char(tonumber(pair, 16)) end))
+end
+local bytes, found = ffi.new('uint8_t[276]'), 0
+for line in io.lines(cids) do
+  local of_cid, fields, digest, encoding = line:match('^(%w+)\tcid (%d+ %d+ %d+) (%S+)\t(%x+)$')
+  if of_cid then
+    digest, encoding, found = unhex(digest), unhex(encoding), found + 1
+    local function same_cid(status)
+      same(status, 0)
+      local version, codec, code = tostring(result[0]), tostring(result[1]), tostring(result[2])
+      same((version .. ' ' .. codec .. ' ' .. code):gsub('ULL', ''), fields)
+      same(encoding:sub(tonumber(result[4]) + 1, tonumber(result[4] + result[5])), digest)
+      same(tonumber(result[6]), #encoding)
+    end
+    same_cid(C.multihash_ffi_cid_parse(of_cid, #of_cid, bytes, 276, result))
+    same(ffi.string(bytes, result[6]), encoding)
+    same_cid(C.multihash_ffi_cid_from_bytes(encoding, #encoding, result))
+    same_cid(C.multihash_ffi_cid_read(encoding .. 'd', #encoding + 1, result))
+    local version, codec, code = result[0], result[1], result[2]
+    check({0, 0, #encoding}, C.multihash_ffi_cid_encode(version, codec, code, digest, #digest, bytes, 276, result))
+    same(ffi.string(bytes, #encoding), encoding)
+    local base = version == 0 and 'z' or of_cid:sub(1, 1)
+    check({0, 0, #of_cid}, C.multihash_ffi_cid_text(encoding, #encoding, base:byte(), text, 554, result))
+    same(ffi.string(text), of_cid)
+  end
+end
+same(found > 0, true)
+same(ffi.string(C.multihash_ffi_cid_status_text(21)), 'the version is unknown')
+same(ffi.string(C.multihash_ffi_cid_status_text(C.multihash_ffi_cid_parse('', 0, bytes, 276, result))),
+  'the input is empty, or ends before or inside a varint')

@@ -1,66 +1,13 @@
-/* The tests of the library: test vectors, streams, varints, large buffers and messages. They are for what compilers make
- * of it: `proof` checks the source for all inputs. C11 and C++17. Exits with status 1 at the first error.
+/* The tests of the library: test vectors, varints, names, messages and frames. They are for what compilers make of
+ * multihash.c, which `proof` checks for all inputs, and for the other headers. C11. Exits with status 1 at the first error.
  *
  *   test LIST..     LIST is a list of crates/vectors/data; one of CIDs has cids in its name */
 #include "check.h"
+#include "multihash_frame.h"
 #include "multihash_message.h"
 #include "multihash_names.h"
 
-enum { ITEMS = 36 };
-
-/* Encodings one after another, of codes and digests of several lengths: all prefixes, with room for each number. */
-static void check_streams(void)
-{
-    static const uint64_t codes[] = {0, 127, 128, 0x1012, 16384, INT64_MAX};
-    static const size_t lengths[] = {0, 1, 32, 127, 128, 255};
-    static const uint8_t digest[MULTIHASH_DIGEST_MAX] = {0};
-    static uint8_t bytes[ITEMS * MULTIHASH_LENGTH_MAX];
-    multihash_item items[ITEMS]; /* has no padding */
-    size_t starts[ITEMS + 1] = {0}, whole = 0;
-    for (size_t i = 0; i < ITEMS; i++) {
-        size_t at = starts[i], length = lengths[i % 6];
-        starts[i + 1] = at + multihash_encode(codes[i / 6], digest, length, bytes + at, sizeof bytes - at).length;
-        multihash_item item = {codes[i / 6], starts[i + 1] - length, length};
-        items[i] = item;
-    }
-    for (size_t part = 0; part <= starts[ITEMS]; part++) {
-        uint8_t *input = copy_of(bytes, part);
-        if (whole < ITEMS && starts[whole + 1] == part) whole++;
-        for (size_t room = 0; room <= ITEMS + 1; room++) {
-            uint8_t *out = marked(room * sizeof *items);
-            multihash_batch batch = multihash_read_many(input, part, (multihash_item *)(void *)out, room);
-            size_t count = room < whole ? room : whole;
-            int is_end = count == room || starts[count] == part;
-            CHECK(batch.count == count && batch.taken == starts[count] && batch.size == 0);
-            if (is_end) {
-                CHECK(batch.status == MULTIHASH_OK);
-            } else {
-                int is_head = part < items[count].digest_offset;
-                CHECK(batch.status == (is_head ? MULTIHASH_INSUFFICIENT : MULTIHASH_UNEXPECTED_EOF));
-            }
-            CHECK(count == 0 || memcmp(out, items, count * sizeof *items) == 0);
-            check_marks(out, count * sizeof *items, room * sizeof *items);
-            release(out);
-        }
-        release(input);
-    }
-}
-
-/* Writes a number into buffers of each size. */
-static void check_writing(uint64_t value, const uint8_t *wanted, size_t length)
-{
-    for (size_t room = 0; room <= length + 1; room++) {
-        uint8_t *out = marked(room);
-        multihash_encoded result = multihash_write_varint(value, out, room);
-        size_t written = room < length ? 0 : length;
-        CHECK(result.status == (written == 0 ? MULTIHASH_NO_ROOM : MULTIHASH_OK) && result.length == length);
-        CHECK(written == 0 || memcmp(out, wanted, length) == 0);
-        check_marks(out, written, room);
-        release(out);
-    }
-}
-
-/* Varints, and what is malformed, each alone and before the zero byte that ends the text. */
+/* Numbers where a varint gets longer, and what is malformed. */
 static void check_varints(void)
 {
     static const struct {
@@ -72,55 +19,75 @@ static void check_varints(void)
         {MULTIHASH_OK, 0, 1, "\0"},
         {MULTIHASH_OK, 127, 1, "\x7f"},
         {MULTIHASH_OK, 128, 2, "\x80\1"},
+        {MULTIHASH_OK, 255, 2, "\xff\1"},
+        {MULTIHASH_OK, 300, 2, "\xac\2"},
         {MULTIHASH_OK, 16383, 2, "\xff\x7f"},
         {MULTIHASH_OK, 16384, 3, "\x80\x80\1"},
-        {MULTIHASH_OK, 0xb220, 3, "\xa0\xe4\2"},
+        {MULTIHASH_OK, 2097151, 3, "\xff\xff\x7f"},
+        {MULTIHASH_OK, 2097152, 4, "\x80\x80\x80\1"},
+        {MULTIHASH_OK, (uint64_t)1 << 56, 9, "\x80\x80\x80\x80\x80\x80\x80\x80\1"},
         {MULTIHASH_OK, INT64_MAX, 9, "\xff\xff\xff\xff\xff\xff\xff\xff\x7f"},
-        {MULTIHASH_INSUFFICIENT, 0, 0, ""},
-        {MULTIHASH_INSUFFICIENT, 0, 2, "\x80\x80"},
         {MULTIHASH_INSUFFICIENT, 0, 8, "\x80\x80\x80\x80\x80\x80\x80\x80"},
         {MULTIHASH_NOT_MINIMAL, 0, 3, "\x81\x80\0"},
         {MULTIHASH_OVERFLOW, 0, 9, "\x80\x80\x80\x80\x80\x80\x80\x80\x80"},
-        {MULTIHASH_OVERFLOW, 0, 10, "\x80\x80\x80\x80\x80\x80\x80\x80\x80\1"},
     };
+    uint8_t out[MULTIHASH_VARINT_LENGTH_MAX];
     for (size_t i = 0; i < sizeof rows / sizeof rows[0]; i++) {
-        const uint8_t *bytes = (const uint8_t *)rows[i].bytes;
-        const int is_ok = rows[i].status == MULTIHASH_OK, more = rows[i].status != MULTIHASH_INSUFFICIENT;
-        for (size_t length = rows[i].length; length <= rows[i].length + (more ? 1 : 0); length++) {
-            uint8_t *input = copy_of(bytes, length);
-            multihash_varint result = multihash_read_varint(input, length);
-            CHECK(result.status == rows[i].status && result.value == rows[i].value);
-            CHECK(result.length == (is_ok ? rows[i].length : 0));
-            release(input);
-        }
-        if (is_ok) check_writing(rows[i].value, bytes, rows[i].length);
+        const int is_ok = rows[i].status == MULTIHASH_OK;
+        uint8_t *input = copy_of((const uint8_t *)rows[i].bytes, rows[i].length);
+        multihash_varint found = multihash_read_varint(input, rows[i].length);
+        CHECK(found.status == rows[i].status && found.value == rows[i].value);
+        CHECK(found.length == (is_ok ? rows[i].length : 0));
+        multihash_encoded made = multihash_write_varint(rows[i].value, out, sizeof out);
+        CHECK(!is_ok || (made.length == rows[i].length && memcmp(out, input, made.length) == 0));
+        free(input);
     }
-    uint8_t out[10] = {0};
-    multihash_encoded result = multihash_write_varint((uint64_t)INT64_MAX + 1, out, sizeof out);
-    CHECK(result.status == MULTIHASH_OVERFLOW && result.length == 0 && out[0] == 0);
+    CHECK(multihash_write_varint((uint64_t)1 << 63, out, sizeof out).status == MULTIHASH_OVERFLOW);
 }
 
-/* Lengths that no buffer has, of which nothing is accessed but the head, and buffers of more than 2^32 bytes. */
-static void check_large(void)
+/* A stream in memory, and what was read of it. */
+struct memory {
+    const uint8_t *bytes;
+    size_t length, at;
+};
+
+static size_t read_memory(void *stream, uint8_t *to, size_t length)
 {
-    static const uint8_t digest[] = {7}, head[] = {18, 1};
-    CHECK(multihash_encoded_len(0, SIZE_MAX).size == SIZE_MAX);
-    CHECK(multihash_encode(0, digest, SIZE_MAX, NULL, 0).size == SIZE_MAX);
-    CHECK(multihash_scale_encode(0, digest, SIZE_MAX, NULL, 0).status == MULTIHASH_INVALID_SIZE);
-    CHECK(multihash_from_prefix(head, sizeof head, SIZE_MAX).size == SIZE_MAX - 3);
-    const uint64_t length = ((uint64_t)1 << 32) + 300;
-    const size_t room = (size_t)length;
-    uint8_t *bytes = sparse(length);
-    if (bytes == NULL) return;
-    CHECK(multihash_scale_encode(18, digest, sizeof digest, bytes, room).length == 10);
-    CHECK(multihash_scale_decode(bytes, room).taken == 10);
-    CHECK(multihash_encode(18, digest, sizeof digest, bytes, room).length == 3);
-    CHECK(multihash_read(bytes, room).taken == 3 && multihash_head(bytes, room).taken == 2);
-    CHECK(multihash_from_bytes(bytes, room).size == room - 3 && multihash_read_varint(bytes, room).length == 1);
-    CHECK(multihash_put_status_text(MULTIHASH_OK, bytes + 3, room - 3).length == 2);
-    /* the first bytes differ */
-    CHECK(multihash_compare(18, bytes, room - 1, 18, bytes + 1, room - 1) == 1);
-    CHECK(multihash_compare(18, bytes + 1, room - 1, 18, bytes, room - 1) == -1);
+    struct memory *from = (struct memory *)stream;
+    if (length > from->length - from->at) length = from->length - from->at;
+    memcpy(to, from->bytes + from->at, length);
+    from->at += length;
+    return length;
+}
+
+/* A stream of frames that ends at each byte: the frames before its end, and how it ends. */
+static void check_cut_frames(void)
+{
+    static const size_t ends[] = {0, 1, 5, 137};
+    static const uint8_t bytes[137] = {0, 3, 'a', 'b', 'c', 130, 1, 'd', 'e', 'f'};
+    uint8_t out[130];
+    for (size_t cut = 0; cut <= sizeof bytes; cut++) {
+        struct memory from = {bytes, cut, 0};
+        multihash_frame frame = multihash_read_frame(read_memory, &from, out, sizeof out);
+        size_t count = 0;
+        for (; frame.status == MULTIHASH_OK; frame = multihash_read_frame(read_memory, &from, out, sizeof out)) {
+            CHECK(from.at == ends[++count] && frame.taken == from.at - ends[count - 1]);
+            CHECK(memcmp(out, bytes + from.at - frame.length, (size_t)frame.length) == 0);
+        }
+        CHECK(count == 3 || cut < ends[count + 1]);
+        multihash_status at_varint = cut == ends[count] ? MULTIHASH_FRAME_END : MULTIHASH_INSUFFICIENT;
+        CHECK(frame.status == (cut > ends[count] && cut != 6 ? MULTIHASH_UNEXPECTED_EOF : at_varint));
+        CHECK(frame.taken == cut - ends[count]);
+    }
+}
+
+/* A frame is rejected, and no byte after its varint is read. */
+static void check_rejected_frame(const char *bytes, multihash_status status, uint64_t length, size_t taken)
+{
+    uint8_t out[130];
+    struct memory from = {(const uint8_t *)bytes, 10, 0};
+    multihash_frame frame = multihash_read_frame(read_memory, &from, out, sizeof out);
+    CHECK(frame.status == status && frame.length == length && frame.taken == taken && from.at == taken);
 }
 
 static void check_version(void)
@@ -130,6 +97,7 @@ static void check_version(void)
     snprintf(text, sizeof text, "%u.%u.%u", number / 10000, number / 100 % 100, number % 100);
     CHECK(number == MULTIHASH_VERSION_NUMBER);
     CHECK(strcmp(text, MULTIHASH_VERSION) == 0);
+    CHECK(multihash_put_status_text(MULTIHASH_OK, (uint8_t *)text, sizeof text).length == 2 && memcmp(text, "ok", 2) == 0);
 }
 
 /* Names that hashes.tsv and codes.tsv do not have: of BLAKE2 and Skein by their lengths, and what is none. */
@@ -187,7 +155,7 @@ static void check_messages(void)
     CHECK(multihash_from_prefix(front, MULTIHASH_HEAD_MAX, 1000).size == INT64_MAX);
     check_message_is(multihash_message(message, sizeof message, front, 1000, any),
                      "the digest has 9223372036854775807 bytes, and the limit is 255");
-    release(front);
+    free(front);
     check_message_is(multihash_message(message, sizeof message, digest, 1000, any), "998 bytes follow the multihash");
 
     /* a truncated message, as of snprintf, and what is no error */
@@ -195,21 +163,17 @@ static void check_messages(void)
     CHECK(multihash_message(NULL, 0, ok, 0, any) == 18);
     check_message_is(multihash_message(message, sizeof message, ok, sizeof ok, any), "ok");
     check_message_is(multihash_encode_message(message, sizeof message, multihash_encoded_len(0, 0), 0, 0), "ok");
-    FILE *file = tmpfile();
-    CHECK(file != NULL && multihash_print_message(file, ok, 0, any) == 19);
-    rewind(file);
-    CHECK(fgets(message, sizeof message, file) != NULL && strcmp(message, "the input is empty\n") == 0);
-    fclose(file);
-    CHECK(multihash_print_message(stdin, ok, 0, any) == fprintf(stdin, "the input is empty\n"));
     check_message_is(multihash_scale_message(message, sizeof message, scale_ok, sizeof scale_ok), "ok");
 }
 
 int main(int argc, char **argv)
 {
-    CHECK(argc > 1 && buffer(0) == NULL);
-    check_streams();
+    CHECK(argc > 1);
     check_varints();
-    check_large();
+    check_cut_frames();
+    check_rejected_frame("\x83\1abcdefgh", MULTIHASH_NO_ROOM, 131, 2);
+    check_rejected_frame("\x80\0abcdefgh", MULTIHASH_NOT_MINIMAL, 0, 2);
+    check_rejected_frame("\x80\x80\x80\x80\x80\x80\x80\x80\x80\1", MULTIHASH_OVERFLOW, 0, 9);
     check_version();
     check_names();
     check_messages();

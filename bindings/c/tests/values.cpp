@@ -1,5 +1,5 @@
-/* The tests of multihash.hpp: values of each row of the test vectors. C++17 and C++20. Exits with status 1 at the first
- * error.
+/* The tests of multihash.hpp: values and CIDs of each row of the test vectors. C++17 and C++20. Exits with status 1 at the
+ * first error.
  *
  *   values FOLDER     crates/vectors/data */
 #include "check.h"
@@ -12,6 +12,7 @@
 #include <unordered_set>
 #include <vector>
 
+using multihash::cid;
 using multihash::value;
 using row = std::vector<std::string>;
 
@@ -37,13 +38,16 @@ static std::string bytes_of(const std::string &digits)
     return bytes;
 }
 
-/* A value as columns have it. */
-static std::string shown(const value &pair)
+/* A value, and a CID, as columns have them. */
+static std::string shown(const value &pair, std::string word = "pair ")
 {
-    std::ostringstream text;
-    text << "pair " << pair.code() << " ";
     const std::string digits = pair.hex().substr(2 * (pair.bytes().size() - pair.digest().size()));
-    return text.str() + (digits.empty() ? "-" : digits);
+    return word + std::to_string(pair.code()) + " " + (digits.empty() ? "-" : digits);
+}
+
+static std::string shown(const cid &found)
+{
+    return shown(found.multihash(), "cid " + std::to_string(found.version()) + " " + std::to_string(found.codec()) + " ");
 }
 
 /* The first word of a column has the same status each time, and no other word has it. */
@@ -112,25 +116,46 @@ static void check_order(const row &columns)
     CHECK(std::unordered_set<value>({left, right}).size() == (order == 0 ? 1 : 2));
 }
 
+/* A text, what it is, and the bytes. */
+static void check_cid(const row &columns)
+{
+    static std::set<cid> sorted;
+    static std::unordered_set<cid> hashed;
+    static std::set<std::string> encodings;
+    const std::string text = columns[0] == "-" ? "" : columns[0], bytes = bytes_of(columns[2]), more = bytes + "d";
+    if (text.find('\\') != std::string::npos) return; // a byte that is written by its number
+    check([&] { return cid::parse(text); }, columns[1]);
+    if (columns[1].substr(0, 4) != "cid ") return;
+    const cid found = cid::decode(bytes);
+    std::string_view rest = more;
+    CHECK(cid::read(rest) == found && rest == "d" && found.bytes() == bytes);
+    CHECK(cid(found.version(), found.codec(), found.multihash()) == found && cid::parse(found.text()) == found);
+    CHECK(found.text(found.version() == 0 ? 'z' : text[0]) == text);
+    sorted.insert(found);
+    hashed.insert(found);
+    encodings.insert(bytes);
+    CHECK(sorted.size() == encodings.size() && hashed.size() == encodings.size());
+}
+
+/* A call throws an error with that message. */
+template <typename Call> static void check_message(Call call, const std::string &message)
+{
+    try {
+        call();
+        CHECK(false); // an error was expected
+    } catch (const std::invalid_argument &error) {
+        CHECK(error.what() == message);
+    }
+}
+
 static void check_texts()
 {
-    static const struct {
-        const char *text, *message;
-    } rows[] = {
-        {"120", "the text has an odd number of digits"},
-        {"1g", "the text has a character that is no digit"},
-        {"12 1", "the text has a character that is no digit"},
-        {"1203aabb", "the input ends inside the digest (2 of 3 bytes)"},
-        {"", "the input is empty"},
-    };
-    for (const auto &each : rows) {
-        try {
-            value::from_hex(each.text);
-            CHECK(false); // an error was expected
-        } catch (const std::invalid_argument &error) {
-            CHECK(std::string(error.what()) == each.message);
-        }
-    }
+    check_message([] { value::from_hex("120"); }, "the text has an odd number of digits");
+    check_message([] { value::from_hex("1g"); }, "the text has a character that is no digit");
+    check_message([] { value::from_hex("1203aabb"); }, "the input ends inside the digest (2 of 3 bytes)");
+    check_message([] { value::from_hex(""); }, "the input is empty");
+    check_message([] { cid(2, MULTIHASH_CID_RAW, value()); }, "the version is unknown");
+    check_message([] { cid(1, MULTIHASH_CID_RAW, value()).text('Q'); }, "the text must start with b, f, z or Qm");
     CHECK(value::from_hex("1202aAfF") == value(0x12, "\xaa\xff") && value() == value(0, ""));
     CHECK(value(0x12, "").name() == "sha2-256" && value(1, "").name().empty());
     value from(0x12, "abc"), to = std::move(from);
@@ -146,6 +171,7 @@ int main(int argc, char **argv)
     for (const row &columns : rows_of(folder + "/values.tsv")) {
         (columns[0] == "order" ? check_order : check_value)(columns);
     }
+    for (const row &columns : rows_of(folder + "/cids.tsv")) check_cid(columns);
     check_texts();
     puts("passed");
 }

@@ -1,0 +1,66 @@
+/* SPDX-License-Identifier: MIT
+ * Copyright (c) 2026 The Gilmekhus developers */
+
+/* Frames of a stream: a varint, and then as many bytes, such as a section of a CAR file or a message of libp2p. The
+ * function is defined in the header, over multihash.h. It needs no C library, and allocates nothing. */
+#ifndef MULTIHASH_FRAME_H
+#define MULTIHASH_FRAME_H
+
+#include "multihash.h"
+
+#ifdef __cplusplus
+extern "C" {
+#endif
+
+/* The status of a stream that ends where a frame would start, besides those of multihash.h. */
+#define MULTIHASH_FRAME_END 32
+
+/* Reads up to `length` bytes of a stream to `to`. Returns the number of bytes read. As with fread, which it may call, that
+ * is less than `length` only if the stream ends or fails. */
+typedef size_t multihash_stream_read(void *stream, uint8_t *to, size_t length);
+
+/* The result of reading a frame. */
+typedef struct multihash_frame {
+    multihash_status status;
+    uint64_t length; /* once its varint was read: the frame's length in bytes, without the varint; below 2^63 */
+    size_t taken;    /* always: the number of bytes read from the stream */
+} multihash_frame;
+
+/* Reads the next frame of a stream, and no byte after it. Its bytes without the varint are written to `out`, which has
+ * `out_length` bytes: the longest frame that is accepted. `read` is called with `stream`, once for each byte of the varint,
+ * and once for the rest.
+ *
+ * Returns: the frame's length.
+ * Errors:  MULTIHASH_FRAME_END if the stream has no more bytes; MULTIHASH_INSUFFICIENT if it ends inside the varint, and
+ *          MULTIHASH_UNEXPECTED_EOF after it; MULTIHASH_OVERFLOW, MULTIHASH_NOT_MINIMAL; MULTIHASH_NO_ROOM if the frame is
+ *          longer than `out`: its bytes are not read yet. The stream itself has to tell whether it ended or failed, as
+ *          ferror does for a file. */
+static inline multihash_frame multihash_read_frame(multihash_stream_read *read, void *stream, uint8_t *out,
+                                                   size_t out_length)
+{
+    uint8_t bytes[MULTIHASH_VARINT_LENGTH_MAX];
+    multihash_frame frame = {MULTIHASH_FRAME_END, 0, 0};
+
+    do {
+        if (read(stream, bytes + frame.taken, 1) == 0) return frame;
+        frame.taken++;
+        multihash_varint varint = multihash_read_varint(bytes, frame.taken);
+        frame.status = varint.status;
+        frame.length = varint.value;
+    } while (frame.status == MULTIHASH_INSUFFICIENT);
+    if (frame.status != MULTIHASH_OK) return frame;
+    if (frame.length > out_length) {
+        frame.status = MULTIHASH_NO_ROOM;
+        return frame;
+    }
+    size_t length = frame.length & SIZE_MAX, got = read(stream, out, length);
+    frame.taken += got;
+    if (got < length) frame.status = MULTIHASH_UNEXPECTED_EOF;
+    return frame;
+}
+
+#ifdef __cplusplus
+}
+#endif
+
+#endif
