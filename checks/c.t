@@ -56,27 +56,25 @@ exports() {
   nm -D --defined-only "$prefix/lib/libmultihash_c.so" | sed -n 's/.* T \(\w*\).*/\1/p' | sort |
     diff - <(cat "$c"/include/multihash{,_ffi}.h | grep -oP '^(?!static)\w.*\b\Kmultihash_\w+(?=\()' | sort)
 }
-# A project of CMake, which ends with the lines of the standard input, with each library. Further words are options.
+
+# A project of CMake, which ends with the lines of the standard input. Further words are options.
 in_project() {
-  local kind to=$1
+  local to=$work/$1
   mkdir "$to"
-  { printf '%s\n' "$(grep ^cmake_minimum_required CMakeLists.txt)" 'project(example VERSION 7 LANGUAGES C)' \
-    "add_executable(program $c/examples/mh_show.c)"; cat; } > "$to/CMakeLists.txt"
-  for kind in shared static; do
-    cmake -S "$to" -B "$to/$kind" -Dkind=$kind "${@:2}"
-    cmake --build "$to/$kind"
-    "$to/$kind/program" < crates/mh_show/stdin | diff - crates/mh_show/stdout
-  done
+  { grep ^cmake_minimum_required CMakeLists.txt; echo 'project(example VERSION 7 LANGUAGES C)'
+    echo "add_executable(program $c/examples/mh_show.c)"; cat; } > "$to/CMakeLists.txt"
+  cmake -S "$to" -B "$to/build" "${@:2}"
+  cmake --build "$to/build"
+  "$to/build/program" < crates/mh_show/stdin | diff - crates/mh_show/stdout
 }
-# As the page says, over what find_package finds, and with the repository as a part, which installs nothing unless told.
+# As the page says, over what find_package finds, and with the repository as a part: it installs nothing unless told, and
+# exports its functions even where a project hides them.
 in_projects() {
-  # shellcheck disable=SC2016 # what CMake expands
-  block_of bindings/c/README.md cmake | sed 's/::shared/::${kind}/' | in_project "$work/finds" "-DCMAKE_PREFIX_PATH=$prefix"
-  # shellcheck disable=SC2016
+  block_of bindings/c/README.md cmake | in_project finds "-DCMAKE_PREFIX_PATH=$prefix"
   sed -n '/^include(FetchContent)/,/^```/p' bindings/c/README.md |
-    sed "/^\`/d; s|URL [^ )]*|SOURCE_DIR \"$top\"|; s/::static/::\${kind}/" |
-    in_project "$work/parent" -DCMAKE_C_VISIBILITY_PRESET=hidden -DCMAKE_INSTALL_PREFIX="$work/parent/prefix"
-  cmake --install "$work/parent/static"
+    sed "/^\`/d; s|URL [^ )]*|SOURCE_DIR \"$top\"|; s/::static/::shared/" |
+    in_project parent -DCMAKE_C_VISIBILITY_PRESET=hidden -DCMAKE_INSTALL_PREFIX="$work/parent/prefix"
+  cmake --install "$work/parent/build"
   [ ! -e "$work/parent/prefix" ]
 }
 

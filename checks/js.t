@@ -6,18 +6,8 @@
 here=$PWD/bindings/js vectors=$PWD/crates/vectors/data
 node=node=20.19+ # this version too has what the package needs, but its support has ended
 
-# All tests, or those that words choose. No process may take more than that CPU time.
-npm_test() { (cd "$here"; ulimit -t 600; npm test -- "$@"); }
-
-# Inputs that are drawn have the results that verdicts.py and cids.py compute.
-drawn() {
-  mkdir "$work/drawn"
-  cp "$vectors"/{hashes,messages,values}.tsv "$work/drawn"
-  crates/vectors/verdicts.py --draw 1 3000 > "$work/drawn/verdicts.tsv"
-  crates/vectors/verdicts.py --more 1 3000 | sed -n '/^order/p' >> "$work/drawn/verdicts.tsv"
-  crates/vectors/cids.py --draw 1 3000 > "$work/drawn/cids.tsv"
-  MULTIHASH_VERDICTS=$work/drawn/verdicts.tsv npm_test --test-name-pattern=vectors
-}
+# No process may take more than that CPU time.
+npm_test() { (cd "$here"; ulimit -t 600; npm test); }
 
 # What is packed is installed elsewhere and imported from CommonJS too.
 packed() {
@@ -66,9 +56,7 @@ inspector() {
   in_browser chromium "file://$work/tested.html"
 }
 
-export MULTIHASH_VERDICTS=$vectors/verdicts.tsv
 needs="$node npm" try "in Node.js" npm_test
-needs="$node npm" try "drawn inputs" drawn
 ONLY='' needs="$node npm" try "the packed package" packed
 needs="$node npm esbuild" try "a bundle of the packed package" bundle
 needs="$node npm tsc" try "the packed package's types" packed_types

@@ -28,15 +28,6 @@ unit_tests() {
   prints "Ran " env "${@:2}" "$python" -m unittest discover -s "$1"
 }
 
-# Inputs that are drawn have the results that verdicts.py and cids.py compute.
-drawn() {
-  mkdir "$work/drawn"
-  crates/vectors/verdicts.py --draw 1 3000 > "$work/drawn/verdicts.tsv"
-  crates/vectors/cids.py --draw 1 3000 > "$work/drawn/cids.tsv"
-  MULTIHASH_VERDICTS=$work/drawn/verdicts.tsv \
-    "$python" -m unittest discover -s "$here/tests" -k Vectors -k test_cid.Cids.test_vectors
-}
-
 # The sdist is all that is needed; the interpreter loads the sanitizers first.
 sdist_under_sanitizers() {
   mkdir "$work/sdist"
@@ -58,7 +49,6 @@ types() {
 
 ONLY='' try "the wheel, installed" wheel
 try "the tests" unit_tests "$here/tests" PYTHONMALLOC=debug # which sees a write after a block
-try "drawn inputs" drawn
 needs="mypy stubtest" try "types" types
 try "the sdist, under sanitizers" sdist_under_sanitizers
 finish

@@ -1,6 +1,6 @@
 #!/usr/bin/env bash
-# The packages for Rust: their tests over the test vectors and drawn inputs, with and without std, by other versions and
-# on other targets, beside other crates; the packages as packed, and in place of upstream's; serde; lints.
+# The packages for Rust: their tests over the test vectors, with and without std, by other versions and on other targets,
+# beside other crates; the packages as packed, and in place of upstream's; serde; lints.
 # shellcheck source=checks/lib/tap.sh
 . "$(dirname "$0")/lib/tap.sh"
 registry=/usr/share/cargo/registry
@@ -25,14 +25,13 @@ all_tests() {
   tests verified-multihash "$@"
   tests multihash "$@"
 }
-list=MULTIHASH_VERDICTS=$work/list
 
 # The tests pass, optimized too, and the pages have no warnings.
 rust_tests() {
   in_crate verified-multihash cargo doc --no-deps --features serde
   in_crate multihash cargo doc --no-deps --features serde
-  all_tests "$list" cargo test
-  all_tests "$list" cargo test --features serde --release
+  all_tests cargo test
+  all_tests cargo test --features serde --release
 }
 
 without_std() {
@@ -46,7 +45,7 @@ debians_rust() { all_tests PATH=/usr/bin:/bin CARGO_TARGET_DIR="$work/debian" ca
 on_target() {
   local variable=CARGO_TARGET_${1^^}
   variable=${variable//-/_}
-  all_tests "$list" RUSTFLAGS="-C target-feature=+crt-static" "${variable}_LINKER=$2" "${variable}_RUNNER=$3" \
+  all_tests RUSTFLAGS="-C target-feature=+crt-static" "${variable}_LINKER=$2" "${variable}_RUNNER=$3" \
     cargo test --target "$1" --tests
 }
 
@@ -96,9 +95,6 @@ rust_lints() {
 }
 
 in_crate . true # makes the copies
-# the test vectors and drawn inputs, with the results that verdicts.py computes
-crates/vectors/verdicts.py --more 1 10000 > "$work/list"
-cp crates/vectors/data/{messages,values}.tsv "$work"
 needs=$cargo try "the tests" rust_tests
 needs=$bare try "the tests without std" without_std
 needs="/usr/bin/cargo /usr/bin/rustc $crates" try "the tests with Debian's Rust" debians_rust

@@ -16,7 +16,7 @@ from pathlib import Path
 
 from pages import FENCE, README, TOP, read
 
-HEAD = re.compile(r"(?://|#) (\S+): (.*)\n")
+HEAD = re.compile(r"(?://|#) (\S+\.(\w+)): (.*)\n")
 SHOWN = re.findall(r"`(code \d+, digest \w+)`", read(README))[0] + "\n"
 
 
@@ -34,20 +34,20 @@ def run(commands: str, folder: Path, wanted: str | None = None) -> str:
     )
 
 
-def page_errors(page: str, suffix: str, folder: Path, before: str) -> str:
+def page_errors(page: str, endings: str, folder: Path, before: str) -> str:
     blocks, errors = [*FENCE.findall(read(page)), ("", "")], ""
     for at, (_, text) in enumerate(blocks):
         head = HEAD.match(text)
-        if not head or not head[1].endswith(suffix) or (page != README and blocks[at + 1][0] != "text"):
+        if not head or head[2] not in endings.split() or (page != README and blocks[at + 1][0] != "text"):
             continue
         (folder / head[1]).parent.mkdir(parents=True, exist_ok=True)
         (folder / head[1]).write_text(text, "utf-8")
         wanted = SHOWN if page == README else blocks[at + 1][1]
-        given = f"{before}\n" + blocks[at - 1][1] * ("$CID" in head[2])
-        errors += run(given + head[2], folder, wanted)
-        if "$CID" in head[2]:
+        given = f"{before}\n" + blocks[at - 1][1] * ("$CID" in head[3])
+        errors += run(given + head[3], folder, wanted)
+        if "$CID" in head[3]:
             other = given.replace("hello world", "other content")
-            errors += run(f"{other}{head[2]} || [ $? = 1 ]", folder, "false\n" if wanted == "true\n" else "False\n")
+            errors += run(f"{other}{head[3]} || [ $? = 1 ]", folder, "false\n" if wanted == "true\n" else "False\n")
     return errors
 
 
@@ -60,9 +60,9 @@ def main(work: Path, name: str, before: str) -> str:
         commands = commands if "ALL" in os.environ else re.sub(r".*\brt .*\n", "", commands)
         return run(commands, clone, read("crates/mh_show/stdout") * len(re.findall(" [<|] ", commands)))
     page, install = re.findall(rf"^\| \[{name}[^\]]*\]\(([^)]*)\) \| `([^`]+)` \|", read(README), re.M)[0]
-    suffix = {"JavaScript": ".mjs", "Python": ".py", "Rust": ".rs", "C": ".c", "Rattle": ".rt"}[name]
-    error = run(f"{before}\n{install}", folder) or page_errors(README, suffix, folder, before)
-    return error + page_errors(page, suffix, folder, before) * (name != "Rattle")
+    endings = {"JavaScript": "mjs", "Python": "py", "Rust": "rs", "C": "c rb", "Rattle": "rt"}[name]
+    error = run(f"{before}\n{install}", folder) or page_errors(README, endings, folder, before)
+    return error + page_errors(page, endings, folder, before) * (name != "Rattle")
 
 
 if __name__ == "__main__":

@@ -33,6 +33,7 @@ static inline uint8_t *copy_of(const uint8_t *bytes, size_t length)
 }
 
 /* verdicts.c */
+void check_word(multihash_status status, const char *word);
 void replay(const char *name);
 
 /* cid.c */
