@@ -29,29 +29,24 @@ INCOMPLETE = re.findall(r"status == MULTIHASH_(\w+)", HEADER)
 # The name of a text, its parameters, the format, and the values for it, which a comma precedes. Each conversion is %s.
 TEXT = r'mh_text_(\w+)\(char \*text, size_t text_size(.*)\)\n{\s*return snprintf\(text, text_size, "([^"]*)"([^;]*)\);'
 LISTS = [line.split("\t") for name in ("hashes.tsv", "codes.tsv") for line in (DATA / name).open(encoding="utf-8")]
-NAMES = {int(code, 16): name.strip() for code, name, *_ in LISTS if code != "code"}
+NAMES = sorted({(int(code, 16), name.strip()) for code, name, *_ in LISTS if code != "code"})
+# The names of a family end with the lengths of its digests, -8, -16, .. bits: the lists have its first and its last name.
+LAST = {name.rpartition("-")[0]: code for code, name in NAMES}
+FAMILIES = [(code, name[:-2], LAST[name[:-2]] - code + 1) for code, name in NAMES if name.endswith("-8")]
+OTHERS = [(code, name) for code, name in NAMES if name.rpartition("-")[0] not in [stem for _, stem, _ in FAMILIES]]
+CONSTANTS = [(code, name, name.upper().replace("-", "_")) for code, name in NAMES]
 
 
-def rows(*lines: str, of: Sequence[tuple[str, ...]] = STATUSES) -> str:
+def rows(*lines: str, of: Sequence[tuple[str | int, ...]] = STATUSES) -> str:
     """Returns the lines for each row, which has what their braces stand for."""
     return "\n".join(line.format(*row) for row in of for line in lines)
 
 
-def names(one: str, family: str = "") -> str:
-    """Returns a line for each name by its code, and one for each family, whose digests have 8, 16, .. bits: the lists have
-    its first and its last name. Without a line for families these are names as others."""
-    stems = {name[:-2] for name in NAMES.values() if family and name.endswith("-8")}
-    lines: list[str] = []
-    for code, name in sorted(NAMES.items()):
-        stem, _, bits = name.rpartition("-")
-        if stem not in stems:
-            lines += [one.format(name=name, code=code, constant=name.upper().replace("-", "_"))] if one else []
-        elif bits == "8":
-            count = max(other for other in NAMES if NAMES[other].startswith(f"{stem}-")) - code + 1
-            numbers = textwrap.wrap(" ".join(str(8 * length) for length in range(1, count + 1)), 100)
-            bits = "".join(f"\n        {line}" for line in numbers)
-            lines += [family.format(name=stem, code=code, count=count, bits=bits)]
-    return "\n".join(lines)
+def names(one: str, family: str) -> str:
+    """Returns by their codes a line for each name that belongs to no family, and one for each family."""
+    made = {code: one.format(code, name) for code, name in OTHERS}
+    made |= {code: family.format(code, name, count) for code, name, count in FAMILIES}
+    return "\n".join(line for _, line in sorted(made.items()))
 
 
 def message_texts() -> Iterator[tuple[str, ...]]:
@@ -71,16 +66,11 @@ def message_texts() -> Iterator[tuple[str, ...]]:
         )
 
 
-def c_names() -> str:
-    """Returns rows of the table for C: each code with its name, also those of each family."""
-    lines = names("{code} {name}", "{code} {name} {count}").splitlines()
-    table = []
-    for code, name, *count in (line.split() for line in lines):
-        table += (
-            [(int(code) + i, f"{name}-{8 * (i + 1)}") for i in range(int(count[0]))] if count else [(int(code), name)]
-        )
-    text = " ".join(f'{{{code:#x},~"{name}"}},' for code, name in table)
-    return textwrap.indent(textwrap.fill(text, 110, break_on_hyphens=False).replace("~", " "), " " * 8)
+def all_names(row: str, indent: str) -> str:
+    """Returns a row for each code with its name, also those of each family, several in a line. ~ is a blank in a row."""
+    table = OTHERS + [(code + i, f"{name}-{8 * i + 8}") for code, name, count in FAMILIES for i in range(count)]
+    text = " ".join(row.format(code, name) for code, name in sorted(table))
+    return textwrap.indent(textwrap.fill(text, 110, break_on_hyphens=False).replace("~", " "), indent)
 
 
 FILES = {
@@ -131,7 +121,7 @@ const family = (name, first, count) =>
 /** The code of each hash function by its name. */
 export const CODES = Object.freeze({{
   __proto__: null,
-{names("  '{name}': {code:#x},", "  ...family('{name}', {code:#x}, {count}),")}
+{names("  '{1}': {0:#x},", "  ...family('{1}', {0:#x}, {2}),")}
 }});
 
 /** The name of each code. */
@@ -143,7 +133,7 @@ Object.freeze(NAMES);
 
 /** The codes of the hash functions, by their names: those listed here, and BLAKE2 and Skein of other lengths. */
 export const CODES: Readonly<Record<string, number | undefined>> & {{
-{names("  readonly '{name}': {code:#x};")}
+{rows("  readonly '{1}': {0:#x};", of=NAMES)}
 }};
 /** The names of these functions, by their codes. */
 export const NAMES: Readonly<Record<number, string | undefined>>;
@@ -181,7 +171,7 @@ def _family(name: str, first: int, count: int) -> Dict[str, int]:
 
 
 CODES = {{
-{names('    "{name}": 0x{code:X},', '    **_family("{name}", 0x{code:X}, {count}),')}
+{names('    "{1}": 0x{0:X},', '    **_family("{1}", 0x{0:X}, {2}),')}
 }}
 ''',
     "rust/verified-multihash/src/codes.rs": f"""//! Codes of hash functions in the multicodec table, and their names. Made by tools/generate tables.
@@ -199,41 +189,19 @@ CODES = {{
 
 /// Returns the name of a code, or `None` if no hash function has the code.
 pub fn name(code: u64) -> Option<&'static str> {{
-    names().find_map(|(first, names)| names.get(usize::try_from(code.checked_sub(*first)?).ok()?)).copied()
+    NAMES.iter().find(|row| row.0 == code).map(|row| row.1)
 }}
 
 /// Returns the code of a name, or `None` if no hash function has the name.
 pub fn code(name: &str) -> Option<u64> {{
-    names().find_map(|(first, names)| Some(first + names.iter().position(|other| *other == name)? as u64))
+    NAMES.iter().find(|row| row.1 == name).map(|row| row.0)
 }}
 
-/// The names of a code and of the next ones.
-type Names = (u64, &'static [&'static str]);
+{rows("/// The code of `{1}`.", "pub const {2}: u64 = {0:#x};", of=CONSTANTS)}
 
-fn names() -> impl Iterator<Item = &'static Names> {{
-    NAMES.iter().chain(FAMILIES)
-}}
-
-macro_rules! codes {{
-    ($($constant:ident $name:literal $code:literal)*) => {{
-        $(#[doc = concat!("The code of `", $name, "`.")] pub const $constant: u64 = $code;)*
-        const NAMES: &[Names] = &[$(($code, &[$name])),*];
-    }};
-}}
-
-macro_rules! families {{
-    ($($name:literal $first:literal: $($bits:literal)*;)*) => {{
-        const FAMILIES: &[Names] = &[$(($first, &[$(concat!($name, "-", $bits)),*])),*];
-    }};
-}}
-
-codes! {{
-{names('    {constant} "{name}" {code:#x}')}
-}}
-
-families! {{
-{names("", '    "{name}" {code:#x}:{bits};')}
-}}
+const NAMES: &[(u64, &str)] = &[
+{all_names('({0:#x},~"{1}"),', " " * 4)}
+];
 """,
     "c/include/multihash_names.h": f"""/* SPDX-License-Identifier: MIT
  * Copyright (c) 2026 The Gilmekhus developers
@@ -263,7 +231,7 @@ struct mh_name {{
 static inline const struct mh_name *mh_names(void)
 {{
     static const struct mh_name names[] = {{
-{c_names()}
+{all_names('{{{0:#x},~"{1}"}},', " " * 8)}
         {{MULTIHASH_NO_CODE, NULL}},
     }};
     return names;
