@@ -143,37 +143,21 @@ static inline uint8_t mh_cid_value(const char *digits, char digit)
     return 255;
 }
 
-/* Decodes digits of `bits` bits to `bytes`. Returns whether they encode whole bytes, with zeros after the last. */
-static inline int mh_cid_from_bits(const uint8_t *values, size_t count, unsigned bits, uint8_t *bytes, size_t *length)
+/* Regroups the bits of digits, with zeros after the last bit. Returns the number of digits in `to`. */
+static inline size_t mh_cid_regroup(const uint8_t *from, size_t from_length, unsigned from_bits, uint8_t *to,
+                                    unsigned to_bits)
 {
-    unsigned kept = 0, kept_count = 0; /* the bits of no byte yet, and their number */
-    *length = 0;
-    for (size_t i = 0; i < count; i++) {
-        kept = kept << bits | values[i];
-        kept_count += bits;
-        if (kept_count >= 8) {
-            kept_count -= 8;
-            bytes[(*length)++] = (kept >> kept_count) & 255;
-            kept &= (1u << kept_count) - 1;
+    unsigned kept = 0, kept_count = 0; /* the bits of no digit yet, and their number */
+    size_t length = 0;
+    for (size_t i = 0; i < from_length; i++) {
+        kept = kept << from_bits | from[i];
+        for (kept_count += from_bits; kept_count >= to_bits; kept &= (1u << kept_count) - 1) {
+            kept_count -= to_bits;
+            to[length++] = (kept >> kept_count) & 255;
         }
     }
-    return kept_count < bits && kept == 0;
-}
-
-/* Encodes bytes as digits of `bits` bits, with zeros after the last byte. Returns the number of digits. */
-static inline size_t mh_cid_to_bits(const uint8_t *bytes, size_t bytes_length, unsigned bits, uint8_t *values)
-{
-    unsigned kept = 0, kept_count = 0;
-    size_t count = 0;
-    for (size_t i = 0; i < bytes_length; i++) {
-        kept = kept << 8 | bytes[i];
-        for (kept_count += 8; kept_count >= bits; kept &= (1u << kept_count) - 1) {
-            kept_count -= bits;
-            values[count++] = (kept >> kept_count) & 255;
-        }
-    }
-    if (kept_count > 0) values[count++] = (kept << (bits - kept_count)) & 255;
-    return count;
+    if (kept_count > 0) to[length++] = (kept << (to_bits - kept_count)) & 255;
+    return length;
 }
 
 /* Converts a number to another base. Both start with the most significant digit, and with as many zeros. Returns the
@@ -226,8 +210,13 @@ static inline multihash_cid multihash_cid_parse(const char *text, size_t text_le
     if (text_length > most) return mh_cid_error(MULTIHASH_CID_TOO_LONG, 0);
     if (base == 'z') {
         bytes_length = mh_cid_convert(values, length, 58, bytes, 256);
-    } else if (!mh_cid_from_bits(values, length, base == 'b' ? 5 : 4, bytes, &bytes_length)) {
-        return mh_cid_error(MULTIHASH_CID_TRAILING_BITS, 0);
+    } else {
+        unsigned bits = base == 'b' ? 5 : 4;
+        size_t trailing = length * bits % 8;
+        bytes_length = mh_cid_regroup(values, length, bits, bytes, 8) - (trailing > 0);
+        if (trailing >= bits || (trailing > 0 && bytes[bytes_length] != 0)) {
+            return mh_cid_error(MULTIHASH_CID_TRAILING_BITS, 0);
+        }
     }
     if (mh_cid_is_version_0(bytes, bytes_length) == has_prefix) return mh_cid_error(MULTIHASH_CID_WRONG_PREFIX, 0);
     multihash_cid cid = multihash_cid_from_bytes(bytes, bytes_length);
@@ -291,7 +280,7 @@ static inline multihash_encoded multihash_cid_text(const uint8_t *bytes, size_t 
     if (digits == NULL || (cid.version == 0 && base != 'z')) return made;
     size_t start = cid.version == 0 ? 0 : 1;
     size_t length = base == 'z' ? mh_cid_convert(bytes, bytes_length, 256, values, 58)
-                                : mh_cid_to_bits(bytes, bytes_length, base == 'b' ? 5 : 4, values);
+                                : mh_cid_regroup(bytes, bytes_length, 8, values, base == 'b' ? 5 : 4);
     made.status = MULTIHASH_NO_ROOM;
     made.length = start + length + 1;
     if (made.length > out_length) return made;
