@@ -15,7 +15,9 @@ import time
 from pathlib import Path
 
 # multihash_ffi.h is for other languages.
-HEADERS = [Path(__file__).parent / "include" / f"multihash{part}.h" for part in ("", "_message", "_names", "_cid", "_frame")]
+HEADERS = [
+    Path(__file__).parent / "include" / f"multihash{part}.h" for part in ("", "_message", "_names", "_cid", "_frame")
+]
 COMMENT = r"/\*((?:(?!\*/).)*)\*/\n"
 ABOUT = COMMENT + "#ifndef"
 # A type, constants, or a function, whose declaration has a parenthesis.
@@ -31,40 +33,26 @@ def text(words: str) -> str:
 
 
 def paragraphs(comment: str) -> list[str]:
-    """Returns the paragraphs of a comment. A line that begins with a dash, or with a word and a colon, begins an item."""
-    made = []
-    for part in re.sub(r"\n *\* ?", "\n", comment).strip().split("\n\n"):
-        first, *items = re.split(r"\n(?= - |Returns: |Errors: )", part)
-        if first.startswith("Returns: "):
-            first, items = "", [first, *items]
-        made += [".Pp", text(first)] if first else []
-        if items:
-            tags = [re.fullmatch(r"( - |\w+:)(.*)", item, re.S) for item in items]
-            made += [
-                ".Bl -tag -width Returns",
-                *(f".It {tag[1].strip(' :')}\n{text(tag[2])}" for tag in tags if tag),
-                ".El",
-            ]
-    return made
+    """Returns the paragraphs of a comment. A line that begins with a dash, or with a word and a colon, begins one too."""
+    words = re.sub(r"\n *\* ?", "\n", comment).strip()
+    parts = re.split(r"\n\n|\n(?= - |Returns: |Errors: )", words)
+    return [line for part in parts for line in (".Pp", text(part))]
 
 
 def page(headers: dict[str, str], date: time.struct_time) -> str:
     """Returns the page of these headers, which have names."""
     everything = "".join(headers.values())
-    functions = [
-        name for _, declared in re.findall(PART, everything, re.S) for name in re.findall(r"(\w+)\(", declared)
-    ]
+    parts = re.findall(PART, everything, re.S)
+    functions = [name for _, declared in parts for name in re.findall(r"(\w+)\(", declared)]
     version = re.findall(r'MULTIHASH_VERSION "(.*)"', everything)[0]
     made = [time.strftime(f".Dd %B {date.tm_mday}, %Y", date), ".Dt MULTIHASH 3", ".Os", ".Sh NAME"]
     made += [*(f".Nm {name} ," for name in ["multihash", *functions[:-1]]), f".Nm {functions[-1]}"]
     made += [".Nd decode and encode multihashes", ".Sh LIBRARY", f"multihash_c, version {version}:"]
-    made += [".Ql pkg-config --cflags --libs multihash_c", "prints the options for the compiler.", ".Sh SYNOPSIS"]
-    made += [f".In {name}" for name in headers]
-    made += [
-        ".Sh DESCRIPTION",
-        *[line for about in re.findall(ABOUT, everything, re.S) for line in paragraphs(about)][1:],
-    ]
-    for comment, declared in re.findall(PART, everything, re.S):
+    made += [".Ql pkg-config --cflags --libs multihash_c", "prints the options for the compiler."]
+    made += [".Sh SYNOPSIS", *(f".In {name}" for name in headers), ".Sh DESCRIPTION"]
+    abouts = re.findall(ABOUT, everything, re.S)
+    made += [line for about in abouts for line in paragraphs(about)][1:]
+    for comment, declared in parts:
         names = re.findall(r"(\w+)\(|\} (\w+);|typedef \w+ (\w+);|#define (\w+)", declared)
         made += [f".Ss {''.join(names[0])}", ".Bd -literal", declared, ".Ed", *paragraphs(comment)]
     made += [".Sh ERRORS", ".Bl -tag -width Ds"]

@@ -26,12 +26,9 @@ def run(commands: str, folder: Path, wanted: str | None = None) -> str:
     if "ALL" not in os.environ:
         commands = commands.replace("rt run", "rt try")
     ran = subprocess.run(["bash", "-ec", commands], cwd=folder, env=variables, capture_output=True, text=True)
-    is_right = ran.returncode == 0 and wanted in (None, ran.stdout)
-    return (
-        ""
-        if is_right
-        else f"{commands}\nstatus {ran.returncode}\n{(ran.stdout + ran.stderr)[-900:]}\nwanted {wanted}\n"
-    )
+    if ran.returncode == 0 and wanted in (None, ran.stdout):
+        return ""
+    return f"{commands}\nstatus {ran.returncode}\n{(ran.stdout + ran.stderr)[-900:]}\nwanted {wanted}\n"
 
 
 def page_errors(page: str, endings: str, folder: Path, before: str) -> str:
