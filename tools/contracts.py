@@ -14,11 +14,8 @@ from typing import NamedTuple
 
 TOP = Path(__file__).resolve().parents[1]
 CRATES = ("theorems", "multihash", "form", "mh_show")
-# What an item begins with, as `rt fmt` lays it out.
-HEAD = re.compile(
-    r" *(pub )?(?:pub\(\w+\) )?(?:unsafe )?(?:(?:const +|extern +)*(fn)\b"
-    r"|(ghost|use|impl|mod|struct|enum|trait|type|const|extern|macro_rules)\b) ?(\w*)"
-)
+# What an item begins with: whether it is public, its kind and its name.
+HEAD = re.compile(r" *(pub )?(?:pub\(\w+\) )?(?:unsafe |const (?=fn)|extern (?=fn))*(\w+) ?(\w*)")
 # attributes that no caller can see
 OF_BODIES = re.compile(r" *#\[(cold|inline|tactic)\b")
 INTRODUCTION = """\
@@ -70,7 +67,7 @@ def items(lines: Iterable[str], indent: str = "") -> list[Item]:
             head = HEAD.match(line)
             if not head:
                 raise ValueError(f"no known item: {line}")
-            found.append(Item(above, [line], bool(head[1]), head[2] or head[3], head[4]))
+            found.append(Item(above, [line], bool(head[1]), head[2], head[3]))
             above = []
     return found
 
