@@ -30,22 +30,18 @@ DECLARED = (
     ("docs/ARCHITECTURE.md", "crates.txt", r"^(\w+)[: ]"),
     (MAN, "bindings/c/examples/mh_show.c", r"(?:return |fail\()\"([\w ]+)\""),
 )
-# a page, a text of it, in which {} is a version or a limit, and where that is from
+# pages, a text of them, in which {} is a version or a limit, and where that is from
 STATED = (
-    (f"{JS}/README.md", "Node.js {}", f"{JS}/package.json", r'"node": ">=(.*)"'),
-    (f"{PYTHON}/README.md", "CPython {}", f"{PYTHON}/pyproject.toml", r'requires-python = ">=(.*)"'),
-    (f"{RUST}/README.md", "Rust {}", f"{RUST}/Cargo.toml", r'rust-version = "(.*)"'),
+    (f"{README} {JS}/README.md", "Node.js {}", f"{JS}/package.json", r'"node": ">=(.*)"'),
+    (f"{README} {PYTHON}/README.md", "CPython {}", f"{PYTHON}/pyproject.toml", r'requires-python = ">=(.*)"'),
+    (f"{README} {RUST}/README.md", "Rust {}", f"{RUST}/Cargo.toml", r'rust-version = "(.*)"'),
     (f"{SHIM}/README.md", "Rust {}", f"{SHIM}/Cargo.toml", r'rust-version = "(.*)"'),
     (f"{SHIM}/README.md", "`multihash` {}", f"{SHIM}/Cargo.toml", r'\nversion = "(.*)"'),
-    (C, "CMake {}", "CMakeLists.txt", r"cmake_minimum_required\(VERSION (.*)\)"),
+    (f"{README} {C}", "CMake {}", "CMakeLists.txt", r"cmake_minimum_required\(VERSION (.*)\)"),
     (C, "find_package(multihash_c {} ", HEADER, r'MULTIHASH_VERSION "(\d+\.\d+)'),
     (C, "multihash-{}.tar.gz", HEADER, r'MULTIHASH_VERSION "(.*)"'),
     (C, "libmultihash_c.so.{}`", HEADER, r'MULTIHASH_VERSION "(\d+)'),
     ("CHANGES", "{}", HEADER, r'MULTIHASH_VERSION "(.*)"'),
-    (README, "Node.js {}", f"{JS}/package.json", r'"node": ">=(.*)"'),
-    (README, "CPython {}", f"{PYTHON}/pyproject.toml", r'requires-python = ">=(.*)"'),
-    (README, "Rust {}", f"{RUST}/Cargo.toml", r'rust-version = "(.*)"'),
-    (README, "CMake {}", "CMakeLists.txt", r"cmake_minimum_required\(VERSION (.*)\)"),
     (FORMAT, "0 to `min(S {})`", HEADER, r"MULTIHASH_DIGEST_MAX (\d+)"),
     (FORMAT, "an encoding | 2 to {} bytes", HEADER, r"MULTIHASH_LENGTH_MAX (\d+)"),
     (FORMAT, "both varints together | 2 to {} bytes", HEADER, r"MULTIHASH_HEAD_MAX (\d+)"),
@@ -105,10 +101,11 @@ def source_errors() -> Iterator[str]:
         for name in re.findall(form, read(source), re.M) or ["no name"]:
             if not re.search(rf"(?<![\w-])(?:-D)?{name}(?![\w-])", read(page)):
                 yield f"{page}: {source} has {name}, which the page does not name"
-    for page, text, source, origin in STATED:
+    for pages, text, source, origin in STATED:
         wanted = text.format(*re.findall(origin, read(source))[:1])
-        if wanted not in flat(read(page)).replace(",", ""):
-            yield f"{page}: by {source} it has to say: {wanted}"
+        for page in pages.split():
+            if wanted not in flat(read(page)).replace(",", ""):
+                yield f"{page}: by {source} it has to say: {wanted}"
     for page in (README, MAN):
         if read("crates/mh_show/stdout") not in read(page):
             yield f"{page} shows another output than that of mh_show"
