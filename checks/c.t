@@ -97,11 +97,11 @@ examples() {
   cc $strict $san -I "$c/include" "$c"/{examples/lengths,src/multihash}.c -o "$work/lengths"
   { printf '\0\5hello%.0s' {1..1001}; printf '\22\1a%.0s' {1..40000}; } | "$work/lengths" | uniq -c |
     diff <(printf '%7d %s\n' 1001 'identity 5' 40000 'sha2-256 1') -
-  rejects "2 of 3" "$work/lengths" < <(printf '\0\5hello\22\3ab')
+  { printf '\0\5hello\22\3ab' | "$work/lengths" 2>&1 || true; } | grep "2 of 3"
   cc $strict $san -I "$c/include" "$c"/{examples/verify,src/multihash}.c -lcrypto -o "$work/verify"
   hex=1220$(head -c 4097 "$c/src/multihash.c" | sha256sum | cut -c -64)
   prints "the same" "$work/verify" "$hex" < <(head -c 4097 "$c/src/multihash.c")
-  rejects "another content" "$work/verify" "$hex" < <(head -c 4096 "$c/src/multihash.c")
+  { head -c 4096 "$c/src/multihash.c" | "$work/verify" "$hex" || true; } | grep "another content"
 }
 
 # Objects for machines without a C library, and for macOS and MSVC's mode of Clang without their headers. All that they

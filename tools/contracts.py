@@ -144,14 +144,10 @@ def section_of(path: str, text: str) -> str:
     return f"\n### [{path}](../{path})\n\n{description}\n\n```text\n{block}\n```\n" if block else ""
 
 
-def sources() -> dict[str, str]:
-    """Returns the text of each file of the crates and of their definitions."""
-    paths: list[Path] = []
-    for crate in CRATES:
-        paths += sorted((TOP / "crates" / crate / "src").rglob("*.rt"))
-    for crate in sorted(CRATES):
-        paths += sorted((TOP / "crates" / crate / "specs").glob("*.antt"))
-    return {str(path.relative_to(TOP)): path.read_text("utf-8") for path in paths}
+def sources(crate: str, pattern: str) -> Iterator[tuple[str, str]]:
+    """Returns the path and the text of each of these files of a crate."""
+    for path in sorted((TOP / "crates" / crate).glob(pattern)):
+        yield str(path.relative_to(TOP)), path.read_text("utf-8")
 
 
 def with_parameters(name: str, kind: str, rest: str, next_line: str) -> str:
@@ -173,23 +169,18 @@ def word_rows(definitions: str) -> Iterator[str]:
         yield f"| `{with_parameters(name, kind, *rest)}` | {text} |"
 
 
-def written_page(texts: dict[str, str]) -> str:
-    """Returns the page of these sources."""
-    page, last = INTRODUCTION, ""
-    for path, text in texts.items():
-        if path.endswith(".rt"):
-            crate = path.split("/")[1]
-            page += f"\n## {crate}\n" if crate != last else ""
-            page += section_of(path, text)
-            last = crate
+def written_page() -> str:
+    page = INTRODUCTION
+    for crate in CRATES:
+        page += f"\n## {crate}\n" + "".join(section_of(path, text) for path, text in sources(crate, "src/**/*.rt"))
     page += "\n## Words\n\nThe words of clauses and of definitions, by the files that define them.\n"
-    for path, text in texts.items():
-        rows = [*word_rows(text)] if not path.endswith("/Private.antt") else []
-        if rows:
-            page += f"\n### [{path}](../{path})\n\n| Word | Meaning |\n|---|---|\n"
-            page += "\n".join(rows) + "\n"
+    for crate in sorted(CRATES):
+        for path, text in sources(crate, "specs/*.antt"):
+            rows = [*word_rows(text)]
+            if rows and not path.endswith("/Private.antt"):
+                page += f"\n### [{path}](../{path})\n\n| Word | Meaning |\n|---|---|\n" + "\n".join(rows) + "\n"
     return page
 
 
 if __name__ == "__main__":
-    print(written_page(sources()), end="")
+    print(written_page(), end="")

@@ -10,7 +10,6 @@
 #   ONLY='' try ..                 is run whatever ONLY is, since other checks need it
 #   require TOOL..                 the next checks are left out without one of these
 #   prints TEXT COMMAND..          in a check: the command ends with status 0, and prints the text
-#   rejects TEXT COMMAND..         it ends with another status
 #   finish                         the last line of the script: prints the plan, without which prove fails
 #
 # The variable ONLY is a regular expression: checks with other names are not run. In the folder RUN_FOLDER the CPU minutes
@@ -81,14 +80,12 @@ try() {
   if [ "$ended" = 0 ]; then echo "ok $number - $1$skip"; else failed=1; echo "not ok $number - $1$skip"; fi
 }
 
-prints() { ends 0 "$@"; }
-rejects() { ends 1 "$@"; }
-ends() {
+prints() {
   local ended printed
   printed=$(mktemp -p "$work")
-  run "$printed" "${@:3}"
-  if [ $((ended != 0)) = "$1" ] && [ "$2" ] && grep -qF -- "$2" "$printed"; then return; fi
-  echo "status $ended, or without the text: $2"
+  run "$printed" "${@:2}"
+  if [ "$ended" = 0 ] && grep -qF -- "$1" "$printed"; then return; fi
+  echo "status $ended, or without the text: $1"
   cat "$printed"
   return 1
 }
