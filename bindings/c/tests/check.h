@@ -33,11 +33,12 @@ static inline uint8_t *copy_of(const uint8_t *bytes, size_t length)
 }
 
 /* verdicts.c */
+size_t parse_hex(const char *text, uint8_t *to, size_t places);
 void check_word(multihash_status status, const char *word);
-void replay(const char *name);
+void check_line(char *line);
 
 /* cid.c */
 void check_cids(void);
-void replay_cids(const char *name);
+void check_cid_line(char *line);
 
 #endif

@@ -5,8 +5,6 @@
 
 #include <inttypes.h>
 
-#define LINE_MAX_BYTES 65536
-
 static const uint8_t digest[MULTIHASH_DIGEST_MAX + 1] = {1, 2, 3};
 
 /* Replaces each \xHH of a column by the byte; a dash is the empty text. Returns the length. */
@@ -28,19 +26,19 @@ static size_t unescape(char *column)
 /* Whether a result is that of the column. The offsets are in `bytes`. */
 static void check_result(multihash_cid cid, const uint8_t *bytes, const char *column)
 {
-    char shown[64 + 2 * MULTIHASH_DIGEST_MAX + 1];
+    char digits[2 * MULTIHASH_DIGEST_MAX + 1];
+    uint8_t wanted[MULTIHASH_DIGEST_MAX];
+    uint64_t version, codec, code;
     if (cid.status != MULTIHASH_OK) {
         check_word(cid.status, column);
         CHECK(strcmp(multihash_cid_status_text(cid.status), "unknown status") != 0);
         CHECK(cid.version == 0 && cid.codec == 0 && cid.code == 0 && cid.digest_length == 0 && cid.taken == 0);
         return;
     }
-    int length = snprintf(shown, sizeof shown, "cid %" PRIu64 " %" PRIu64 " %" PRIu64 " %s", cid.version, cid.codec, cid.code,
-                          cid.digest_length == 0 ? "-" : "");
-    for (size_t i = 0; i < cid.digest_length; i++) {
-        length += snprintf(shown + length, sizeof shown - (size_t)length, "%02x", bytes[cid.digest_offset + i]);
-    }
-    CHECK(strcmp(shown, column) == 0);
+    CHECK(sscanf(column, "cid %" SCNu64 " %" SCNu64 " %" SCNu64 " %510s", &version, &codec, &code, digits) == 4);
+    CHECK(cid.version == version && cid.codec == codec && cid.code == code);
+    CHECK(parse_hex(digits, wanted, sizeof wanted) == cid.digest_length);
+    CHECK(memcmp(wanted, bytes + cid.digest_offset, cid.digest_length) == 0);
     CHECK(cid.multihash_offset < cid.digest_offset && cid.digest_offset + cid.digest_length == cid.taken);
 }
 
@@ -75,14 +73,13 @@ static void check_rooms(multihash_cid cid, const uint8_t *bytes, const char *tex
     }
 }
 
-static void check_line(char *line)
+void check_cid_line(char *line)
 {
-    static uint8_t bytes[LINE_MAX_BYTES];
+    static uint8_t bytes[1024];
     char *columns[3];
     for (int i = 0; i < 3; i++) columns[i] = strtok(i == 0 ? line : NULL, "\t\n");
     CHECK(columns[2] != NULL);
-    size_t length = unescape(columns[0]), bytes_length = strcmp(columns[2], "-") == 0 ? 0 : strlen(columns[2]) / 2;
-    for (size_t i = 0; i < bytes_length; i++) CHECK(sscanf(columns[2] + 2 * i, "%2" SCNx8, bytes + i) == 1);
+    size_t length = unescape(columns[0]), bytes_length = parse_hex(columns[2], bytes, sizeof bytes);
     uint8_t *text = copy_of((const uint8_t *)columns[0], length), *input = copy_of(bytes, bytes_length);
     uint8_t *out = buffer(MULTIHASH_CID_LENGTH_MAX);
     multihash_cid cid = multihash_cid_parse((const char *)text, length, out, MULTIHASH_CID_LENGTH_MAX);
@@ -127,13 +124,4 @@ void check_cids(void)
     CHECK(multihash_cid_text(bytes, length - 1, 'z', text, sizeof text).status == MULTIHASH_UNEXPECTED_EOF);
     CHECK(text[0] == '\0' && strcmp(multihash_cid_status_text(99), "unknown status") == 0);
     CHECK(strstr(multihash_cid_status_text(multihash_cid_parse(text, 0, bytes, length).status), "empty") != NULL);
-}
-
-void replay_cids(const char *name)
-{
-    static char line[LINE_MAX_BYTES];
-    FILE *list = fopen(name, "r");
-    CHECK(list != NULL && fgets(line, sizeof line, list) != NULL);
-    while (fgets(line, sizeof line, list) != NULL) check_line(line);
-    CHECK(fclose(list) == 0);
 }

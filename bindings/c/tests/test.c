@@ -149,6 +149,16 @@ static void check_messages(void)
     check_message_is(multihash_scale_message(message, sizeof message, digest, 9), "ok");
 }
 
+/* Checks each line of a list but the first. */
+static void replay(const char *name)
+{
+    static char line[8192];
+    FILE *list = fopen(name, "r");
+    CHECK(list != NULL && fgets(line, sizeof line, list) != NULL);
+    while (fgets(line, sizeof line, list) != NULL) (strstr(name, "cids") != NULL ? check_cid_line : check_line)(line);
+    CHECK(fclose(list) == 0);
+}
+
 int main(int argc, char **argv)
 {
     CHECK(argc > 1);
@@ -161,7 +171,6 @@ int main(int argc, char **argv)
     check_names();
     check_messages();
     check_cids();
-    for (int i = 1; i < argc; i++) (strstr(argv[i], "cids") != NULL ? replay_cids : replay)(argv[i]);
-    puts("passed");
+    for (int i = 1; i < argc; i++) replay(argv[i]);
     return 0;
 }

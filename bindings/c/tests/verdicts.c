@@ -5,10 +5,8 @@
 
 #include <inttypes.h>
 
-#define LINE_MAX_BYTES 8192
-
 /* The bytes of a text in hexadecimal; a dash is no bytes. */
-static size_t parse_hex(const char *text, uint8_t *to, size_t places)
+size_t parse_hex(const char *text, uint8_t *to, size_t places)
 {
     size_t length = strcmp(text, "-") == 0 ? 0 : strlen(text) / 2;
     CHECK(length <= places);
@@ -81,7 +79,7 @@ static void check_accepted(const uint8_t *input, size_t length, multihash_decode
 /* A limit, an input, and what the calls return. Only multihash_read_limit has another limit than 255. */
 static void check_verdict(const char *const *column)
 {
-    static uint8_t bytes[LINE_MAX_BYTES / 2];
+    static uint8_t bytes[4096];
     size_t limit = strtoul(column[0], NULL, 10), length = parse_hex(column[1], bytes, sizeof bytes);
     uint8_t *input = copy_of(bytes, length);
     multihash_decoded result = multihash_read_limit(input, length, limit > MULTIHASH_DIGEST_MAX ? SIZE_MAX : limit);
@@ -170,7 +168,7 @@ static void check_name(const char *const *column)
 }
 
 /* The first column of a line, or its first characters, say what the columns are. */
-static void check_line(char *text)
+void check_line(char *text)
 {
     static const struct {
         const char *first;
@@ -186,15 +184,4 @@ static void check_line(char *text)
     for (int i = 0; i < kinds[kind].count; i++) column[i] = strtok(i == 0 ? text : NULL, "\t\n");
     CHECK(column[kinds[kind].count - 1] != NULL);
     kinds[kind].check(kind < 3 ? column + 1 : column);
-}
-
-void replay(const char *name)
-{
-    static char text[LINE_MAX_BYTES];
-    size_t lines = 0;
-    FILE *list = fopen(name, "r");
-    CHECK(list != NULL && fgets(text, sizeof text, list) != NULL);
-    for (; fgets(text, sizeof text, list) != NULL; lines++) check_line(text);
-    CHECK(fclose(list) == 0);
-    printf("%zu lines, ", lines);
 }
