@@ -10,8 +10,6 @@ warnings="-Wall -Wextra -Wpedantic -Wconversion -Wsign-conversion -Wshadow -Wcas
 san="-g -O1 -fsanitize=address,undefined -fno-sanitize-recover=all"
 strict="-std=c11 $warnings -Wstrict-prototypes -Wmissing-prototypes"
 runtime=$(clang --rtlib=compiler-rt -print-libgcc-file-name 2> /dev/null || true) # what Clang needs for sanitizers
-ulimit -c 0
-umask 022
 unset "${!CMAKE_@}"
 
 # Builds all in a folder, with flags of the compilers and options of CMake, and runs the tests.

@@ -50,20 +50,6 @@ missing() {
 }
 require() { without=$*; }
 
-# Runs a command, what it prints goes to a file, and sets `ended` to its status. If it fails, the file ends with the
-# places in scripts where it did, from the innermost call.
-run() {
-  local -
-  set +e
-  (set -eE; trap trace ERR; "${@:2}") > "$1" 2>&1
-  ended=$?
-}
-trace() {
-  local at
-  trap - ERR
-  for at in "${!BASH_LINENO[@]}"; do echo "${BASH_SOURCE[at + 1]-}:${BASH_LINENO[at]}"; done | grep -v '/tap\.sh:\|^:'
-}
-
 try() {
   local lack ended=0 skip=""
   [[ $1 =~ ${ONLY-} ]] || return 0
@@ -74,20 +60,18 @@ try() {
     skip=" # SKIP no $lack" ended=${ALL:-0}
     echo "$lack" >> "${RUN_FOLDER:-$work}/left_out"
   else
-    run "$work/log" "${@:2}"
+    set +e
+    (set -e; "${@:2}") > "$work/log" 2>&1
+    ended=$?
+    set -e
     [ "$ended" = 0 ] || sed 's/^/# /' "$work/log" >&2
   fi
   if [ "$ended" = 0 ]; then echo "ok $number - $1$skip"; else failed=1; echo "not ok $number - $1$skip"; fi
 }
 
 prints() {
-  local ended printed
-  printed=$(mktemp -p "$work")
-  run "$printed" "${@:2}"
-  if [ "$ended" = 0 ] && grep -qF -- "$1" "$printed"; then return; fi
-  echo "status $ended, or without the text: $1"
-  cat "$printed"
-  return 1
+  "${@:2}" 2>&1 | tee "$work/printed"
+  grep -F -- "$1" "$work/printed"
 }
 
 # The first block of a page in a language.
