@@ -49,11 +49,6 @@ installs() {
     "$work/shows" < crates/mh_show/stdin | diff - crates/mh_show/stdout
   done
 }
-# The shared library exports the functions of two headers.
-exports() {
-  nm -D --defined-only "$prefix/lib/libmultihash_c.so" | sed -n 's/.* T \(\w*\).*/\1/p' | sort |
-    diff - <(cat "$c"/include/multihash{,_ffi}.h | grep -oP '^(?!static)\w.*\b\Kmultihash_\w+(?=\()' | sort)
-}
 
 # A project of CMake, which ends with the lines of the standard input. Further words are options.
 in_project() {
@@ -130,7 +125,6 @@ done
 needs="--all riscv64-linux-gnu-gcc qemu-riscv64" try "riscv64" on_machine riscv64-linux-gnu qemu-riscv64
 needs="x86_64-w64-mingw32-gcc wine" try "Windows" on_machine x86_64-w64-mingw32 wine Windows
 ONLY='' try "installing" installs
-try "what it exports" exports
 needs=mandoc try "man pages" mandoc -T lint "$prefix"/share/man/man{3/multihash.3,1/mh_show.1}
 try "projects of CMake" in_projects
 needs="c++ go" try "the page's programs in C++ and Go" page_programs

@@ -1,8 +1,8 @@
 /* SPDX-License-Identifier: MIT
  * Copyright (c) 2026 The Gilmekhus developers */
 
-/* Multihashes and content identifiers (CIDs) as values of C++17, over multihash.h and multihash_cid.h. They are compared,
- * and are keys of std::map and std::unordered_map. Errors are exceptions. */
+/* Multihashes and content identifiers (CIDs) as values of C++17, over multihash.h and multihash_cid.h. They have an
+ * order, and are keys of std::map and std::unordered_map. Errors are exceptions. */
 #ifndef MULTIHASH_HPP
 #define MULTIHASH_HPP
 
@@ -20,8 +20,8 @@
 
 namespace multihash {
 
-/* Why bytes are no multihash, or why a code and a digest have no encoding, with a message of multihash_message.h; or the
- * same of a CID, with a text of multihash_cid.h. */
+/* Why bytes are no multihash, or why a code and a digest have no encoding, with a message of multihash_message.h. The
+ * message of a CID is the text of its status. */
 class error : public std::invalid_argument {
   public:
     error(multihash_status status, const char *message) : std::invalid_argument(message), status_(status) {}
@@ -206,7 +206,8 @@ class cid : private ordered<cid> {
         return cid(multihash_cid_from_bytes(value::bytes_of(bytes), bytes.size()), bytes);
     }
 
-    /* Decodes the CID at the start of the bytes, and removes it from them. Throws error, and then leaves them unchanged. */
+    /* Decodes the CID at the start of the bytes, and removes it from them. Throws error, and then leaves them
+     * unchanged. */
     static cid read(std::string_view &bytes)
     {
         const multihash_cid found = multihash_cid_read(value::bytes_of(bytes), bytes.size());
@@ -236,8 +237,8 @@ class cid : private ordered<cid> {
         return std::string(value::chars_of(out, encode(out).length));
     }
 
-    /* Returns the text in a base: 'b' is base32, 'f' base16 and 'z' base58btc. Throws error for other bases, and for any
-     * but 'z' of version 0, whose text is Qm.. */
+    /* Returns the text in a base: 'b' is base32, 'f' base16 and 'z' base58btc. Version 0 has the text Qm.. alone, with
+     * the base 'z'. Throws error for other bases. */
     std::string text(char base) const
     {
         char out[MULTIHASH_CID_TEXT_SIZE];

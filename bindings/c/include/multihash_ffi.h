@@ -33,7 +33,7 @@ uint32_t multihash_ffi_scale_encode(uint64_t code, const uint8_t *digest, size_t
                                     size_t out_length, uint64_t *result);
 uint32_t multihash_ffi_write_varint(uint64_t value, uint8_t *out, size_t out_length, uint64_t *result);
 
-/* The functions of multihash_cid.h. An encoding of a CID has at most 276 bytes, and a text, with its zero byte, at most 554.
+/* The functions of multihash_cid.h. A CID has at most 276 bytes, and a text, with its zero byte, at most 554.
  *
  * version, codec, code, multihash_offset, digest_offset, digest_length, taken */
 uint32_t multihash_ffi_cid_from_bytes(const uint8_t *bytes, size_t bytes_length, uint64_t *result);

@@ -15,8 +15,8 @@ extern "C" {
 /* The status of a stream that ends where a frame would start, besides those of multihash.h. */
 #define MULTIHASH_FRAME_END 32
 
-/* Reads up to `length` bytes of a stream to `to`. Returns the number of bytes read. As with fread, which it may call, that
- * is less than `length` only if the stream ends or fails. */
+/* Reads up to `length` bytes of a stream to `to`. Returns the number of bytes read, which is less than `length` only if
+ * the stream ends or fails. fread does that for a file. */
 typedef size_t multihash_stream_read(void *stream, uint8_t *to, size_t length);
 
 /* The result of reading a frame. */
@@ -26,15 +26,14 @@ typedef struct multihash_frame {
     size_t taken;    /* always: the number of bytes read from the stream */
 } multihash_frame;
 
-/* Reads the next frame of a stream, and no byte after it. Its bytes without the varint are written to `out`, which has
- * `out_length` bytes: the longest frame that is accepted. `read` is called with `stream`, once for each byte of the varint,
- * and once for the rest.
+/* Reads the next frame of a stream by `read`, and no byte after it. Writes its bytes, without the varint, to the start
+ * of `out`, which has `out_length` bytes: a longer frame is rejected before its bytes are read.
  *
  * Returns: the frame's length.
- * Errors:  MULTIHASH_FRAME_END if the stream has no more bytes; MULTIHASH_INSUFFICIENT if it ends inside the varint, and
- *          MULTIHASH_UNEXPECTED_EOF after it; MULTIHASH_OVERFLOW, MULTIHASH_NOT_MINIMAL; MULTIHASH_NO_ROOM if the frame is
- *          longer than `out`: its bytes are not read yet. The stream itself has to tell whether it ended or failed, as
- *          ferror does for a file. */
+ * Errors:  MULTIHASH_FRAME_END if the stream ends before the frame; MULTIHASH_INSUFFICIENT if it ends inside the varint;
+ *          MULTIHASH_UNEXPECTED_EOF if it ends after the varint: then `out` has what was read; MULTIHASH_OVERFLOW,
+ *          MULTIHASH_NOT_MINIMAL; MULTIHASH_NO_ROOM with the size that `out` needs in `length`. A stream that fails
+ *          seems to end: ferror tells that of a file. */
 static inline multihash_frame multihash_read_frame(multihash_stream_read *read, void *stream, uint8_t *out,
                                                    size_t out_length)
 {
