@@ -26,7 +26,7 @@ typedef struct multihash_frame {
     size_t taken;    /* always: the number of bytes read from the stream */
 } multihash_frame;
 
-/* Reads the next frame of a stream by `read`, and no byte after it. Writes its bytes, without the varint, to the start
+/* Reads the next frame of a stream by `reader`, and no byte after it. Writes its bytes, without the varint, to the start
  * of `out`, which has `out_length` bytes: a longer frame is rejected before its bytes are read.
  *
  * Returns: the frame's length.
@@ -34,14 +34,14 @@ typedef struct multihash_frame {
  *          MULTIHASH_UNEXPECTED_EOF if it ends after the varint: then `out` has what was read; MULTIHASH_OVERFLOW,
  *          MULTIHASH_NOT_MINIMAL; MULTIHASH_NO_ROOM with the size that `out` needs in `length`. A stream that fails
  *          seems to end: ferror tells that of a file. */
-static inline multihash_frame multihash_read_frame(multihash_stream_read *read, void *stream, uint8_t *out,
+static inline multihash_frame multihash_read_frame(multihash_stream_read *reader, void *stream, uint8_t *out,
                                                    size_t out_length)
 {
     uint8_t bytes[MULTIHASH_VARINT_LENGTH_MAX];
     multihash_frame frame = {MULTIHASH_FRAME_END, 0, 0};
 
     do {
-        if (read(stream, bytes + frame.taken, 1) == 0) return frame;
+        if (reader(stream, bytes + frame.taken, 1) == 0) return frame;
         frame.taken++;
         multihash_varint varint = multihash_read_varint(bytes, frame.taken);
         frame.status = varint.status;
@@ -52,7 +52,7 @@ static inline multihash_frame multihash_read_frame(multihash_stream_read *read, 
         frame.status = MULTIHASH_NO_ROOM;
         return frame;
     }
-    size_t length = frame.length & SIZE_MAX, got = read(stream, out, length);
+    size_t length = frame.length & SIZE_MAX, got = reader(stream, out, length);
     frame.taken += got;
     if (got < length) frame.status = MULTIHASH_UNEXPECTED_EOF;
     return frame;
