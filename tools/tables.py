@@ -262,16 +262,16 @@ static inline uint64_t multihash_code(const char *name)
 """,
 }
 
-# Files by hand, and what comes before the version in each.
+# Files by hand, and what precedes the version in each.
 STATED = {
     "js/package.json": '"version": "',
     "python/src/verified_multihash/__init__.py": '__version__ = "',
     "rust/multihash/Cargo.toml": 'verified-multihash = { version = "',
     "rust/verified-multihash/Cargo.toml": '\nversion = "',
 }
-for path, before in STATED.items():
-    text = (TOP / "bindings" / path).read_text("utf-8")
-    FILES[path] = re.sub(rf'(?<={before})[^"]*', VERSION, text, count=1)
+for path, marker in STATED.items():
+    before, _, after = (TOP / "bindings" / path).read_text("utf-8").partition(marker)
+    FILES[path] = before + marker + VERSION + after[after.index('"') :]
 
 
 if __name__ == "__main__":
