@@ -44,7 +44,7 @@ is_stable = sys.implementation.name == "cpython"  # others have no stable ABI
 
 core = Extension(
     "verified_multihash._core",
-    ["src/arguments.c", "src/core.c", "src/frame.c", "src/reader.c", "src/value.c", "multihash_c/multihash.c"],
+    ["src/arguments.c", "src/core.c", "src/reader.c", "src/value.c", "multihash_c/multihash.c"],
     include_dirs=["multihash_c"],
     define_macros=[("Py_LIMITED_API", "0x03%02x0000" % minor)] if is_stable else [],
     extra_compile_args=["/std:c11"] if system.startswith("win") else ["-std=c11", "-fvisibility=hidden"],

@@ -1,17 +1,9 @@
 /* Converts the arguments of functions to C, and raises the errors of wrong ones. */
 #include "core.h"
 
-PyObject *attribute_of(PyObject *object, const char *text)
-{
-    PyObject *name = PyUnicode_InternFromString(text);
-    PyObject *found = name == NULL ? NULL : PyObject_GetAttr(object, name);
-    Py_XDECREF(name);
-    return found;
-}
-
 PyObject *wrong_type(const char *name, const char *expected, PyObject *argument)
 {
-    PyObject *type = attribute_of((PyObject *)Py_TYPE(argument), "__name__");
+    PyObject *type = PyType_GetName(Py_TYPE(argument));
     if (type != NULL) PyErr_Format(PyExc_TypeError, "%s must be %s, not %S", name, expected, type);
     Py_XDECREF(type);
     return NULL;
@@ -48,13 +40,6 @@ PyObject *shown_number(PyObject *number)
     return front;
 }
 
-static void raise_negative(const char *name, PyObject *number)
-{
-    PyObject *shown = shown_number(number);
-    if (shown != NULL) PyErr_Format(PyExc_ValueError, "%s must be 0 or more, not %U", name, shown);
-    Py_XDECREF(shown);
-}
-
 int get_buffer(PyObject *argument, const char *name, int flags, Py_buffer *view)
 {
     int found = PyObject_GetBuffer(argument, view, flags);
@@ -62,45 +47,41 @@ int get_buffer(PyObject *argument, const char *name, int flags, Py_buffer *view)
     return found;
 }
 
-/* Copies the first bytes of a buffer with gaps, or all of them if it has several dimensions. */
-static int copy_spread(const Py_buffer *view, char *to, Py_ssize_t count)
+/* Copies the first `most` bytes of a buffer, or as many items of one with gaps. */
+static PyObject *copied(PyObject *argument, const Py_buffer *view, Py_ssize_t most)
 {
-    if (view->ndim != 1 || view->suboffsets != NULL) return PyBuffer_ToContiguous(to, view, view->len, 'C');
-    for (Py_ssize_t at = 0; at < count; at++) {
-        to[at] = ((const char *)view->buf)[at / view->itemsize * view->strides[0] + at % view->itemsize];
-    }
-    return 0;
+    Py_ssize_t length = view->len < most ? view->len : most;
+    if (PyBuffer_IsContiguous(view, 'C')) return PyBytes_FromStringAndSize(view->buf, length);
+    PyObject *all = PyMemoryView_FromObject(argument);
+    PyObject *front = all == NULL ? NULL : PySequence_GetSlice(all, 0, most);
+    PyObject *bytes = front == NULL ? NULL : PyBytes_FromObject(front);
+    Py_XDECREF(all);
+    Py_XDECREF(front);
+    return bytes;
 }
 
 int get_input(PyObject *argument, const char *name, Py_ssize_t most, input *to)
 {
     Py_buffer view;
-    Py_ssize_t whole = -1;
+    Py_ssize_t length, whole = -1;
+    char *bytes;
     if (PyBytes_CheckExact(argument)) {
-        Py_INCREF(to->owner = argument);
-    } else if (get_buffer(argument, name, PyBUF_FULL_RO, &view) < 0) {
-        return -1;
+        to->owner = Py_NewRef(argument);
     } else {
-        int is_flat = PyBuffer_IsContiguous(&view, 'C');
-        int is_row = is_flat || (view.ndim == 1 && view.suboffsets == NULL);
+        if (get_buffer(argument, name, PyBUF_FULL_RO, &view) < 0) return -1;
         whole = view.len;
-        Py_ssize_t count = is_row && whole > most ? most : whole;
-        to->owner = PyBytes_FromStringAndSize(is_flat ? view.buf : NULL, count);
-        if (to->owner != NULL && !is_flat && copy_spread(&view, PyBytes_AsString(to->owner), count) < 0) {
-            Py_CLEAR(to->owner);
-        }
+        to->owner = copied(argument, &view, most);
         PyBuffer_Release(&view);
-        if (to->owner == NULL) return -1;
     }
-    to->bytes = (const uint8_t *)PyBytes_AsString(to->owner);
-    to->length = (size_t)PyBytes_Size(to->owner);
-    to->whole = whole < 0 ? to->length : (size_t)whole;
+    if (to->owner == NULL || PyBytes_AsStringAndSize(to->owner, &bytes, &length) < 0) return -1;
+    to->bytes = (const uint8_t *)bytes;
+    to->length = (size_t)length;
+    to->whole = (size_t)(whole < 0 ? length : whole);
     return 0;
 }
 
 /* CPython's parser, which takes longer, parses arguments with names and wrong ones. */
-int get_arguments(PyObject *const *given, Py_ssize_t count, PyObject *named, const char *format, char **names,
-                  PyObject **first, PyObject **second)
+int get_arguments(GIVEN, const char *format, char **names, PyObject **first, PyObject **second)
 {
     Py_ssize_t most = second == NULL ? 1 : 2, least = format[1] == '|' ? 1 : most;
     if (named == NULL && least <= count && count <= most) {
@@ -110,10 +91,7 @@ int get_arguments(PyObject *const *given, Py_ssize_t count, PyObject *named, con
     }
     PyObject *tuple = PyTuple_New(count), *others = PyDict_New();
     int is_right = tuple != NULL && others != NULL;
-    for (Py_ssize_t at = 0; is_right && at < count; at++) {
-        Py_INCREF(given[at]);
-        PyTuple_SetItem(tuple, at, given[at]);
-    }
+    for (Py_ssize_t at = 0; is_right && at < count; at++) PyTuple_SetItem(tuple, at, Py_NewRef(given[at]));
     for (Py_ssize_t at = 0; is_right && named != NULL && at < PyTuple_Size(named); at++) {
         is_right = PyDict_SetItem(others, PyTuple_GetItem(named, at), given[count + at]) == 0;
     }
@@ -123,34 +101,24 @@ int get_arguments(PyObject *const *given, Py_ssize_t count, PyObject *named, con
     return is_right;
 }
 
-int get_two(PyObject *arguments, PyObject *named, const char *format, char **names, PyObject **first, PyObject **second)
+int get_number(PyObject *argument, const char *name, uint64_t *number)
 {
-    if (named != NULL || PyTuple_Size(arguments) != 2) {
-        return PyArg_ParseTupleAndKeywords(arguments, named, format, names, first, second);
-    }
-    *first = PyTuple_GetItem(arguments, 0);
-    *second = PyTuple_GetItem(arguments, 1);
-    return 1;
-}
-
-int get_number(PyObject **argument, const char *name, uint64_t *number)
-{
-    PyObject *index = PyNumber_Index(*argument);
-    if (index == NULL) {
-        rename_error(name, "an int", *argument);
+    int overflow;
+    long long value = PyLong_AsLongLongAndOverflow(argument, &overflow);
+    *number = (uint64_t)value; /* -1, the largest, for 2^63 and above */
+    if (overflow > 0 || value >= 0) return 0;
+    if (overflow == 0 && PyErr_Occurred()) {
+        rename_error(name, "an int", argument);
         return -1;
     }
-    int overflow;
-    long long value = PyLong_AsLongLongAndOverflow(index, &overflow);
-    int is_wrong = overflow < 0 || (overflow == 0 && value < 0);
-    if (is_wrong) raise_negative(name, index);
-    *number = (uint64_t)value; /* -1, the largest, for 2^63 and above */
-    *argument = index;
-    if (is_wrong) Py_DECREF(index);
-    return is_wrong ? -1 : 0;
+    PyObject *index = PyNumber_Index(argument), *shown = index == NULL ? NULL : shown_number(index);
+    if (shown != NULL) PyErr_Format(PyExc_ValueError, "%s must be 0 or more, not %U", name, shown);
+    Py_XDECREF(index);
+    Py_XDECREF(shown);
+    return -1;
 }
 
-int get_size(PyObject **argument, const char *name, size_t *size)
+int get_size(PyObject *argument, const char *name, size_t *size)
 {
     uint64_t number;
     if (get_number(argument, name, &number) < 0) return -1;
@@ -158,10 +126,8 @@ int get_size(PyObject **argument, const char *name, size_t *size)
     return 0;
 }
 
-int get_pair(PyObject **code, PyObject *bytes, uint64_t *number, input *digest)
+int get_pair(PyObject *code, PyObject *bytes, uint64_t *number, input *digest)
 {
     if (get_number(code, "code", number) < 0) return -1;
-    if (get_input(bytes, "digest", MULTIHASH_DIGEST_MAX, digest) == 0) return 0;
-    Py_DECREF(*code);
-    return -1;
+    return get_input(bytes, "digest", MULTIHASH_DIGEST_MAX, digest);
 }

@@ -3,8 +3,6 @@
 
 /* ---- the state and errors */
 
-enum { STATUS, SIZE, CODE, TAKEN, FIELDS }; /* of an error */
-
 PyTypeObject *type_in_c(PyTypeObject *type)
 {
     for (PyTypeObject *base; (base = PyType_GetSlot(type, Py_tp_base)) != &PyBaseObject_Type; type = base) continue;
@@ -16,78 +14,61 @@ const state *state_of(PyTypeObject *type)
     return PyType_GetModuleState(type_in_c(type));
 }
 
-/* Without __init__ of the class, which takes longer. */
-PyObject *raise_error(const state *own, multihash_status status, PyObject *size, PyObject *code, size_t taken,
-                      PyObject *text)
+/* Raises a MultihashError with these arguments, a tuple. It steals the reference, which may be null. */
+static PyObject *raise(const state *own, PyObject *arguments)
 {
-    int is_ready = own->statuses != NULL && size != NULL && code != NULL && text != NULL;
-    if (own->statuses == NULL) PyErr_SetString(PyExc_RuntimeError, "verified_multihash was not imported");
-    PyObject *count = is_ready ? PyLong_FromSize_t(taken) : NULL, *error = NULL;
-    PyObject *values[] = {count == NULL ? NULL : PyTuple_GetItem(own->statuses, (Py_ssize_t)status), size, code, count};
-    PyObject *arguments = values[0] == NULL ? NULL : PyTuple_Pack(5, values[0], size, code, count, text);
-    if (arguments != NULL) error = own->new_error((PyTypeObject *)own->error, arguments, NULL);
-    int is_whole = error != NULL;
-    for (Py_ssize_t at = 0; is_whole && at < FIELDS; at++) {
-        if (at == CODE && !PyObject_IsTrue(code)) continue; /* the class has 0 */
-        is_whole = PyObject_SetAttr(error, PyTuple_GetItem(own->names, at), values[at]) == 0;
-    }
-    if (is_whole) PyErr_SetObject(own->error, error);
-    Py_XDECREF(error);
+    if (arguments != NULL) PyErr_SetObject(own->error, arguments);
     Py_XDECREF(arguments);
-    Py_XDECREF(count);
-    Py_XDECREF(size);
-    Py_XDECREF(code);
-    Py_XDECREF(text);
     return NULL;
 }
 
-/* The error of a varint, whose text is that of the status. */
-static PyObject *varint_error(const state *own, multihash_status status)
+PyObject *raise_error(const state *own, multihash_status status, uint64_t size, uint64_t code, size_t taken,
+                      const char *text)
 {
-    return raise_error(own, status, PyLong_FromLong(0), PyLong_FromLong(0), 0, PyUnicode_FromString(""));
+    unsigned long long numbers[] = {size, code, taken};
+    return raise(own, Py_BuildValue("IKKKs", status, numbers[0], numbers[1], numbers[2], text));
 }
 
 /* The texts are those of multihash_encode_message, whose numbers have 64 bits. */
-PyObject *encoding_error(const state *own, multihash_status status, PyObject *length, PyObject *code)
+PyObject *encoding_error(const state *own, multihash_status status, PyObject *length, PyObject *number)
 {
-    static const char *texts[] = {"the code %U is 2^63 or more", "the digest has %U bytes, and the limit is %d"};
-    int is_size = status == MULTIHASH_INVALID_SIZE;
-    PyObject *wrong = is_size ? length : code, *none = PyLong_FromLong(0);
-    Py_XDECREF(is_size ? code : length);
+    static const char *texts[] = {
+        [MULTIHASH_OVERFLOW] = "the number %U is 2^63 or more",
+        [MULTIHASH_INVALID_SIZE] = "the digest has %U bytes, and the limit is %d",
+        [MULTIHASH_INVALID_CODE] = "the code %U is 2^63 or more",
+    };
+    int is_size = status == MULTIHASH_INVALID_SIZE, is_code = status == MULTIHASH_INVALID_CODE;
+    PyObject *wrong = PyNumber_Index(is_size ? length : number), *none = PyLong_FromLong(0);
     PyObject *shown = wrong == NULL ? NULL : shown_number(wrong);
-    PyObject *text = shown == NULL ? NULL : PyUnicode_FromFormat(texts[is_size], shown, MULTIHASH_DIGEST_MAX);
+    PyObject *text = shown == NULL ? NULL : PyUnicode_FromFormat(texts[status], shown, MULTIHASH_DIGEST_MAX);
+    raise(own, Py_BuildValue("IOOiN", status, is_size ? wrong : none, is_code ? wrong : none, 0, text));
+    Py_XDECREF(length);
+    Py_XDECREF(wrong);
+    Py_XDECREF(none);
     Py_XDECREF(shown);
-    return raise_error(own, status, is_size ? wrong : none, is_size ? none : wrong, 0, text);
+    return NULL;
 }
 
-/* Why an input is rejected. The limit of a digest is null for SCALE, whose messages depend on no more than was copied. */
-static PyObject *message_of(const input *from, const size_t *limit)
+void write_varint_message(char *text, size_t text_size, multihash_status status, size_t length)
 {
-    char text[MULTIHASH_MESSAGE_SIZE];
-    if (limit == NULL) {
-        multihash_scale_message(text, sizeof text, from->bytes, from->length);
+    if (status == MULTIHASH_OVERFLOW) {
+        mh_text_overflow(text, text_size, "varint");
+    } else if (status == MULTIHASH_NOT_MINIMAL) {
+        mh_text_not_minimal(text, text_size, "varint");
+    } else if (length == 0) {
+        mh_text_empty(text, text_size);
     } else {
-        multihash_message(text, sizeof text, from->bytes, from->whole, *limit);
+        mh_text_ends(text, text_size, "inside", "varint");
     }
-    return PyUnicode_FromString(text);
 }
 
-/* For the package: the class of errors, the members of Status, and the names of an error's attributes. */
-static PyObject *set_error(PyObject *module, PyObject *arguments)
+/* For the package: the class of errors. */
+static PyObject *set_error(PyObject *module, PyObject *class)
 {
     state *own = PyModule_GetState(module);
-    PyObject *class, *statuses, *names, *old[] = {own->error, own->statuses, own->names};
-    if (!PyArg_ParseTuple(arguments, "O!O!O!:set_error", &PyType_Type, &class, &PyTuple_Type, &statuses, &PyTuple_Type,
-                          &names)) {
-        return NULL;
-    }
-    newfunc new_error = (newfunc)PyType_GetSlot((PyTypeObject *)class, Py_tp_new);
-    if (new_error == NULL || PyTuple_Size(names) != FIELDS) return PyErr_Format(PyExc_TypeError, "not a class of errors");
-    own->new_error = new_error;
-    Py_INCREF(own->error = class);
-    Py_INCREF(own->statuses = statuses);
-    Py_INCREF(own->names = names);
-    for (int at = 0; at < 3; at++) Py_XDECREF(old[at]); /* of a package that is loaded again */
+    PyObject *old = own->error;
+    own->error = Py_NewRef(class);
+    Py_DECREF(old);
     Py_RETURN_NONE;
 }
 
@@ -97,14 +78,17 @@ static const size_t longest = MULTIHASH_DIGEST_MAX;
 
 PyObject *decoded(const state *own, const input *from, multihash_decoded found, const size_t *limit)
 {
-    if (found.status != MULTIHASH_OK) {
-        PyObject *size = PyLong_FromUnsignedLongLong(found.size), *code = PyLong_FromUnsignedLongLong(found.code);
-        return raise_error(own, found.status, size, code, found.taken, message_of(from, limit));
+    if (found.status == MULTIHASH_OK) {
+        const char *digest = (const char *)from->bytes + found.digest_offset;
+        return new_multihash(own->type, found.code, PyBytes_FromStringAndSize(digest, (Py_ssize_t)found.digest_length));
     }
-    const char *digest = (const char *)from->bytes + found.digest_offset;
-    PyObject *code = PyLong_FromUnsignedLongLong(found.code);
-    PyObject *copied = code == NULL ? NULL : PyBytes_FromStringAndSize(digest, (Py_ssize_t)found.digest_length);
-    return new_multihash(own->type, found.code, code, copied);
+    char text[MULTIHASH_MESSAGE_SIZE];
+    if (limit == NULL) { /* the message depends on no more than was copied */
+        multihash_scale_message(text, sizeof text, from->bytes, from->length);
+    } else {
+        multihash_message(text, sizeof text, from->bytes, from->whole, *limit);
+    }
+    return raise_error(own, found.status, found.size, found.code, found.taken, text);
 }
 
 /* The same for an input, which it steals, with the number of bytes consumed. */
@@ -115,13 +99,19 @@ static PyObject *decoded_front(PyObject *module, input *from, multihash_decoded 
     return multihash == NULL ? NULL : Py_BuildValue("Nn", multihash, (Py_ssize_t)found.taken);
 }
 
-static PyObject *decode(PyObject *module, GIVEN)
+/* The first bytes of `data`, the only argument of a function. */
+static int get_data(GIVEN, const char *format, Py_ssize_t most, input *from)
 {
     static char *names[] = {"data", NULL};
     PyObject *data;
+    if (!get_arguments(given, count, named, format, names, &data, NULL)) return -1;
+    return get_input(data, "data", most, from);
+}
+
+static PyObject *decode(PyObject *module, GIVEN)
+{
     input from;
-    if (!get_arguments(given, count, named, "O:decode", names, &data, NULL)) return NULL;
-    if (get_input(data, "data", MULTIHASH_LENGTH_MAX, &from) < 0) return NULL;
+    if (get_data(given, count, named, "O:decode", MULTIHASH_LENGTH_MAX, &from) < 0) return NULL;
     multihash_decoded found = multihash_from_prefix(from.bytes, from.length, from.whole);
     PyObject *multihash = decoded(PyModule_GetState(module), &from, found, &longest);
     Py_DECREF(from.owner);
@@ -135,48 +125,46 @@ static PyObject *read_front(PyObject *module, GIVEN)
     size_t limit = longest;
     input from;
     if (!get_arguments(given, count, named, "O|O:read", names, &data, &most)) return NULL;
-    if (most != NULL && get_size(&most, "limit", &limit) < 0) return NULL;
-    Py_XDECREF(most);
+    if (most != NULL && get_size(most, "limit", &limit) < 0) return NULL;
     if (get_input(data, "data", MULTIHASH_LENGTH_MAX, &from) < 0) return NULL;
     return decoded_front(module, &from, multihash_read_limit(from.bytes, from.length, limit), &limit);
 }
 
 static PyObject *scale_decode(PyObject *module, GIVEN)
 {
-    static char *names[] = {"data", NULL};
-    PyObject *data;
     input from;
-    if (!get_arguments(given, count, named, "O:scale_decode", names, &data, NULL)) return NULL;
-    if (get_input(data, "data", MULTIHASH_SCALE_LENGTH_MAX, &from) < 0) return NULL;
+    if (get_data(given, count, named, "O:scale_decode", MULTIHASH_SCALE_LENGTH_MAX, &from) < 0) return NULL;
     return decoded_front(module, &from, multihash_scale_decode(from.bytes, from.length), NULL);
 }
 
 static PyObject *head(PyObject *module, PyObject *data)
 {
     input from;
+    PyObject *result;
     if (get_input(data, "data", MULTIHASH_HEAD_MAX, &from) < 0) return NULL;
     multihash_front found = multihash_head(from.bytes, from.length);
-    PyObject *text = found.status == MULTIHASH_OK ? NULL : message_of(&from, &longest);
-    Py_DECREF(from.owner);
-    if (found.status != MULTIHASH_OK) {
-        const state *own = PyModule_GetState(module);
-        return raise_error(own, found.status, PyLong_FromLong(0), PyLong_FromLong(0), found.taken, text);
+    if (found.status == MULTIHASH_OK) {
+        unsigned long long code = found.code, length = found.digest_length;
+        result = Py_BuildValue("KKn", code, length, (Py_ssize_t)found.taken);
+    } else {
+        result = decoded(PyModule_GetState(module), &from, multihash_read(from.bytes, from.length), &longest);
     }
-    unsigned long long code = found.code, length = found.digest_length;
-    return Py_BuildValue("KKn", code, length, (Py_ssize_t)found.taken);
+    Py_DECREF(from.owner);
+    return result;
 }
 
 static PyObject *read_varint(PyObject *module, GIVEN)
 {
-    static char *names[] = {"data", NULL};
-    PyObject *data;
     input from;
-    if (!get_arguments(given, count, named, "O:read_varint", names, &data, NULL)) return NULL;
-    if (get_input(data, "data", MULTIHASH_VARINT_LENGTH_MAX, &from) < 0) return NULL;
+    char text[MULTIHASH_MESSAGE_SIZE];
+    if (get_data(given, count, named, "O:read_varint", MULTIHASH_VARINT_LENGTH_MAX, &from) < 0) return NULL;
     multihash_varint found = multihash_read_varint(from.bytes, from.length);
     Py_DECREF(from.owner);
-    if (found.status != MULTIHASH_OK) return varint_error(PyModule_GetState(module), found.status);
-    return Py_BuildValue("Kn", (unsigned long long)found.value, (Py_ssize_t)found.length);
+    if (found.status == MULTIHASH_OK) {
+        return Py_BuildValue("Kn", (unsigned long long)found.value, (Py_ssize_t)found.length);
+    }
+    write_varint_message(text, sizeof text, found.status, from.whole);
+    return raise_error(PyModule_GetState(module), found.status, 0, 0, 0, text);
 }
 
 /* Decodes the multihashes of a buffer into `items`, a bytearray. Returns the number of bytes consumed; a failed
@@ -184,7 +172,7 @@ static PyObject *read_varint(PyObject *module, GIVEN)
 static size_t read_items(const uint8_t *bytes, size_t length, PyObject *items)
 {
     size_t count = 0, taken = 0;
-    for (size_t capacity = length < 1 << 25 ? length / 32 + 1 : 1 << 20;; capacity *= 2) {
+    for (size_t capacity = 128;; capacity *= 2) {
         if (PyByteArray_Resize(items, (Py_ssize_t)(capacity * sizeof(multihash_item))) < 0) return 0;
         multihash_item *to = (multihash_item *)(void *)PyByteArray_AsString(items) + count;
         multihash_batch part = multihash_read_many(bytes + taken, length - taken, to, capacity - count);
@@ -225,17 +213,14 @@ static PyObject *encoded(PyObject *module, encoder *function, const char *format
     uint64_t number;
     input digest;
     if (!get_arguments(given, count, named, format, names, &code, &bytes)) return NULL;
-    if (get_pair(&code, bytes, &number, &digest) < 0) return NULL;
+    if (get_pair(code, bytes, &number, &digest) < 0) return NULL;
     /* What is longer was not copied whole. */
     multihash_encoded made = digest.whole > MULTIHASH_DIGEST_MAX
                                  ? multihash_encoded_len(number, digest.whole)
                                  : function(number, digest.bytes, digest.whole, out, sizeof out);
     Py_DECREF(digest.owner);
-    if (made.status != MULTIHASH_OK) {
-        return encoding_error(PyModule_GetState(module), made.status, PyLong_FromSize_t(digest.whole), code);
-    }
-    Py_DECREF(code);
-    return PyBytes_FromStringAndSize((const char *)out, (Py_ssize_t)made.length);
+    if (made.status == MULTIHASH_OK) return PyBytes_FromStringAndSize((const char *)out, (Py_ssize_t)made.length);
+    return encoding_error(PyModule_GetState(module), made.status, PyLong_FromSize_t(digest.whole), code);
 }
 
 static PyObject *encode(PyObject *module, GIVEN)
@@ -251,19 +236,14 @@ static PyObject *scale_encode(PyObject *module, GIVEN)
 static PyObject *encoded_len(PyObject *module, GIVEN)
 {
     static char *names[] = {"code", "digest_length", NULL};
-    PyObject *code, *length, *result = NULL;
+    PyObject *code, *length;
     uint64_t number;
     size_t size;
     if (!get_arguments(given, count, named, "OO:encoded_len", names, &code, &length)) return NULL;
-    if (get_number(&code, "code", &number) < 0) return NULL;
-    if (get_size(&length, "digest_length", &size) == 0) {
-        multihash_encoded made = multihash_encoded_len(number, size);
-        if (made.status != MULTIHASH_OK) return encoding_error(PyModule_GetState(module), made.status, length, code);
-        result = PyLong_FromSize_t(made.length);
-        Py_DECREF(length);
-    }
-    Py_DECREF(code);
-    return result;
+    if (get_number(code, "code", &number) < 0 || get_size(length, "digest_length", &size) < 0) return NULL;
+    multihash_encoded made = multihash_encoded_len(number, size);
+    if (made.status == MULTIHASH_OK) return PyLong_FromSize_t(made.length);
+    return encoding_error(PyModule_GetState(module), made.status, Py_NewRef(length), code);
 }
 
 static PyObject *encode_varint(PyObject *module, GIVEN)
@@ -273,11 +253,10 @@ static PyObject *encode_varint(PyObject *module, GIVEN)
     PyObject *number;
     uint64_t value;
     if (!get_arguments(given, count, named, "O:encode_varint", names, &number, NULL)) return NULL;
-    if (get_number(&number, "number", &value) < 0) return NULL;
-    Py_DECREF(number);
+    if (get_number(number, "number", &value) < 0) return NULL;
     multihash_encoded made = multihash_write_varint(value, out, sizeof out);
-    if (made.status != MULTIHASH_OK) return varint_error(PyModule_GetState(module), made.status);
-    return PyBytes_FromStringAndSize((const char *)out, (Py_ssize_t)made.length);
+    if (made.status == MULTIHASH_OK) return PyBytes_FromStringAndSize((const char *)out, (Py_ssize_t)made.length);
+    return encoding_error(PyModule_GetState(module), made.status, NULL, number);
 }
 
 static PyObject *compare(PyObject *module, GIVEN)
@@ -321,28 +300,26 @@ static PyMethodDef functions[] = {
      "Returns the length of the encoding of a code and a digest of that length."},
     {"compare", WITH_NAMES(compare),
      "compare(left, right)\n--\n\nReturns -1, 0 or 1: the order of two multihashes."},
-    {"set_error", set_error, METH_VARARGS, NULL},
+    {"set_error", set_error, METH_O, NULL},
     {NULL, NULL, 0, NULL},
 };
 
 static int fill_module(PyObject *module)
 {
-    PyObject *type = PyType_FromModuleAndSpec(module, &multihash_spec, NULL);
+    state *own = PyModule_GetState(module);
     PyObject *reader = PyType_FromModuleAndSpec(module, &reader_spec, NULL);
-    PyObject *bases = reader == NULL ? NULL : PyTuple_Pack(1, reader);
-    PyObject *file_reader = bases == NULL ? NULL : PyType_FromModuleAndSpec(module, &file_reader_spec, bases);
-    ((state *)PyModule_GetState(module))->type = (PyTypeObject *)type;
-    int is_filled = type != NULL && file_reader != NULL &&
+    PyObject *file_reader = reader == NULL ? NULL : PyType_FromModuleAndSpec(module, &file_reader_spec, reader);
+    own->type = (PyTypeObject *)PyType_FromModuleAndSpec(module, &multihash_spec, NULL);
+    own->error = Py_NewRef(PyExc_ValueError); /* until the package sets it */
+    int is_filled = own->type != NULL && file_reader != NULL && PyModule_AddType(module, own->type) == 0 &&
+                    PyModule_AddType(module, (PyTypeObject *)reader) == 0 &&
+                    PyModule_AddType(module, (PyTypeObject *)file_reader) == 0 &&
                     PyModule_AddIntConstant(module, "DIGEST_MAX", MULTIHASH_DIGEST_MAX) == 0 &&
                     PyModule_AddIntConstant(module, "HEAD_MAX", MULTIHASH_HEAD_MAX) == 0 &&
                     PyModule_AddIntConstant(module, "LENGTH_MAX", MULTIHASH_LENGTH_MAX) == 0 &&
                     PyModule_AddIntConstant(module, "SCALE_LENGTH_MAX", MULTIHASH_SCALE_LENGTH_MAX) == 0 &&
-                    PyModule_AddIntConstant(module, "VARINT_LENGTH_MAX", MULTIHASH_VARINT_LENGTH_MAX) == 0 &&
-                    PyObject_SetAttrString(module, "Multihash", type) == 0 &&
-                    PyObject_SetAttrString(module, "Reader", reader) == 0 &&
-                    PyObject_SetAttrString(module, "FileReader", file_reader) == 0;
+                    PyModule_AddIntConstant(module, "VARINT_LENGTH_MAX", MULTIHASH_VARINT_LENGTH_MAX) == 0;
     Py_XDECREF(reader);
-    Py_XDECREF(bases);
     Py_XDECREF(file_reader);
     return is_filled ? 0 : -1;
 }
@@ -352,7 +329,6 @@ static int visit_state(PyObject *module, visitproc visit, void *arg)
     state *own = PyModule_GetState(module);
     Py_VISIT(own->type);
     Py_VISIT(own->error);
-    Py_VISIT(own->statuses);
     return 0;
 }
 
@@ -361,8 +337,6 @@ static int clear_state(PyObject *module)
     state *own = PyModule_GetState(module);
     Py_CLEAR(own->type);
     Py_CLEAR(own->error);
-    Py_CLEAR(own->statuses);
-    Py_CLEAR(own->names);
     return 0;
 }
 
@@ -389,7 +363,6 @@ static struct PyModuleDef definition = {
 
 PyMODINIT_FUNC PyInit__core(void)
 {
-    PyObject *hexversion = PySys_GetObject("hexversion");
-    if (hexversion == NULL || PyLong_AsLong(hexversion) < 0x030c0000) slots[1].slot = 0;
+    if (Py_Version < 0x030c0000) slots[1].slot = 0;
     return PyModuleDef_Init(&definition);
 }

@@ -1,17 +1,32 @@
-/* The base of the readers of multihashes and of frames: it keeps what was read of the next one. */
+/* The base of the readers of multihashes and of frames, which are items of two parts: a head, which is the two varints
+ * of a multihash or the varint of a frame's length, and a body, which is a digest or the bytes of a frame. */
 #include "core.h"
 
-#define FILES "an object with a method read, such as open(path, 'rb'), io.BytesIO(data) or socket.makefile('rb')"
-#define STREAMS "an object with an awaitable read, such as an asyncio.StreamReader"
+#define FIRST ((size_t)1 << 16) /* bytes that are asked for at first: memory is for those that came, not for a length */
 
-/* What a reader of that file calls. */
-static PyObject *read_of(PyObject *reader, PyObject *file)
+typedef struct reader_object {
+    PyObject_HEAD
+    const state *own;
+    PyObject *read; /* of the file */
+    PyObject *body; /* of the next item: what the file returned, if that is all, or else a bytearray */
+    size_t limit;   /* of the length of a body */
+    size_t wanted;  /* the number of bytes that a call of the file was asked for which has not returned, or 0 */
+    size_t length;  /* of what was read of the next item's head, */
+    size_t kept;    /* and of its body */
+    unsigned long long taken; /* bytes of the items that were returned */
+    unsigned long long count; /* of these items */
+    multihash_front head;     /* of `bytes`, as far as it is known; a frame has no code */
+    int is_framed;            /* whether it reads frames */
+    char has_lost;            /* whether the file may have lost bytes */
+    uint8_t bytes[MULTIHASH_HEAD_MAX];
+} reader_object;
+
+/* Drops what was read of the next item. */
+static void drop(reader_object *reader)
 {
-    PyObject *read = attribute_of(file, "read");
-    if (read != NULL || !PyErr_ExceptionMatches(PyExc_AttributeError)) return read;
-    PyErr_Clear();
-    int is_async = PyObject_HasAttrString(reader, "__anext__");
-    return wrong_type(is_async ? "stream" : "file", is_async ? STREAMS : FILES, file);
+    reader->head.status = MULTIHASH_INSUFFICIENT;
+    reader->length = reader->kept = 0;
+    Py_CLEAR(reader->body);
 }
 
 /* Raises an error if a call of the file has not returned. */
@@ -24,35 +39,22 @@ static int check_idle(const reader_object *reader)
 
 static int reader_init(PyObject *self, PyObject *arguments, PyObject *named)
 {
-    static char *names[] = {"file", "limit", NULL};
     reader_object *reader = (reader_object *)self;
-    PyObject *file, *most, *read;
+    PyObject *read, *most;
     size_t limit;
     int is_framed = 0;
-    if (PyTuple_Size(arguments) == 3) {
-        if (!PyArg_ParseTuple(arguments, "OOp:FrameReader", &file, &most, &is_framed)) return -1;
-    } else if (!get_two(arguments, named, "OO:MultihashReader", names, &file, &most)) {
-        return -1;
-    }
-    if (get_size(&most, "limit", &limit) < 0) return -1;
-    Py_DECREF(most);
-    if ((read = read_of(self, file)) == NULL) return -1;
-    if (check_idle(reader) < 0) {
-        Py_DECREF(read);
-        return -1;
-    }
+    (void)named;
+    if (!PyArg_ParseTuple(arguments, "OO|p:Reader", &read, &most, &is_framed)) return -1;
+    if (get_size(most, "limit", &limit) < 0 || check_idle(reader) < 0) return -1;
+    drop(reader);
     reader->own = state_of(Py_TYPE(self));
-    reader->limit = limit;
-    reader->length = 0;
+    reader->limit = is_framed || limit < MULTIHASH_DIGEST_MAX ? limit : MULTIHASH_DIGEST_MAX;
     reader->taken = 0;
     reader->count = 0;
-    reader->has_lost = 0;
     reader->is_framed = is_framed;
-    reader->kept = 0;
-    Py_CLEAR(reader->digest);
-    Py_CLEAR(reader->parts);
-    PyObject *old = reader->read; /* now: `file` may begin this reader anew, too */
-    reader->read = read;
+    reader->has_lost = 0;
+    PyObject *old = reader->read; /* now: its file may begin this reader anew, too */
+    reader->read = Py_NewRef(read);
     Py_XDECREF(old);
     return 0;
 }
@@ -67,9 +69,7 @@ static int reader_traverse(PyObject *self, visitproc visit, void *arg)
 static int reader_clear(PyObject *self)
 {
     Py_CLEAR(((reader_object *)self)->read);
-    Py_CLEAR(((reader_object *)self)->digest);
-    Py_CLEAR(((reader_object *)self)->parts);
-    for (int at = 0; at < 2; at++) Py_CLEAR(((reader_object *)self)->arguments[at]);
+    Py_CLEAR(((reader_object *)self)->body);
     return 0;
 }
 
@@ -82,17 +82,27 @@ static void reader_dealloc(PyObject *self)
     Py_DECREF(type);
 }
 
-/* The number of bytes that the multihash still needs at least, or 0 if it is there or rejected. */
+/* Reads the head of the next item, as far as it is there. */
+static void read_head(reader_object *reader)
+{
+    if (!reader->is_framed) {
+        reader->head = multihash_head(reader->bytes, reader->length);
+    } else {
+        multihash_varint varint = multihash_read_varint(reader->bytes, reader->length);
+        reader->head = (multihash_front){.status = varint.status, .digest_length = varint.value};
+    }
+}
+
+/* The number of bytes that the file is asked for next, or 0 if the next item is there or rejected. */
 static size_t missing(reader_object *reader)
 {
-    if (reader->is_framed) return missing_of_frame(reader);
-    multihash_front *front = &reader->front;
-    if (reader->length == 0) front->status = MULTIHASH_INSUFFICIENT;
-    if (reader->length == 0) return 2; /* an encoding has at least two bytes */
-    if (front->status == MULTIHASH_INSUFFICIENT) *front = multihash_head(reader->rest, reader->length);
-    if (front->status != MULTIHASH_OK) return front->status == MULTIHASH_INSUFFICIENT;
-    if (front->digest_length > reader->limit || front->digest_length > MULTIHASH_DIGEST_MAX) return 0;
-    return front->taken + (size_t)front->digest_length - reader->length;
+    multihash_front *head = &reader->head;
+    if (reader->length == 0) return reader->is_framed ? 1 : 2; /* no head is shorter */
+    if (head->status == MULTIHASH_INSUFFICIENT) read_head(reader);
+    if (head->status == MULTIHASH_INSUFFICIENT) return 1;
+    if (head->status != MULTIHASH_OK || head->digest_length > reader->limit) return 0;
+    uint64_t left = head->digest_length - reader->kept, most = reader->kept > FIRST ? reader->kept : FIRST;
+    return (size_t)(left < most ? left : most);
 }
 
 /* Begins a call of the file for the bytes that are wanted: 1, or 0 if the next result is known; negative with an error
@@ -111,26 +121,43 @@ static int begin(reader_object *reader)
     return 1;
 }
 
+/* Keeps bytes of the next item; negative with an error set. */
+static int keep(reader_object *reader, const input *from)
+{
+    if (reader->head.status != MULTIHASH_OK) {
+        memcpy(reader->bytes + reader->length, from->bytes, from->whole);
+        reader->length += from->whole;
+        return 0;
+    }
+    PyObject *body;
+    if (reader->body != NULL) {
+        body = PySequence_InPlaceConcat(reader->body, from->owner);
+    } else if (from->whole == reader->head.digest_length) {
+        body = Py_NewRef(from->owner);
+    } else {
+        body = PyByteArray_FromObject(from->owner);
+    }
+    if (body == NULL) return -1;
+    Py_XDECREF(reader->body);
+    reader->body = body;
+    reader->kept += from->whole;
+    return 0;
+}
+
 /* Ends it with what the file returned: 1, or 0 if that is empty, at the end of the file; negative with an error set. */
 static int end(reader_object *reader, PyObject *chunk)
 {
     input from;
-    reader->has_lost = chunk != Py_None;
-    if (chunk == Py_None) PyErr_SetString(PyExc_BlockingIOError, "the file has no bytes now");
     size_t most = reader->wanted;
     int is_there = chunk != Py_None && get_input(chunk, RESULT_OF_READ, (Py_ssize_t)most, &from) == 0;
     reader->wanted = 0;
+    reader->has_lost = chunk != Py_None;
+    if (chunk == Py_None) PyErr_SetString(PyExc_BlockingIOError, "the file has no bytes now");
     if (!is_there) return -1;
-    reader->has_lost = from.whole > most;
-    if (reader->has_lost) {
+    if (from.whole > most) {
         PyErr_Format(PyExc_ValueError, "the file returned %zu bytes to read(%zu)", from.whole, most);
-    } else if (reader->is_framed && reader->varint.status == MULTIHASH_OK) {
-        reader->has_lost = keep_part(reader, &from) < 0;
     } else {
-        int is_digest = !reader->is_framed && reader->front.status == MULTIHASH_OK && reader->length == reader->front.taken;
-        memcpy(reader->rest + reader->length, from.bytes, from.whole);
-        reader->length += from.whole;
-        if (is_digest && from.whole == most) Py_INCREF(reader->digest = from.owner);
+        reader->has_lost = from.whole > 0 && keep(reader, &from) < 0;
     }
     Py_DECREF(from.owner);
     return reader->has_lost ? -1 : from.whole > 0;
@@ -139,16 +166,9 @@ static int end(reader_object *reader, PyObject *chunk)
 /* Calls the file, after `begin`, and keeps what it returned. */
 static int read_chunk(reader_object *reader)
 {
-    int other = reader->wanted != 2, kept = -1;
-    PyObject *read = reader->read, *arguments = reader->arguments[other];
-    if (arguments == NULL || reader->sizes[other] != reader->wanted) {
-        Py_XDECREF(arguments);
-        reader->sizes[other] = reader->wanted;
-        reader->arguments[other] = arguments = Py_BuildValue("(n)", (Py_ssize_t)reader->wanted);
-    }
-    Py_INCREF(read);
-    Py_XINCREF(arguments);
-    PyObject *chunk = arguments == NULL ? NULL : PyObject_Call(read, arguments, NULL);
+    int kept = -1;
+    PyObject *read = Py_NewRef(reader->read), *count = PyLong_FromSize_t(reader->wanted);
+    PyObject *chunk = count == NULL ? NULL : PyObject_CallFunctionObjArgs(read, count, NULL);
     if (chunk != NULL) {
         kept = end(reader, chunk);
     } else {
@@ -156,40 +176,51 @@ static int read_chunk(reader_object *reader)
         reader->has_lost = !PyErr_ExceptionMatches(PyExc_BlockingIOError);
     }
     Py_XDECREF(chunk);
-    Py_XDECREF(arguments);
+    Py_XDECREF(count);
     Py_DECREF(read);
     return kept;
 }
 
-/* The next multihash, or its error. */
-static PyObject *multihash_of(reader_object *reader)
+static PyObject *multihash_error(const reader_object *reader)
 {
-    const multihash_front *front = &reader->front;
-    input from = {NULL, reader->rest, reader->length, reader->length};
-    if (front->status != MULTIHASH_OK || from.length < front->taken + front->digest_length) { /* it is rejected */
-        multihash_decoded found = multihash_read_limit(from.bytes, from.length, reader->limit);
-        return decoded(reader->own, &from, found, &reader->limit);
-    }
-    PyObject *code = PyLong_FromUnsignedLongLong(front->code), *digest = reader->digest;
-    reader->digest = NULL;
-    if (digest == NULL) {
-        digest = PyBytes_FromStringAndSize((const char *)from.bytes + front->taken, (Py_ssize_t)front->digest_length);
-    }
-    return new_multihash(reader->own->type, front->code, code, digest);
+    input from = {NULL, reader->bytes, reader->length, reader->length + reader->kept};
+    return decoded(reader->own, &from, multihash_read_limit(from.bytes, from.length, reader->limit), &reader->limit);
 }
 
-/* What comes next, whose bytes are dropped, or None if there are none. After an error they stay, for `rest`. */
+static PyObject *frame_error(const reader_object *reader)
+{
+    char reason[MULTIHASH_MESSAGE_SIZE], text[2 * MULTIHASH_MESSAGE_SIZE];
+    multihash_status status = reader->head.status;
+    uint64_t length = reader->head.digest_length, size = 0;
+    if (status != MULTIHASH_OK) {
+        write_varint_message(reason, sizeof reason, status, reader->length);
+    } else if (length > reader->limit) {
+        status = MULTIHASH_INVALID_SIZE;
+        size = length;
+        mh_text_too_long(reason, sizeof reason, "frame", length, reader->limit);
+    } else {
+        status = MULTIHASH_UNEXPECTED_EOF;
+        mh_text_truncated(reason, sizeof reason, "frame", reader->kept, length);
+    }
+    snprintf(text, sizeof text, "frame %llu at offset %llu: %s", reader->count, reader->taken, reason);
+    return raise_error(reader->own, status, size, 0, reader->length, text);
+}
+
+/* The next item, which is dropped, or None if nothing of one was read. After an error it stays, for `rest`. */
 static PyObject *take(reader_object *reader)
 {
+    const multihash_front *head = &reader->head;
     if (reader->length == 0) Py_RETURN_NONE;
-    PyObject *next = reader->is_framed ? frame_of(reader) : multihash_of(reader);
-    if (next != NULL) {
-        reader->taken += reader->length + reader->kept;
-        reader->count++;
-        reader->length = reader->kept = 0;
-        Py_CLEAR(reader->parts);
+    if (head->status != MULTIHASH_OK || reader->kept < head->digest_length) {
+        return reader->is_framed ? frame_error(reader) : multihash_error(reader);
     }
-    return next;
+    PyObject *item = reader->body == NULL ? PyBytes_FromStringAndSize(NULL, 0) : PyBytes_FromObject(reader->body);
+    if (!reader->is_framed) item = new_multihash(reader->own->type, head->code, item);
+    if (item == NULL) return NULL;
+    reader->taken += reader->length + reader->kept;
+    reader->count++;
+    drop(reader);
+    return item;
 }
 
 static PyObject *reader_next(PyObject *self, PyObject *unused)
@@ -201,8 +232,8 @@ static PyObject *reader_next(PyObject *self, PyObject *unused)
     return begun < 0 || kept < 0 ? NULL : take(reader);
 }
 
-/* The steps of `reader_next`, for a call of the file that is awaited: to begin one, to end it and begin the next one, or
- * to fail, and the result. The first two return the number of bytes that are wanted, or 0 if the result is known. */
+/* The steps of `reader_next`, for a call of the file that is awaited: to begin one, to end it and begin the next one,
+ * or to fail, and the result. The first two return the number of bytes that are wanted, or 0 if the result is known. */
 static PyObject *reader_begin(PyObject *self, PyObject *unused)
 {
     int begun = begin((reader_object *)self);
@@ -234,13 +265,11 @@ static PyObject *reader_take(PyObject *self, PyObject *unused)
 
 static PyObject *reader_rest(PyObject *self, void *unused)
 {
-    (void)unused;
     const reader_object *reader = (const reader_object *)self;
-    PyObject *front = PyBytes_FromStringAndSize((const char *)reader->rest, (Py_ssize_t)reader->length);
-    if (front == NULL || reader->kept == 0) return front;
-    PyObject *all = PyBytes_FromObject(reader->digest != NULL ? reader->digest : reader->parts);
-    PyBytes_ConcatAndDel(&front, all);
-    return front;
+    PyObject *rest = PyBytes_FromStringAndSize((const char *)reader->bytes, (Py_ssize_t)reader->length);
+    (void)unused;
+    if (rest != NULL && reader->body != NULL) PyBytes_Concat(&rest, reader->body);
+    return rest;
 }
 
 static PyMethodDef reader_methods[] = {
@@ -284,16 +313,16 @@ PyType_Spec reader_spec = {
     reader_slots,
 };
 
-/* ---- the base of MultihashReader */
+/* ---- the base of the readers of a file that blocks */
 
 static PyObject *next_of_loop(PyObject *self)
 {
-    PyObject *multihash = reader_next(self, NULL);
-    if (multihash == NULL && PyErr_ExceptionMatches(PyExc_StopIteration)) { /* of the file: it would end the loop */
+    PyObject *item = reader_next(self, NULL);
+    if (item == NULL && PyErr_ExceptionMatches(PyExc_StopIteration)) { /* of the file: it would end the loop */
         PyErr_SetString(PyExc_RuntimeError, "the file raised StopIteration");
     }
-    if (multihash == Py_None) Py_CLEAR(multihash);
-    return multihash;
+    if (item == Py_None) Py_CLEAR(item);
+    return item;
 }
 
 static PyMethodDef file_reader_methods[] = {

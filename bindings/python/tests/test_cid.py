@@ -51,7 +51,8 @@ class Cids(unittest.TestCase):
             ("mAVUSIA", "the text must start with b, f, z or Qm"),
             ("bafk\u202ereia", "the character at index 4 is no digit of base32"),
             ("f" + "0" * TEXT_MAX, "the text has more than 553 characters"),
-            ("f01d5", "codec: the input ends before or inside a varint"),
+            ("b", "version: the input is empty"),
+            ("f01d5", "codec: the input ends inside the varint"),
             ("f01551220aa", "multihash: the input ends inside the digest (1 of 32 bytes)"),
             ("f0255", "the version must be 1, not 2"),
         ):

@@ -49,8 +49,7 @@ class MultihashError(ValueError):
         return self.args[4] or TEXTS[self.status] + (" (%s)" % _shown(number) if number else "")
 
 
-# The library's errors are made by _core, as __init__ does it.
-_core.set_error(MultihashError, tuple(Status), ("status", "size", "code", "taken"))
+_core.set_error(MultihashError)
 
 
 def _shown(number: int) -> str:

@@ -7,12 +7,13 @@ from typing import AsyncIterator, Optional, TypeVar
 
 from . import _core
 from ._core import DIGEST_MAX
-from ._types import AsyncReadable, Readable
+from ._types import AsyncReadable, Readable, read_of
 from ._value import Multihash
 
 __all__ = ["AsyncFrameReader", "AsyncMultihashReader", "FrameReader", "MultihashReader", "read_from"]
 
 FRAME_MAX = 1 << 22
+STREAMS = "stream must be an object with an awaitable read, such as an asyncio.StreamReader"
 Item = TypeVar("Item")
 
 
@@ -62,7 +63,7 @@ class MultihashReader(_core.FileReader[Multihash]):
     __module__ = "verified_multihash"
 
     def __init__(self, file: Readable, limit: int = DIGEST_MAX) -> None:
-        super().__init__(file, limit)
+        super().__init__(read_of(file), limit)
 
 
 class AsyncMultihashReader(AsyncReader[Multihash]):
@@ -75,7 +76,7 @@ class AsyncMultihashReader(AsyncReader[Multihash]):
     __module__ = "verified_multihash"
 
     def __init__(self, stream: AsyncReadable, limit: int = DIGEST_MAX) -> None:
-        super().__init__(stream, limit)
+        super().__init__(read_of(stream, STREAMS), limit)
 
 
 class FrameReader(_core.FileReader[bytes]):
@@ -89,7 +90,7 @@ class FrameReader(_core.FileReader[bytes]):
     __module__ = "verified_multihash"
 
     def __init__(self, file: Readable, limit: int = FRAME_MAX) -> None:
-        super().__init__(file, limit, True)
+        super().__init__(read_of(file), limit, True)
 
 
 class AsyncFrameReader(AsyncReader[bytes]):
@@ -99,7 +100,7 @@ class AsyncFrameReader(AsyncReader[bytes]):
     __module__ = "verified_multihash"
 
     def __init__(self, stream: AsyncReadable, limit: int = FRAME_MAX) -> None:
-        super().__init__(stream, limit, True)
+        super().__init__(read_of(stream, STREAMS), limit, True)
 
 
 def read_from(file: Readable, limit: int = DIGEST_MAX) -> Optional[Multihash]:
@@ -110,6 +111,6 @@ def read_from(file: Readable, limit: int = DIGEST_MAX) -> Optional[Multihash]:
     file does not block and has no bytes yet.
     """
     try:
-        return _core.FileReader(file, limit).read()
+        return _core.FileReader(read_of(file), limit).read()
     except BlockingIOError as error:
         raise io.UnsupportedOperation("the file does not block: use a MultihashReader") from error

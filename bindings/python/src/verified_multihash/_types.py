@@ -2,14 +2,14 @@
 
 from __future__ import annotations
 
-from typing import TYPE_CHECKING, Awaitable, Mapping, Optional, Protocol, Union
+from typing import TYPE_CHECKING, Any, Awaitable, Mapping, Optional, Protocol, Union
 
 if TYPE_CHECKING:
     from _typeshed import ReadableBuffer as Buffer
 else:
     Buffer = Union[bytes, bytearray, memoryview]
 
-__all__ = ["AsyncReadable", "Buffer", "Readable", "bytes_like", "part_of_file"]
+__all__ = ["AsyncReadable", "Buffer", "Readable", "bytes_like", "part_of_file", "read_of"]
 
 
 class Readable(Protocol):
@@ -39,3 +39,14 @@ _HINTS = {"encode": " (open the file in binary mode)", "__await__": " (read must
 def part_of_file(read: Buffer) -> Buffer:
     """Returns what `read` of a file returned."""
     return bytes_like(read, "the result of read", _HINTS)
+
+
+_FILES = "file must be an object with a method read, such as open(path, 'rb'), io.BytesIO(data) or socket.makefile('rb')"
+
+
+def read_of(file: object, expected: str = _FILES) -> Any:
+    """Returns the method of a file or a stream. If it has none, the error says what is expected."""
+    try:
+        return getattr(file, "read")
+    except AttributeError:
+        raise TypeError("%s, not %s" % (expected, type(file).__name__)) from None

@@ -27,6 +27,16 @@ def fromhex(cls: Type[Own], text: str, /) -> Own:
     return found if type(found) is cls else cls(found.code, found.digest)
 
 
+def hex(self: Multihash) -> str:
+    """Returns the encoding in hexadecimal, as str does."""
+    return Multihash.__bytes__(self).hex()
+
+
+def hexdigest(self: Multihash) -> str:
+    """Returns the digest in hexadecimal, as the objects of hashlib do."""
+    return self.digest.hex()
+
+
 def __repr__(self: Multihash) -> str:
     return "%s.fromhex(%r)" % (type(self).__qualname__, Multihash.hex(self))
 
@@ -55,8 +65,9 @@ def __replace__(self: Own, /, **changes: Any) -> Own:
     return type(self)(**fields)
 
 
-for method in (__repr__, __format__, __getnewargs__, __reduce_ex__, __replace__):
+for method in (hex, hexdigest, __repr__, __format__, __getnewargs__, __reduce_ex__, __replace__):
     method.__qualname__ = "Multihash." + method.__name__
     setattr(Multihash, method.__name__, method)
+setattr(Multihash, "__str__", hex)
 setattr(Multihash, "fromhex", classmethod(fromhex))
 setattr(Multihash, "__match_args__", ("code", "digest"))

@@ -16,7 +16,7 @@ from . import _codes
 from ._core import DIGEST_MAX, decode
 from ._error import MultihashError
 from ._status import Status
-from ._types import Buffer, Readable, bytes_like, part_of_file
+from ._types import Buffer, Readable, bytes_like, part_of_file, read_of
 from ._value import Multihash
 
 # The calls that use hashlib and hmac import them: this takes longer than to import the rest of the package.
@@ -152,17 +152,13 @@ class Hasher:
 
 
 def _parts(file: Readable) -> Iterator[Buffer]:
-    if not hasattr(file, "read"):
-        expected = "file must be an object with a method read, such as open(path, 'rb') or io.BytesIO(data), not %s"
-        raise TypeError(expected % type(file).__name__)
-    while True:
-        read = file.read(1 << 18)
-        if read is None:
-            raise BlockingIOError("the file has no bytes now")
-        part = part_of_file(read)
+    read = read_of(file)
+    while (part := read(1 << 18)) is not None:
+        part = part_of_file(part)
         if memoryview(part).nbytes == 0:
             return
         yield part
+    raise BlockingIOError("the file has no bytes now")
 
 
 def _digest(parts: Iterable[Buffer], name: Union[str, int], functions: Optional[_Functions]) -> Multihash:
