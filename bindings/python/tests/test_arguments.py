@@ -1,4 +1,4 @@
-"""Tests of what the package makes of arguments, of its errors, and of values."""
+"""What the package makes of arguments, its errors, and values."""
 
 import array
 import copy
@@ -16,21 +16,21 @@ import weakref
 from unittest.mock import Mock
 
 import verified_multihash as vm
-from test_readers import Awaited
+from test_readers import AwaitedMultihashes
 from verified_multihash import Multihash, MultihashError, Status, hashes
 
-BYTES_CALLS = [
-    vm.decode, vm.read, vm.head, vm.scale_decode, vm.read_varint, vm.read_many,
-    lambda data: vm.encode(1, data), lambda data: vm.scale_encode(1, data), lambda data: Multihash(1, data),
-]  # fmt: skip
+try:
+    from _testbuffer import ND_FORTRAN, ndarray
+except ImportError:
+    ndarray = None
+
+DECODERS = [vm.decode, vm.read, vm.head, vm.scale_decode, vm.read_varint, vm.read_many]
+ENCODERS = [vm.encode, vm.scale_encode, Multihash]
 VALUE = Multihash(1, b"abc")
-# each length of a code and of a digest, the longest together
-PAIRS = [(1 << ~size % 63 | 1, bytes(range(size))) for size in range(256)]
-CODE_CALLS = [vm.encode, vm.scale_encode, Multihash, lambda code, digest: vm.encoded_len(code, len(digest))]
-# Arguments with which a function is called by position, and by the names that it shows; large, so that each is a block.
 CODE = 1 << 62
-FIELDS = ("status", "size", "code", "taken")  # of an error
-NEGATIVE = (-1, -(1 << 63), -(1 << 63) - 1, -(1 << 64), -(1 << 700))
+NEGATIVE = (-1, -(1 << 63), -(1 << 63) - 1, -(1 << 700))
+LARGE = (1 << 63, 1 << 64, (1 << 64) + 18, 1 << 700, 10**5000)
+# Arguments with which a function is called by position, and by the names that it shows; large, so that each is a block.
 NAMED_CALLS = {
     vm.decode: [b"\1\3abc"], vm.read: [b"\1\3abc", CODE], vm.head: [b"\1\3"], vm.scale_decode: [bytes(9)],
     vm.read_varint: [b"\xff\1"], vm.encode_varint: [CODE],
@@ -40,34 +40,28 @@ NAMED_CALLS = {
 }  # fmt: skip
 
 
-def shown(number):
-    """A number in a repr: CPython converts no more than 4300 digits, from the versions of 2022 on."""
-    try:
-        return str(number)
-    except ValueError:
-        return hex(number)
-
-
 def front_of(number):
-    """A number as texts have it: at most 40 digits."""
-    text = shown(number)
+    """A number as texts have it: at most 40 digits; CPython converts no more than 4300."""
+    text = str(number) if abs(number) < 10**4300 else hex(number)
     return text if len(text) <= 40 else text[:40] + "..."
 
 
-LONGEST = b"\xff" * 8 + b"\x7f"  # varint
-MORE = bytes(300)
 COROUTINES = Mock(**{"read.return_value": type("coroutine", (), {"__await__": None})()})
-# Words of what each wrong call says: its text alone has to be enough. messages.tsv has more inputs.
+# Words of what each wrong call says: its text alone has to be enough. messages.tsv has the texts of inputs.
 TEXTS = [
-    (vm.head, [b"\x12" + b"\xff" * 9], "digest's length nine"),
-    (vm.head, [b"\x92\0\1"], "code minimal"),
+    (vm.read_varint, [b""], "the input is empty"),
+    (vm.read_varint, [b"\x80"], "the input ends inside the varint"),
+    (vm.read_varint, [b"\x80\0"], "the varint is not minimal: it ends in a zero byte"),
+    (vm.read_varint, [b"\xff" * 9], "the varint has more than nine bytes"),
+    (vm.encode_varint, [1 << 63], "the number 9223372036854775808 is 2^63 or more"),
+    (vm.head, [b"\x92\0\1"], "the varint of the code is not minimal"),
     (vm.decode, [bytearray(1002)], "1000 bytes follow"),
     (vm.read_from, [io.BytesIO(b"\x12\3abc"), 2], "digest 3 2"),
     (vm.read_from, [io.BytesIO(b"\x12\3ab")], "digest 2 3"),
-    (vm.encoded_len, [18, 1 << 64], "digest 18446744073709551616 255"),
     (vm.encoded_len, [18, 10**5000], "digest %s 255" % front_of(10**5000)),
     (vm.encode, [10**39, b""], "code %d 2^63" % 10**39),
     (vm.encode, [10**40, b""], "code %s 2^63" % front_of(10**40)),
+    (vm.encode, [-(10**5000), b""], "code %s" % front_of(-(10**5000))),
     (vm.decode, ["1220"], "data bytes Multihash.fromhex str"),
     (vm.read, [COROUTINES.read()], "data bytes-like coroutine"),
     (Multihash.fromhex, [b"1220"], "text str decode bytes"),
@@ -77,11 +71,14 @@ TEXTS = [
     (Multihash, [18, "abc"], "digest bytes bytes.fromhex str"),
     (Multihash, ["sha2-256", b"abc"], "code int hashes.CODES str"),
     (vm.encode, [1.5, b""], "code int float"),
-    (vm.encode, [-(10**5000), b""], "code %s" % front_of(-(10**5000))),
     (vm.encoded_len, [18, b""], "digest_length int bytes"),
+    (vm.encode_varint, ["1"], "number int str"),
     (vm.read, [b"\0\0", "9"], "limit int str"),
+    (vm.FrameReader, [io.BytesIO(), None], "limit int NoneType"),
+    (vm.compare, [b"\1\0", VALUE], "left Multihash bytes"),
+    (vm.compare, [VALUE, None], "right Multihash NoneType"),
     (vm.MultihashReader, ["path"], "file read open path io.BytesIO socket.makefile str"),
-    (vm.AsyncMultihashReader, [None], "stream read asyncio.StreamReader NoneType"),
+    (vm.AsyncFrameReader, [None], "stream read asyncio.StreamReader NoneType"),
     (vm.read_from, [io.StringIO("1220")], "read bytes binary str"),
     (vm.read_from, [COROUTINES], "read bytes AsyncMultihashReader coroutine"),
     (vm.read_from, [Mock(read=int)], "read bytes-like int"),
@@ -92,6 +89,8 @@ TEXTS = [
     (hashes.digest, ["abc", "sha1"], "data bytes-like text.encode str"),
     (hashes.digest, [io.BytesIO(), "sha1"], "data bytes-like digest_file verify_file BytesIO"),
     (hashes.digest, [bytes(256), "identity"], "identity 255 256"),
+    (hashes.digest, [b"", "sha1", [1]], "functions list"),
+    (hashes.digest, [b"", "sha1", {"blake3": 1}], "functions 'blake3'"),
     (hashes.verify, [Multihash(1, b""), b""], "code 0x1"),
     (hashes.verify, ["1220", b""], "multihash Multihash encoding Multihash.fromhex str"),
     (hashes.verify, [b"abc", Multihash(1, b"")], "data bytes-like multihash first Multihash"),
@@ -101,18 +100,12 @@ TEXTS = [
 ]
 
 
-def says(text, words):
-    """Whether a text has these words, in any sentence."""
-    return {*words.split()} <= {*re.findall(r"[^\s:,()]+", text)}
-
-
-def attributes_of(error):
-    return [getattr(error, name) for name in (*FIELDS, "args", "__dict__")] + [str(error)]
-
-
-def copies(value):
-    """Copies, and what each protocol of pickle makes of a value."""
-    return [copy.copy(value), copy.deepcopy(value), *(pickle.loads(pickle.dumps(value, n)) for n in range(6))]
+def result_of(call, *arguments):
+    """The result of a call, or the fields and the text of its error."""
+    try:
+        return call(*arguments)
+    except MultihashError as error:
+        return error.status, error.size, error.code, error.taken, str(error)
 
 
 class Named(Multihash):
@@ -120,6 +113,8 @@ class Named(Multihash):
 
 
 class Sha256(Multihash):
+    """A subclass with other parameters."""
+
     __slots__ = ("slot", "__dict__")
 
     def __new__(cls, digest):
@@ -129,159 +124,144 @@ class Sha256(Multihash):
         return (self.digest,)
 
 
+def buffers():
+    """Buffers of each shape: items of several bytes, gaps, no dimension and two; short ones, and more than is read."""
+    data, double = b"\1\4abcd", b"\1\1\4\4aabbccdd"
+    yield from (type("Own", (bytes,), {})(data), bytearray(data), array.array("B", data), (ctypes.c_ubyte * 6)(*data))
+    yield from (memoryview(b""), memoryview(double)[::2], memoryview(data[::-1])[::-1])
+    yield from (memoryview(array.array("H", [0x0201, 0, 0x4241, 0]))[::2], ctypes.c_uint16(7))
+    yield from (memoryview(bytes(2000))[::-2], memoryview(bytes(800)).cast("B", [40, 20])[::2])
+    yield type("Block", (ctypes.Structure,), {"_fields_": [("all", ctypes.c_ubyte * 999)]})()
+    for kind in "BHIQ":  # what a call reads ends within an item
+        yield from (array.array(kind, b"\xff" * 8 + b"\x7f\xff\1" + bytes(261)), array.array(kind, bytes(800)))
+    if ndarray is not None:
+        yield ndarray([*b"\0\2\2a"], shape=[2, 2], flags=ND_FORTRAN)  # its rows are not in memory
+
+
+# What takes a number, the name of that, and the status for one that is too large, if any.
+NUMBERS = [
+    *((lambda number, call=call: call(number, b""), "code", Status.INVALID_CODE) for call in ENCODERS),
+    (lambda number: vm.encoded_len(number, 0), "code", Status.INVALID_CODE),
+    (lambda number: vm.encoded_len(18, number), "digest_length", Status.INVALID_SIZE),
+    (vm.encode_varint, "number", Status.OVERFLOW),
+]
+# What reads with a limit.
+LIMITED = [
+    lambda data, *limit: vm.read(data, **dict(zip(["limit"], limit)))[0],
+    lambda data, *limit: vm.read_from(io.BytesIO(data), *limit),
+    lambda data, *limit: vm.MultihashReader(io.BytesIO(data), *limit).read(),
+    lambda data, *limit: AwaitedMultihashes(io.BytesIO(data), *limit).read(),
+]
+
+
 class Arguments(unittest.TestCase):
-    def error_of(self, call, *arguments):
-        with self.assertRaises(MultihashError) as raised:
-            call(*arguments)
-        error = raised.exception
-        self.assertIs(type(error.status), Status)
-        self.assertEqual(attributes_of(error), attributes_of(MultihashError(*error.args)))
-        return error.status, error.size, error.code, str(error), error.taken
-
-    def test_only_buffers(self):
-        for call in BYTES_CALLS:
-            for wrong in (2, 0, True, 2.0, "00", "", [0, 0], (0, 0), None, {}, object()):
-                self.assertRaisesRegex(TypeError, "^data " if call in BYTES_CALLS[:6] else "^digest ", call, wrong)
-            view = memoryview(b"\0\0")
-            view.release()
-            self.assertRaises(ValueError, call, view)
-
-    def test_all_buffers(self):
-        data = b"\x01\x03abc"
-        spread = memoryview(bytes(byte for pair in zip(data, data) for byte in pair))[::2]
-        matrix = memoryview(bytes(800)).cast("B", [40, 20])[::2]
-        same = type("Text", (bytes,), {})(data), bytearray(data), array.array("B", data), (ctypes.c_ubyte * 5)(*data)
-        for buffer in (spread, *same):
-            self.assertEqual(vm.decode(buffer), Multihash(1, b"abc"))
-            digest = Multihash(2, buffer).digest
-            self.assertEqual((digest, type(digest)), (data, bytes))
-        self.assertEqual(vm.decode(array.array("H", [0x0201, 0x4241])).digest, b"AB")
-        gaps = array.array("H", [0x0201, 0, 0x4241, 0])
-        self.assertEqual(vm.decode(memoryview(gaps)[::2]).digest, b"AB")
-        self.assertEqual(vm.decode(memoryview(data[::-1])[::-1]), Multihash(1, b"abc"))
-        self.assertEqual(self.error_of(vm.decode, memoryview(bytes(2000))[::-2])[1], 998)
-        block = type("Block", (ctypes.Structure,), {"_fields_": [("all", ctypes.c_ubyte * 999)]})()  # has no dimension
-        for long, size in ((matrix, 400), (array.array("Q", bytes(800)), 800), (block, 999)):
-            self.assertEqual(vm.read(long), (Multihash(0, b""), 2))
-            self.assertEqual(self.error_of(vm.decode, long)[:2], (Status.INVALID_SIZE, size - 2))
-        self.assertEqual([vm.encode(0, empty) for empty in (b"", bytearray(), array.array("I"))], [b"\0\0"] * 3)
-        for kind in (ctypes.c_uint8, ctypes.c_uint16, ctypes.c_uint64):  # buffers of no dimension
-            self.assertEqual(vm.encode(0, kind(7)), vm.encode(0, bytes(kind(7))))
-        for kind in "BHIQ":  # what a call reads ends within an item
-            for call, front in ((vm.head, LONGEST * 2), (vm.read, LONGEST + b"\xff\1" + bytes(255))):
-                self.assertEqual(call(array.array(kind, front + bytes(6))), call(front))
-        for call in BYTES_CALLS[:3]:
-            self.assertEqual(self.error_of(call, memoryview(b""))[0], Status.INSUFFICIENT)
+    def test_buffers(self):
+        """Each function has the result that it has for the same bytes."""
+        encoders = [lambda digest, call=call: call(1, digest) for call in ENCODERS]
+        for buffer, call in itertools.product(buffers(), DECODERS[:5] + encoders):
+            self.assertEqual(result_of(call, buffer), result_of(call, memoryview(buffer).tobytes()))
+        self.assertIs(type(Multihash(1, bytearray(b"abc")).digest), bytes)
+        for call, wrong in itertools.product(DECODERS + encoders, (2, "00", [0, 0], None)):
+            self.assertRaisesRegex(TypeError, "^(data|digest) must be ", call, wrong)
+        view = memoryview(b"\0\0")
+        view.release()
+        self.assertRaises(ValueError, vm.decode, view)
 
     def test_numbers(self):
-        for call in CODE_CALLS:
-            for wrong in (18.0, "18", None, b"\x12"):
-                self.assertRaises(TypeError, call, wrong, b"")
-            for code in NEGATIVE:
-                self.assertRaisesRegex(ValueError, "code .* %s" % re.escape(front_of(code)), call, code, b"")
-            for code in (1 << 63, (1 << 64) - 1, 1 << 64, (1 << 64) + 18, 1 << 700, 10**5000):
-                status, size, found, text, _ = self.error_of(call, code, bytes(255))
-                self.assertEqual((status, size, found, front_of(code) in text), (Status.INVALID_CODE, 0, code, True))
-                self.assertEqual(self.error_of(call, code, bytes(256))[:3], (Status.INVALID_SIZE, 256, 0))
-        self.assertEqual(self.error_of(vm.scale_decode, bytes(7) + b"\x80\0")[2], 1 << 63)
         whole = type("Whole", (), {"__index__": lambda _: 3})()  # numbers of other packages have it
-        self.assertEqual((vm.encode(whole, b"abc"), vm.read(b"\3\3abc", whole)[1]), (b"\3\3abc", 5))
-        for length in (256, 1 << 63, 1 << 64, (1 << 64) + 5, 1 << 700):
-            self.assertEqual(self.error_of(vm.encoded_len, 18, length)[:3], (Status.INVALID_SIZE, length, 0))
-        for length in NEGATIVE:
-            self.assertRaisesRegex(ValueError, "digest_length .* -", vm.encoded_len, 18, length)
-
-    def test_varints(self):
-        for number in {0, *(1 << bits for bits in range(63)), *((1 << bits) - 1 for bits in range(64))}:
-            varint = vm.encode_varint(number)
-            self.assertEqual((varint + b"\0", bytearray(varint)), (vm.encode(number, b""), varint))
-            self.assertEqual((vm.read_varint(varint), vm.read_varint(varint + MORE)), ((number, len(varint)),) * 2)
-            for cut in range(len(varint)):
-                self.assertEqual(self.error_of(vm.read_varint, varint[:cut])[0], Status.INSUFFICIENT)
-        for number in (1 << 63, 1 << 64, 1 << 700):
-            self.assertEqual(self.error_of(vm.encode_varint, number)[0], Status.OVERFLOW)
-        for wrong, status in ((b"\x80\0", Status.NOT_MINIMAL), (b"\xff" * 9 + b"\1", Status.OVERFLOW)):
-            text = vm._status.TEXTS[status].replace("a", "the", 1)
-            self.assertEqual(self.error_of(vm.read_varint, wrong), (status, 0, 0, text, 0))
-        for number in NEGATIVE:
-            self.assertRaisesRegex(ValueError, "^number .* %s" % re.escape(front_of(number)), vm.encode_varint, number)
-        self.assertRaisesRegex(TypeError, "^number .* str", vm.encode_varint, "1")
+        limits = [(lambda limit, call=call: call(b"\1\3abc", limit), "limit", None) for call in LIMITED]
+        for call, name, status in NUMBERS + limits:
+            self.assertEqual(call(whole), call(3))
+            for wrong in (18.0, "18", None, b"\x12"):
+                self.assertRaisesRegex(TypeError, "^%s must be an int" % name, call, wrong)
+            for number in NEGATIVE:
+                text = "^%s must be 0 or more, not %s$" % (name, re.escape(front_of(number)))
+                self.assertRaisesRegex(ValueError, text, call, number)
+            for number in LARGE:
+                found = result_of(call, number)
+                if status is None:
+                    self.assertEqual(found, VALUE)
+                    continue
+                size, code = number * (status is Status.INVALID_SIZE), number * (status is Status.INVALID_CODE)
+                self.assertEqual(found[:4], (status, size, code, 0))
+                self.assertIn(" %s " % front_of(number), found[4])
+        for call in ENCODERS:  # the length is looked at first
+            self.assertEqual(result_of(call, 1 << 64, bytes(256))[:2], (Status.INVALID_SIZE, 256))
 
     def test_limits(self):
         """Each call that reads has a limit, which is the longest digest if none is given."""
         self.assertEqual((vm.DIGEST_MAX, vm.HEAD_MAX, vm.LENGTH_MAX, vm.SCALE_LENGTH_MAX), (255, 18, 266, 264))
-        self.assertEqual(vm.VARINT_LENGTH_MAX, len(vm.encode_varint((1 << 63) - 1)))
-        data = {size: bytes(Multihash(1, bytes(size))) for size in (3, 255)}
-        for call in (
-            lambda data, *limit: vm.read(data, **dict(zip(["limit"], limit)))[0],
-            lambda data, *limit: vm.read_from(io.BytesIO(data), *limit),
-            lambda data, *limit: vm.MultihashReader(io.BytesIO(data), *limit).read(),
-            lambda data, *limit: Awaited(io.BytesIO(data), *limit).read(),
-        ):
-            for limit in ((3,), (255,), *((1 << bits,) for bits in (8, 16, 31, 32, 63, 64, 700)), ()):
-                self.assertEqual(call(data[3], *limit).digest, bytes(3))
-            self.assertEqual(self.error_of(call, data[3], 2)[:2], (Status.INVALID_SIZE, 3))
-            self.assertEqual(call(data[255]).digest, bytes(255))
-            self.assertEqual(self.error_of(call, b"\x01\x80\x02" + bytes(256), 1 << 64)[:2], (Status.INVALID_SIZE, 256))
-            for limit in NEGATIVE:
-                self.assertRaisesRegex(ValueError, "limit .* -", call, b"", limit)
-            for wrong in (3.0, "3"):
-                self.assertRaises(TypeError, call, data[3], wrong)
-        values = [Multihash(*pair) for pair in PAIRS]
-        for kind in (vm.MultihashReader, Awaited):
-            self.assertEqual(list(kind(io.BytesIO(b"".join(map(bytes, values))))), values)
+        self.assertEqual(vm.VARINT_LENGTH_MAX, 9)
+        for call, (size, *limit) in itertools.product(LIMITED, ((255,), (256,), (3, 3), (3, 2), (256, 1 << 64))):
+            found = result_of(call, b"\1" + vm.encode_varint(size) + bytes(size), *limit)
+            if size <= min(*limit, 255, 255):
+                self.assertEqual(found, Multihash(1, bytes(size)))
+            else:
+                self.assertEqual(found[:2], (Status.INVALID_SIZE, size))
 
     @unittest.skipIf("asan" in os.environ.get("LD_PRELOAD", ""), "the sanitizer has more memory than the limit")
     def test_no_long_copies(self):
         """A sparse file of 8 GiB, memory for 1 GiB: no call copies it, and lengths keep all their bits."""
         length, before = 1 << 33, resource.getrlimit(resource.RLIMIT_DATA)
         self.addCleanup(resource.setrlimit, resource.RLIMIT_DATA, before)
+        zero = Multihash(0, b"")
         with tempfile.TemporaryFile() as file:
             file.truncate(length)
             with mmap.mmap(file.fileno(), 0, access=mmap.ACCESS_READ) as data:
                 resource.setrlimit(resource.RLIMIT_DATA, (1 << 30, before[1]))
                 self.assertRaises(MemoryError, bytes, data)
-                self.assertEqual((vm.read(data), vm.head(data)), ((Multihash(0, b""), 2), (0, 0, 2)))
-                self.assertEqual(vm.scale_decode(data), (Multihash(0, b""), 9))
-                self.assertEqual(vm.read(memoryview(data)[::3]), (Multihash(0, b""), 2))
-                self.assertEqual(vm.read(memoryview(data).cast("H")[::-3]), (Multihash(0, b""), 2))
-                self.assertEqual(self.error_of(vm.decode, data)[4], length)
-                for call, size in ((vm.decode, length - 2), *((call, length) for call in BYTES_CALLS[6:])):
-                    self.assertEqual(self.error_of(call, data)[:2], (Status.INVALID_SIZE, size))
-                self.assertIs(hashes.verify(Multihash(0, b""), data), False)
-                self.assertEqual(self.error_of(hashes.digest, data, "identity")[1], length)
-                self.assertIs(hashes.verify_file(Multihash(0, b""), file), False)
-                self.error_of(hashes.digest_file, file, "identity")
+                self.assertEqual(
+                    (vm.read(data), vm.head(data), vm.scale_decode(data)), ((zero, 2), (0, 0, 2), (zero, 9))
+                )
+                self.assertEqual(vm.read(memoryview(data)[::3]), (zero, 2))
+                self.assertEqual(result_of(vm.decode, data)[:4], (Status.INVALID_SIZE, length - 2, 0, length))
+                for call in ENCODERS:
+                    self.assertEqual(result_of(call, 1, data)[:2], (Status.INVALID_SIZE, length))
+                self.assertIs(hashes.verify(zero, data), False)
+                self.assertEqual(result_of(hashes.digest, data, "identity")[1], length)
+                self.assertIs(hashes.verify_file(zero, file), False)
+                self.assertRaises(MultihashError, hashes.digest_file, file, "identity")
 
-    def test_errors(self):
-        self.assertIs(MultihashError(Status.NO_ROOM).is_incomplete, False)
+    def test_texts(self):
+        for call, arguments, words in TEXTS:
+            with self.subTest(words), self.assertRaises((TypeError, ValueError)) as raised:
+                call(**arguments) if isinstance(arguments, dict) else call(*arguments)
+            found = re.findall(r"[^\s:,()]+", str(raised.exception))
+            self.assertLessEqual({*re.findall(r"[^\s:,()]+", words)}, {*found})
+
+
+class Errors(unittest.TestCase):
+    def test_made(self):
+        """Errors that a caller makes, and those whose args it replaces."""
+        texts = vm._status.TEXTS
         self.assertEqual(str(MultihashError(1).args), str((Status(1), 0, 0, 0, "")))
         for wrong in (0, len(Status), -1):
             self.assertRaises(ValueError, MultihashError, wrong)
-        large = type("Own", (MultihashError,), {})(5, 0, 10**4300)
-        text = "%s (%s)" % (vm._status.TEXTS[5], shown(large.code))
-        self.assertEqual(repr(large), "Own(%r, 0, %s, 0, %r)" % (large.status, shown(large.code), text))
         made = [str(MultihashError(*numbers)) for numbers in ((1,), (4, 3), (4, 3, 0, 2, "own"))]
-        self.assertEqual(made, [vm._status.TEXTS[1], vm._status.TEXTS[4] + " (3)", "own"])
+        self.assertEqual(made, [texts[1], texts[4] + " (3)", "own"])
+        large = type("Own", (MultihashError,), {})(5, 0, 10**5000)
+        code = hex(10**5000)
+        self.assertEqual(repr(large), "Own(%r, 0, %s, 0, '%s (%s)')" % (Status(5), code, texts[5], code))
         for text, args in (("path: text", ["path: text"]), ("", [])):
             large.args = args
-            self.assertEqual((str(large), large.code), (text, 10**4300))
+            self.assertEqual((str(large), large.code), (text, 10**5000))
+        self.assertEqual([MultihashError(each).is_incomplete for each in (1, 5, 6, 7)], [True, False, True, False])
 
-    def test_error_class(self):
+    def test_class(self):
         """pydantic 1 takes the code of a class for a text, unless it is false, and shows the dictionary of an error."""
         self.assertFalse(MultihashError.code)
         self.assertEqual(MultihashError(4, 3).__dict__, {})
 
-    def test_texts(self):
-        for call, arguments, words in TEXTS:
-            with self.assertRaises((TypeError, ValueError)) as raised:
-                call(**arguments) if isinstance(arguments, dict) else call(*arguments)
-            self.assertTrue(says(str(raised.exception), words), (raised.exception, words))
+
+def copies(value):
+    """Copies, and what each protocol of pickle makes of a value."""
+    return [copy.copy(value), copy.deepcopy(value), *(pickle.loads(pickle.dumps(value, n)) for n in range(6))]
 
 
 class Values(unittest.TestCase):
     def test_order(self):
-        pairs = [(0, b"zz"), (1, b"b"), (1, b"ab"), (1, b"bb"), (2, b""), (2, bytes(255)), ((1 << 63) - 1, b"")]
+        """Operators, also between a value and one of a subclass. values.tsv has more values."""
+        pairs = [(0, b"zz"), (1, b"b"), (1, b"ab"), (2, b"")]
         kinds = Multihash, Named, type("Other", (type("Middle", (Multihash,), {}),), {}), type("Inner", (Named,), {})
         for one, other in itertools.product(kinds, repeat=2):
             for (i, left), (k, right) in itertools.product(enumerate(pairs), repeat=2):
@@ -290,11 +270,8 @@ class Values(unittest.TestCase):
                 self.assertEqual((left < right, left <= right, left > right), (i < k, i <= k, i > k))
                 self.assertEqual((left >= right, left == right, left != right), (i >= k, i == k, i != k))
                 self.assertEqual(len({left, right}), 1 + (i != k))
-        for wrong in ((1, b"b"), None, b"\1\0"):
-            self.assertRaisesRegex(TypeError, "left .* %s" % type(wrong).__name__, vm.compare, wrong, VALUE)
-            self.assertRaisesRegex(TypeError, "right .* %s" % type(wrong).__name__, vm.compare, VALUE, wrong)
-            self.assertRaises(TypeError, lambda: VALUE < wrong)
-            self.assertIs(VALUE.__eq__(wrong), NotImplemented)  # the other one may know
+        self.assertRaises(TypeError, lambda: VALUE < b"\1\0")
+        self.assertIs(VALUE.__eq__(b"\1\0"), NotImplemented)  # the other one may know
 
     def test_values(self):
         source = bytearray(b"abc")
@@ -302,11 +279,10 @@ class Values(unittest.TestCase):
         for value, kind in ((Multihash(True, source), Multihash), (own(1, source), own)):
             source[0] = 0
             self.assertEqual((repr(value), hash(value)), ("%s.fromhex('0103616263')" % kind.__qualname__, hash(VALUE)))
-            self.assertEqual((vm.compare(value, VALUE), bytes(value), value.hexdigest()), (0, b"\1\3abc", "616263"))
+            self.assertEqual((value, bytes(value), value.hexdigest()), (VALUE, b"\1\3abc", "616263"))
             self.assertEqual([value.hex(), str(value), "%s" % value, format(value)], ["0103616263"] * 4)
             self.assertEqual("{:>12} {!s:.4}".format(value, value), "  0103616263 0103")
             self.assertRaises(TypeError, value.__format__, 2)
-            self.assertRaises(ValueError, format, value, "x")
             short = type("Short", (kind,), {"__str__": kind.hexdigest})(1, b"abc")
             self.assertEqual((format(short), repr(short)), ("616263", "Short.fromhex('0103616263')"))
             source[0] = ord("a")
@@ -319,25 +295,18 @@ class Values(unittest.TestCase):
 
     def test_copies(self):
         """They keep all attributes, those of subclasses and errors too, which may have other parameters."""
-        value = Sha256(b"abc")
-        with self.assertRaises(MultihashError) as raised:
-            vm.decode(b"\1\2a")
-        error = raised.exception
+        for again in copies(Multihash(CODE, bytes(255))):
+            self.assertEqual((type(again), again), (Multihash, Multihash(CODE, bytes(255))))
+        value, error = Sha256(b"abc"), MultihashError(6, 0, 0, 3, "text")
         value.more, value.slot, error.more = "kept", 3, "kept"
-        self.assertEqual(repr(error), "MultihashError(%r, 0, 0, 3, '%s')" % (Status.UNEXPECTED_EOF, error))
-        for pair in PAIRS:
-            found = [(type(it), it.code, it.digest) for it in copies(Multihash(*pair))]
-            self.assertEqual(found, [(Multihash, *pair)] * 8)
         for again in copies(value):
             self.assertEqual((type(again), again, again.more, again.slot), (Sha256, Multihash(18, b"abc"), "kept", 3))
         for again in copies(error):
-            self.assertEqual((type(again), attributes_of(again)), (MultihashError, attributes_of(error)))
+            self.assertEqual((type(again), again.more, again.args, again.taken), (type(error), "kept", error.args, 3))
 
     def test_hexadecimal(self):
-        """All lengths, both ways; a subclass makes its own values, if it has the parameters."""
-        for kind, (code, digest) in itertools.product((Multihash, Named), PAIRS):
-            value = kind(code, digest)
-            self.assertEqual((value.hex(), value.hexdigest()), (vm.encode(code, digest).hex(), digest.hex()))
+        """A text has digits and white space; a subclass makes its own values, if it has the parameters."""
+        for kind, value in itertools.product((Multihash, Named), (VALUE, Multihash(CODE, bytes(range(255))))):
             for text in (value.hex(), value.hex().upper(), " ".join(map("%02x".__mod__, bytes(value)))):
                 again = kind.fromhex(text)
                 self.assertEqual((again, type(again)), (value, kind))
@@ -345,8 +314,6 @@ class Values(unittest.TestCase):
         self.assertRaises(TypeError, Sha256.fromhex, VALUE.hex())
         own = type("Own", (Multihash,), {"_core": 5})  # a name that was the type's
         self.assertEqual(own.fromhex(VALUE.hex()), VALUE)
-        self.assertRaises(MultihashError, own, 1 << 64, b"")
-        self.assertRaises(MultihashError, own, 10**5000, b"")
         for wrong in ("0", "0x0000", "zz", "é0"):
             self.assertRaisesRegex(ValueError, "hexadecimal", Multihash.fromhex, wrong)
         self.assertRaises(MultihashError, Multihash.fromhex, "00")
@@ -357,7 +324,6 @@ class Values(unittest.TestCase):
             changed = value.__replace__(digest=b"d"), value.__replace__(code=2), value.__replace__()
             self.assertEqual(changed, (Multihash(CODE, b"d"), Multihash(2, b"abc"), value))
             self.assertEqual({type(each) for each in changed}, {type(value)})
-            self.assertRaises(TypeError, value.__replace__, 2)
             self.assertRaises(TypeError, value.__replace__, size=2)
             self.assertRaises(MultihashError, value.__replace__, digest=bytes(256))
         call = lambda own, code, digest, more: Multihash.__new__(own, code + more, digest)

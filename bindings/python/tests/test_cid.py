@@ -9,7 +9,28 @@ from verified_multihash import Multihash, MultihashError, hashes
 from verified_multihash.cid import CODECS, LENGTH_MAX, TEXT_MAX, CID, CIDError
 
 HELLO = hashes.digest(b"hello world", "sha2-256")
-RAW = CID(1, CODECS["raw"], HELLO)
+RAW, OLD = CID(1, CODECS["raw"], HELLO), CID(0, 0x70, HELLO)
+# Calls with the status and the text of their errors: cids.tsv has the status of more texts.
+ERRORS = [
+    (CID.parse, [""], "insufficient", "the text is empty"),
+    (CID.parse, ["b"], "insufficient", "version: the input is empty"),
+    (CID.decode, [b""], "insufficient", "version: the input is empty"),
+    (CID.parse, ["mAVUSIA"], "unknown_base", "the text must start with b, f, z or Qm"),
+    (CID.parse, ["bafk\u202ereia"], "invalid_digit", "the character at index 4 is no digit of base32"),
+    (CID.parse, ["f" + "0" * TEXT_MAX], "too_long", "the text has more than 553 characters"),
+    (CID.parse, ["f01d5"], "insufficient", "codec: the input ends inside the varint"),
+    (CID.parse, ["f01550"], "trailing_bits", "the last digit of base16 has bits of no byte"),
+    (CID.read, [b"\1\x55\x12"], "insufficient", "multihash: the input ends before the digest's length"),
+    (CID.parse, ["f01551220aa"], "unexpected_eof", "multihash: the input ends inside the digest (1 of 32 bytes)"),
+    (CID.parse, ["f0255"], "unknown_version", "the version must be 1, not 2"),
+    (CID, [2, 0x55, HELLO], "unknown_version", "the version must be 0 or 1"),
+    (CID, [-1, 0x55, HELLO], "unknown_version", "the version must be 0 or 1"),
+    (CID, [1, 2**63, HELLO], "overflow", "codec: the number 9223372036854775808 is 2^63 or more"),
+    *(
+        (CID, fields, "not_version_0", "version 0 has the codec 0x70 and a multihash of SHA2-256 with 32 bytes")
+        for fields in ([0, 0x55, HELLO], [0, 0x70, Multihash(18, bytes(31))], [0, 0x70, Multihash(19, bytes(32))])
+    ),
+]
 
 
 def shown(call, argument):
@@ -35,58 +56,30 @@ class Cids(unittest.TestCase):
                 self.assertEqual(result, row["result"])
                 if not data or result == "wrong_prefix":
                     continue
-                for kind in (bytes, bytearray, memoryview):
-                    self.assertEqual(shown(CID.decode, kind(data))[0], result)
+                self.assertEqual(shown(CID.decode, bytearray(data))[0], result)
                 if isinstance(found, CIDError):
                     self.assertEqual(isinstance(found.__cause__, MultihashError), result != "unknown_version")
                     continue
                 self.assertEqual((bytes(found), found.text(text[0] if found.version else "z")), (data, text))
                 self.assertEqual(CID.read(memoryview(data + bytes(999))), (found, len(data)))
-                self.assertEqual(CID(found.version, found.codec, found.multihash), found)
                 self.assertLessEqual(len(data), LENGTH_MAX)
 
-    def test_texts_of_errors(self):
-        for text, words in (
-            ("", "the text is empty"),
-            ("mAVUSIA", "the text must start with b, f, z or Qm"),
-            ("bafk\u202ereia", "the character at index 4 is no digit of base32"),
-            ("f" + "0" * TEXT_MAX, "the text has more than 553 characters"),
-            ("b", "version: the input is empty"),
-            ("f01d5", "codec: the input ends inside the varint"),
-            ("f01551220aa", "multihash: the input ends inside the digest (1 of 32 bytes)"),
-            ("f0255", "the version must be 1, not 2"),
-        ):
-            with self.subTest(text[:9]):
-                self.assertEqual(str(shown(CID.parse, text)[1]), words)
-
-    def test_made(self):
-        """What has no encoding cannot be made, also not by dataclasses.replace."""
-        for status, fields in (
-            ("unknown_version", (2, 0x55, HELLO)),
-            ("unknown_version", (-1, 0x55, HELLO)),
-            ("not_version_0", (0, 0x55, HELLO)),
-            ("not_version_0", (0, 0x70, Multihash(0x12, HELLO.digest[1:]))),
-            ("not_version_0", (0, 0x70, Multihash(0x13, HELLO.digest))),
-            ("overflow", (1, 2**63, HELLO)),
-        ):
-            with self.subTest(fields=fields), self.assertRaises(CIDError) as raised:
-                CID(*fields)
-            self.assertEqual(raised.exception.status, status)
-        self.assertRaises(ValueError, CID, 1, -1, HELLO)
-        self.assertRaises(TypeError, CID, 1.0, 0x55, HELLO)
-        self.assertRaises(TypeError, CID, 1, "raw", HELLO)
-        self.assertRaises(TypeError, CID, 1, 0x55, bytes(HELLO))
+    def test_errors(self):
+        for call, arguments, status, text in ERRORS:
+            with self.subTest(text, arguments=arguments), self.assertRaises(CIDError) as raised:
+                call(*arguments)
+            self.assertEqual((raised.exception.status, str(raised.exception)), (status, text))
 
     def test_values(self):
-        old = CID(0, 0x70, HELLO)
-        for cid in (RAW, old):
+        for cid in (RAW, OLD):
             self.assertEqual((eval(repr(cid)), f"{cid:>60}", f"{cid}"), (cid, str(cid).rjust(60), str(cid)))
             for other in (pickle.loads(pickle.dumps(cid)), copy.copy(cid), CID(cid.version, cid.codec, cid.multihash)):
                 self.assertEqual((other, hash(other)), (cid, hash(cid)))
-        self.assertNotEqual(CID(1, 0x70, HELLO), old)
-        with self.assertRaises(AttributeError):
-            RAW.codec = 0
+        self.assertNotEqual(CID(1, 0x70, HELLO), OLD)
+        self.assertRaises(AttributeError, setattr, RAW, "codec", 0)
         self.assertEqual(vars(RAW), {"version": 1, "codec": 0x55, "multihash": HELLO})  # pydantic 1 reads them there
+
+    def test_errors_as_values(self):
         error = shown(CID.parse, "b")[1]
         again = pickle.loads(pickle.dumps(error))
         self.assertEqual((str(again), again.status), (str(error), error.status))
@@ -95,22 +88,22 @@ class Cids(unittest.TestCase):
             self.assertEqual((str(again), again.status), (text, error.status))
 
     def test_arguments(self):
-        for wrong in (None, 5, [1], "f01550000", object()):
-            self.assertRaises(TypeError, CID.decode, wrong)
-            self.assertRaises(TypeError, CID.read, wrong)
-        self.assertRaises(TypeError, CID.parse, b"b")
+        for call, *wrong in (
+            *((call, wrong) for call in (CID.decode, CID.read) for wrong in (None, 5, [1], "f01550000")),
+            (CID.parse, b"b"), (CID, 1.0, 0x55, HELLO), (CID, 1, "raw", HELLO), (CID, 1, 0x55, bytes(HELLO)),
+        ):  # fmt: skip
+            self.assertRaises(TypeError, call, *wrong)
+        for call, *wrong in (
+            (CID, 1, -1, HELLO),
+            (OLD.text, "b"),
+            *((RAW.text, base) for base in ("m", "base32", "bf")),
+        ):
+            self.assertRaises(ValueError, call, *wrong)
+
+    def test_buffers(self):
         for call in (CID.decode, CID.read):
             part = bytearray(bytes(RAW)[:9])
-            try:
-                call(part)
-            except CIDError as error:
-                part += bytes(RAW)[9:]  # an error holds no view of the buffer
-                self.assertEqual(error.status, "unexpected_eof")
-            self.assertEqual(CID.decode(part), RAW)
+            status, error = shown(call, part)
+            part += bytes(RAW)[9:]  # an error holds no view of the buffer
+            self.assertEqual((status, error.status, CID.decode(part)), ("unexpected_eof", "unexpected_eof", RAW))
         self.assertEqual(CID.decode(memoryview(b"\1\0\x55\0\0\0\0\0")[::2]), CID(1, 0x55, Multihash(0, b"")))
-        for cid, base in ((CID(0, 0x70, HELLO), "b"), (RAW, "m"), (RAW, "base32"), (RAW, "bf")):
-            self.assertRaises(ValueError, cid.text, base)
-
-
-if __name__ == "__main__":
-    unittest.main()

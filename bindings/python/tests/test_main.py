@@ -13,20 +13,14 @@ SHOWN = "code 22\nsize 32\ndigest %s\n" % HEX[4:]
 HERE = Path(__file__).resolve().parent
 # in the repository, or beside this file in an sdist
 PLACES = (HERE.parents[2] / "crates" / "mh_show" / "rows.tsv", HERE / "rows.tsv")
-ROWS = next(path for path in PLACES if path.exists())
 
 
 def rows():
     """The input, the standard output, the reason and the status of each line of rows.tsv."""
-    for line in ROWS.read_text("utf-8").splitlines():
+    for line in next(path for path in PLACES if path.exists()).read_text("utf-8").splitlines():
         if not line.startswith("#"):
             line = re.sub(r"\{(\w+)\*(\d+)\}", lambda found: found.group(1) * int(found.group(2)), line)
             yield line.replace(r"\n", "\n").replace(r"\r", "\r").split("\t")
-
-
-def error_of(reason):
-    """What the command prints to standard error for a reason."""
-    return "python -m verified_multihash: %s\n" % reason if reason else ""
 
 
 def own_reason(text, reason):
@@ -48,25 +42,25 @@ def run(*words, **given):
     return ended.returncode, ended.stdout or "", ended.stderr or ""
 
 
+def failed(reason):
+    return 1, "", "python -m verified_multihash: %s\n" % reason
+
+
 class Main(unittest.TestCase):
     def test_rows(self):
         for text, output, reason, status in rows():
             with self.subTest(text=text[:80]):
-                self.assertEqual(run(input=text), (int(status), output, error_of(own_reason(text, reason))))
-
-    def test_argument(self):
-        for text in (HEX, HEX.upper(), HEX + "\n"):
-            self.assertEqual(run(text, input="zz"), (0, SHOWN, ""))
-        for text, _, reason, _ in rows():
-            if text in ("", "0041", "zz"):
-                self.assertEqual(run(text, input=HEX), (1, "", error_of(own_reason(text, reason))))
-        self.assertEqual(run("1205"), (1, "", error_of("the input ends before the digest (0 of 5 bytes)")))
-        for words, text in (("\udcff",), HEX), ((), "\udcff"):  # a byte that is no UTF-8
-            self.assertEqual(run(*words, input=text), (1, "", error_of("not hexadecimal")))
+                wanted = failed(own_reason(text, reason)) if reason else (0, output, "")
+                self.assertEqual((run(input=text), wanted[0]), (wanted, int(status)))
 
     def test_arguments(self):
-        status, output, reason = run(HEX, HEX)
-        self.assertEqual((status, output, "[HEX]" in reason), (1, "", True))
+        for text in (HEX, HEX.upper(), HEX + "\n"):
+            self.assertEqual(run(text, input="zz"), (0, SHOWN, ""))
+        self.assertEqual(run("1205", input=HEX), failed("the input ends before the digest (0 of 5 bytes)"))
+        self.assertEqual(run("", input=HEX), failed("the input is empty"))
+        for words, text in (("\udcff",), HEX), ((), "\udcff"):  # a byte that is no UTF-8
+            self.assertEqual(run(*words, input=text), failed("not hexadecimal"))
+        self.assertRegex(run(HEX, HEX)[2], r"\[HEX\]")
 
     def test_help(self):
         for word in ("-h", "--help"):
@@ -75,17 +69,10 @@ class Main(unittest.TestCase):
         command = [sys.executable, "-OO", "-m", "verified_multihash", "--help"]
         self.assertEqual(subprocess.run(command, check=False).returncode, 0)
 
-    def test_endless_input(self):
-        with open("/dev/zero", "rb") as endless:
-            self.assertEqual(run(input=None, stdin=endless), (1, "", error_of("input not read")))
-
-    def test_outputs(self):
-        with open("/dev/full", "wb") as full:
-            self.assertEqual(run(HEX, stdout=full), (1, "", error_of("output not written")))
+    def test_streams(self):
+        """An input without an end, and outputs that are full."""
+        with open("/dev/zero", "rb") as endless, open("/dev/full", "wb") as full:
+            self.assertEqual(run(input=None, stdin=endless), failed("input not read"))
+            self.assertEqual(run(HEX, stdout=full), failed("output not written"))
             self.assertEqual(run(HEX, stderr=full), (0, SHOWN, ""))
             self.assertEqual(run("zz", stderr=full), (1, "", ""))
-
-    def test_short_writes(self):
-        short = "import os, runpy; w = os.write; os.write = lambda to, text: w(to, text[:7]); "
-        command = [sys.executable, "-c", short + "runpy.run_module('verified_multihash', run_name='__main__')"]
-        self.assertEqual(subprocess.check_output(command, input=HEX, encoding="utf-8"), SHOWN)

@@ -7,7 +7,6 @@ import doctest
 import importlib
 import inspect
 import re
-import subprocess
 import sys
 import unittest
 from concurrent.futures import ThreadPoolExecutor
@@ -18,6 +17,21 @@ from test_arguments import NAMED_CALLS
 from verified_multihash import Multihash, hashes
 
 README = Path(__file__).resolve().parents[1] / "README.md"
+# What an interpreter runs: it calls the package, loads it again, drops it, and looks for what is kept.
+PROGRAM = """
+import sys; sys.path[:] = %r
+import gc, importlib, io, verified_multihash as vm
+for n in range(20000): assert vm.decode(vm.encode(n, b'abc')) == vm.Multihash(n, b'abc')
+vm._core.kept = vm.MultihashReader(io.BytesIO())
+importlib.reload(vm)
+try: vm.decode(b'')
+except vm.MultihashError as error: assert error.is_incomplete
+del vm
+for name in [*sys.modules]: name.startswith('verified') and sys.modules.pop(name)
+gc.collect()
+names = {it.__name__ for it in [*gc.get_objects()] if isinstance(it, type)}
+assert not names & {'Multihash', 'MultihashError', 'Status'}, 'a module that is not used is kept'
+"""
 
 
 def parameters_of(call):
@@ -26,34 +40,17 @@ def parameters_of(call):
 
 class Module(unittest.TestCase):
     def test_interpreters(self):
-        """Two at once, from CPython 3.12 on with locks of their own; each loads the package again, then drops it."""
+        """Two at once, from CPython 3.12 on with locks of their own."""
         interpreters = importlib.import_module("_interpreters" if sys.version_info > (3, 13) else "_xxsubinterpreters")
-        program = "import sys; sys.path[:] = %r\nimport verified_multihash as vm\n" % (sys.path,)
-        program += "for n in range(20000): assert vm.decode(vm.encode(n, b'abc')) == vm.Multihash(n, b'abc')\n"
-        program += "import importlib, io\nvm._core.kept = vm.MultihashReader(io.BytesIO())\nimportlib.reload(vm)\n"
-        program += "try: vm.decode(b'')\nexcept vm.MultihashError as error: assert error.is_incomplete\n"
-        program += "import gc\ndel vm\n"
-        program += "for name in [*sys.modules]: name.startswith('verified') and sys.modules.pop(name)\n"
-        program += "gc.collect()\nkept = [it for it in gc.get_objects() if isinstance(it, type)]\n"
-        program += "names = {it.__name__ for it in kept}\n"
-        program += "assert not names & {'Multihash', 'MultihashError', 'Status'}, 'a module that is not used is kept'\n"
 
         def run(_):
             number = interpreters.create()
-            result = interpreters.run_string(number, program)
+            result = interpreters.run_string(number, PROGRAM % (sys.path,))
             interpreters.destroy(number)
             return result
 
         with ThreadPoolExecutor(2) as threads:
             self.assertEqual(list(threads.map(run, range(2))), [None, None])
-
-    def test_hashes(self):
-        """The module `hashes` is there without an import of its own, and no other name is."""
-        program = "import verified_multihash as vm; assert vm.hashes.NAMES[18] == 'sha2-256'"
-        subprocess.run([sys.executable, "-c", program], check=True)
-        self.assertRaisesRegex(
-            AttributeError, "^module 'verified_multihash' has no attribute 'more'$", getattr, vm, "more"
-        )
 
     def test_abstract_classes(self):
         """An abstract class may be a base too: for that the types have a flag."""
@@ -70,7 +67,7 @@ class Module(unittest.TestCase):
         self.assertEqual([hasattr(module, name) for name in names], [True, False, False])
 
     def test_names(self):
-        """All that is public is exported, and each parameter has the name that it shows."""
+        """All that is public is exported, in the module that pickled values name, and has a text."""
         own = {name for name, it in vars(vm).items() if getattr(it, "__module__", "").startswith(vm.__name__)}
         public = {name for name in own if not name.startswith("_")}
         constants = {name for name in vars(vm) if name.endswith("_MAX")} | {"__version__"}
@@ -78,9 +75,12 @@ class Module(unittest.TestCase):
         own = {name for name, it in vars(hashes).items() if getattr(it, "__module__", "") == hashes.__name__}
         self.assertEqual({*hashes.__all__}, {"CODES", "NAMES", *(name for name in own if name[0] != "_")})
         classes = [each for each in map(vars(vm).get, public) if isinstance(each, type)]
-        self.assertEqual({each.__module__ for each in classes}, {vm.__name__})  # that pickled values name
+        self.assertEqual({each.__module__ for each in classes}, {vm.__name__})
         called = [it for module in (vm, hashes) for it in map(vars(module).get, module.__all__) if callable(it)]
         self.assertEqual([it for it in called if not it.__doc__], [])
+
+    def test_parameters(self):
+        """Each has the name that it shows. CPython's parser rejects too few, too many, and others."""
         self.assertEqual(Multihash.__match_args__, tuple(parameters_of(Multihash)))
         for call, arguments in NAMED_CALLS.items():
             names = list(parameters_of(call))

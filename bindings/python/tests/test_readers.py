@@ -1,33 +1,29 @@
-"""The readers of reader.c and __init__.py, over bytes that come in parts, late, too many or with an error."""
+"""The readers, over bytes that come in parts, late, cut, too many or with an error: those of multihashes and of frames, over
+files and over streams. test_vectors.py reads each vector."""
 
 import asyncio
 import functools
 import gc
 import io
 import itertools
-import os
-import tempfile
 import unittest
 import weakref
+from types import SimpleNamespace
 from unittest.mock import AsyncMock, Mock
 
 import verified_multihash as vm
-from verified_multihash import Multihash, MultihashError
+from verified_multihash import Multihash, MultihashError, Status
 
 BUSY = "another call"
-DATA = b"".join(bytes(Multihash(1 << 40, bytes([n] * n))) for n in range(4))
-
-
-def turns(*results):
-    """A file whose reads return these in turn, or raise them."""
-    return Mock(**{"read.side_effect": results})
+MULTIHASHES = [Multihash(1 << 40, bytes([n] * n)) for n in range(4)]
+FRAMES = [b"", b"abc", bytes(range(200)), b""]
 
 
 class Driven:
-    """A reader whose stream is a file, with the calls of a reader that awaits nothing."""
+    """An async reader whose stream is a file, with the calls of a reader that awaits nothing."""
 
-    def __init__(self, file, *limit, **named):
-        super().__init__(Mock(read=AsyncMock(side_effect=file.read)), *limit, **named)
+    def __init__(self, file, *limit):
+        super().__init__(SimpleNamespace(read=AsyncMock(side_effect=file.read)), *limit)
 
     def read(self):
         try:
@@ -40,107 +36,170 @@ class Driven:
         return iter(self.read, None)
 
 
-class Awaited(Driven, vm.AsyncMultihashReader):
-    """An AsyncMultihashReader over a file."""
+class AwaitedMultihashes(Driven, vm.AsyncMultihashReader):
+    pass
+
+
+class AwaitedFrames(Driven, vm.AsyncFrameReader):
+    pass
+
+
+# Each reader, with items, and the encoding of each.
+READERS = [
+    (kind, items, list(map(encode, items)))
+    for kinds, items, encode in (
+        ((vm.MultihashReader, AwaitedMultihashes), MULTIHASHES, bytes),
+        ((vm.FrameReader, AwaitedFrames), FRAMES, lambda frame: vm.encode_varint(len(frame)) + frame),
+    )
+    for kind in kinds
+]
+# A limit, the bytes of a frame after two others, and its error: the status, the size and the text.
+FRAME_ERRORS = [
+    (200, b"\xc8", Status.INSUFFICIENT, 0, "the input ends inside the varint"),
+    (200, b"\xc8\1", Status.UNEXPECTED_EOF, 0, "the input ends before the frame (0 of 200 bytes)"),
+    (200, b"\xc8\1a", Status.UNEXPECTED_EOF, 0, "the input ends inside the frame (1 of 200 bytes)"),
+    (200, b"\x80\0", Status.NOT_MINIMAL, 0, "the varint is not minimal: it ends in a zero byte"),
+    (200, b"\xff" * 9, Status.OVERFLOW, 0, "the varint has more than nine bytes"),
+    (200, b"\xc9\1", Status.INVALID_SIZE, 201, "the frame has 201 bytes, and the limit is 200"),
+    (1, b"\2", Status.INVALID_SIZE, 2, "the frame has 2 bytes, and the limit is 1"),
+    (
+        None,
+        b"\x81\x80\x80\2",
+        Status.INVALID_SIZE,
+        (1 << 22) + 1,
+        "the frame has 4194305 bytes, and the limit is 4194304",
+    ),
+]
+
+
+def turns(*results):
+    """A file whose reads return these in turn, or raise them."""
+    return Mock(**{"read.side_effect": results})
 
 
 class Readers(unittest.TestCase):
-    """MultihashReader, and AsyncMultihashReader over what is there at once."""
+    def test_parts(self):
+        """The items of a file that returns some bytes at a time. Nothing after an item is read, none in many calls."""
+        for (kind, items, encodings), most in itertools.product(READERS, (1, 7, 500)):
+            file = io.BytesIO(b"".join(encodings))
+            part = Mock(side_effect=lambda size: memoryview(file.read(min(size, most))))
+            reader = kind(SimpleNamespace(read=part))
+            for number, item in enumerate(items):
+                self.assertEqual((reader.count, reader.taken), (number, len(b"".join(encodings[:number]))))
+                self.assertEqual((reader.read(), reader.rest, file.tell()), (item, b"", reader.taken))
+            self.assertEqual((reader.read(), reader.read(), reader.count), (None, None, len(items)))
+            self.assertLess(part.call_count, 40 if most == 500 else 999)
+            self.assertEqual(list(kind(io.BytesIO(b"".join(encodings)))), items)
+        file = io.BytesIO(bytes(4))
+        self.assertEqual((vm.read_from(file), file.tell()), (Multihash(0, b""), 2))
 
-    readers = (vm.MultihashReader, Awaited)
-
-    def test_files(self):
-        closed = io.BytesIO(b"\0\0")
-        closed.close()
-        for kind in self.readers:
-            self.assertRaisesRegex(ValueError, "__init__", kind.__new__(kind).read)
-            self.assertRaisesRegex(ValueError, "closed file", kind(closed).read)
-            self.assertRaisesRegex(ValueError, "returned 999", kind(turns(bytearray(999))).read)
-            reading, writing = os.pipe()
-            os.set_blocking(reading, False)
-            with open(reading, "rb", 0) as source, open(writing, "wb", 0) as sink:
-                sink.write(b"\x01\x03abc")  # the pipe stays open: for a byte too many it has none
-                reader = kind(source)
-                self.assertEqual(reader.read().digest, b"abc")
-                self.assertRaises(BlockingIOError, reader.read)
-
-    def test_waiting_files(self):
-        """A reader keeps what it has read when a file has no bytes."""
-        for kind, fails in itertools.product(self.readers, (None, BlockingIOError)):
-            late = [turn for byte in DATA for turn in (fails, bytearray([byte]))]
-            reader, found, waits = kind(turns(*late)), [], 0
-            while len(found) < 4:
+    def test_late_bytes(self):
+        """The next call goes on where a file has ended, or has no bytes yet. One reader shares nothing with another."""
+        for (kind, items, encodings), fails in itertools.product(READERS, (b"", None, BlockingIOError)):
+            data, found, waits = b"".join(encodings), [], 0
+            reader = kind(turns(*(turn for byte in data for turn in (fails, bytearray([byte])))))
+            while len(found) < len(items):
                 try:
-                    found.append(reader.read())
-                except BlockingIOError:
-                    waits += kind(io.BytesIO(b"\2\1c")).read().code == 2  # another one, which shares nothing with it
-                self.assertEqual(reader.taken, sum(len(bytes(each)) for each in found))
-            self.assertEqual((b"".join(map(bytes, found)), waits), (DATA, len(DATA)))
-            with self.assertRaisesRegex(io.UnsupportedOperation, "MultihashReader"):
-                vm.read_from(turns(*late))
+                    item = reader.read()
+                    found += [] if item is None else [item]
+                except (BlockingIOError, MultihashError) as error:
+                    self.assertIs(getattr(error, "is_incomplete", None), None if fails != b"" else True)
+                    self.assertEqual(reader.rest, data[reader.taken :][: len(reader.rest)])
+                    self.assertEqual(kind(io.BytesIO(encodings[1])).read(), items[1])
+                    waits += 1
+            self.assertEqual((found, waits), (items, len(data) - (len(items) if fails == b"" else 0)))
+        with self.assertRaisesRegex(io.UnsupportedOperation, "MultihashReader"):
+            vm.read_from(turns(b"\1", None))
 
-    def test_growing_files(self):
-        """A reader goes on where the file has grown; a multihash that is none stays."""
-        data = bytes(Multihash(18, b"abc"))
-        for kind in self.readers:
-            with tempfile.NamedTemporaryFile(buffering=0) as sink, open(sink.name, "rb") as source:
-                reader = kind(source, limit=3)
-                for cut in range(1, len(data)):
-                    sink.write(data[:cut])
-                    with self.assertRaises(MultihashError) as raised:
-                        reader.read()
-                    self.assertEqual((raised.exception.is_incomplete, reader.rest), (True, data[:cut]))
-                    sink.write(data[cut:] + data)
-                    self.assertEqual(list(reader), [Multihash(18, b"abc")] * 2)
-                sink.write(b"\1\4abcd")
-                for _ in range(2):
-                    self.assertRaises(MultihashError, reader.read)
-                    self.assertEqual((reader.rest, reader.taken), (b"\1\4", 2 * len(data) * (len(data) - 1)))
-                self.assertEqual(source.read(), b"abcd")
-                reader.__init__(source)
-                self.assertEqual(reader.taken, 0)
-                self.assertRaises(AttributeError, setattr, reader, "taken", 2)
+    def test_errors(self):
+        """What is no multihash stays, and nothing after what shows it is read."""
+        for kind in (vm.MultihashReader, AwaitedMultihashes):
+            file = io.BytesIO(b"\0\0\1\4abcd")
+            reader = kind(file, 3)
+            self.assertEqual(reader.read(), Multihash(0, b""))
+            for _ in range(2):
+                with self.assertRaises(MultihashError) as raised:
+                    reader.read()
+                error = raised.exception
+                self.assertEqual((error.status, error.size, error.taken), (Status.INVALID_SIZE, 4, 2))
+                self.assertEqual((reader.rest, reader.taken, file.tell()), (b"\1\4", 2, 4))
+
+    def test_frame_errors(self):
+        for kind, (limit, data, status, size, text) in itertools.product((vm.FrameReader, AwaitedFrames), FRAME_ERRORS):
+            more = b"" if status in (Status.INSUFFICIENT, Status.UNEXPECTED_EOF) else b"more"
+            file = io.BytesIO(b"\0\1a" + data + more)
+            reader = kind(file, *[limit] * (limit is not None))
+            self.assertEqual([reader.read(), reader.read()], [b"", b"a"])
+            for _ in range(2):
+                with self.assertRaises(MultihashError) as raised:
+                    reader.read()
+                error = raised.exception
+                self.assertEqual(str(error), "frame 2 at offset 3: " + text)
+                taken = len(data.rstrip(b"a"))  # the varint
+                self.assertEqual((error.status, error.size, error.code, error.taken), (status, size, 0, taken))
+                self.assertEqual((reader.count, reader.taken, reader.rest, file.read(4)), (2, 3, data, more))
+                more = b""
+
+    def test_long_frames(self):
+        """Memory is for the bytes that came, not for a length."""
+        file = Mock(wraps=io.BytesIO(vm.encode_varint(1 << 62) + bytes(300000)))
+        self.assertRaises(MultihashError, vm.FrameReader(file, 1 << 70).read)
+        asked = [call[0][0] for call in file.read.call_args_list]
+        for at, each in enumerate(asked):
+            self.assertLessEqual(each, max(1 << 16, sum(asked[:at])))
+        long = bytes(range(250)) * 1200
+        self.assertEqual(vm.FrameReader(io.BytesIO(vm.encode_varint(len(long)) + long)).read(), long)
 
     def test_failing_files(self):
         """After an error of a file, which loses bytes if it is buffered, nothing more is read from it."""
         self.assertRaises(TimeoutError, vm.read_from, turns(b"\1\3", TimeoutError))
-        for kind in self.readers:
-            ends = [(TimeoutError, TimeoutError), (b"ab", ValueError), ("a", TypeError)]
-            ends += [(KeyboardInterrupt, KeyboardInterrupt)] * (kind is vm.MultihashReader)
-            for last, error in ends:
-                reader = kind(turns(b"\1\3", b"ab", last), 3)
+        for kind, items, encodings in READERS:
+            ends = [(TimeoutError, TimeoutError), (b"abcdef", ValueError), ("a", TypeError)]
+            ends += [(KeyboardInterrupt, KeyboardInterrupt)] * (not issubclass(kind, Driven))
+            data = encodings[3] if items is MULTIHASHES else encodings[1]
+            for at, (last, error) in itertools.product(range(len(data)), ends):
+                reader = kind(turns(*(data[n : n + 1] for n in range(at)), last))
                 self.assertRaises(error, reader.read)
                 for _ in range(2):
                     self.assertRaisesRegex(ValueError, "failed before", reader.read)
-                reader.__init__(turns(b"\1\4", b"abcd"))  # it reads another file
-                self.assertEqual(reader.read(), Multihash(1, b"abcd"))
+                reader.__init__(io.BytesIO(data))  # it reads another file
+                self.assertEqual((reader.taken, reader.count, len(list(reader))), (0, 0, 1))
+
+    def test_no_files(self):
+        closed = io.BytesIO(b"\0\0")
+        closed.close()
+        for kind, _, _ in READERS:
+            self.assertRaisesRegex(ValueError, "__init__", kind.__new__(kind).read)
+            self.assertRaisesRegex(ValueError, "closed file", kind(closed).read)
+            self.assertRaises(AttributeError, setattr, kind(closed), "taken", 2)
 
     def test_calls_at_once(self):
         """A call while another one waits is an error, and the other one goes on."""
-        other = io.BytesIO(b"\1\1a")
+        for kind in (vm.MultihashReader, vm.FrameReader):
 
-        def chunk(size):
-            for call in (reader.read, functools.partial(reader.__init__, other)):
-                self.assertRaisesRegex(RuntimeError, BUSY, call)
-            return bytes(size)
+            def chunk(size):
+                for call in (reader.read, functools.partial(reader.__init__, io.BytesIO())):
+                    self.assertRaisesRegex(RuntimeError, BUSY, call)
+                return bytes(size)
 
-        reader = vm.MultihashReader(Mock(read=chunk))
-        self.assertEqual([next(reader), reader.read()], [Multihash(0, b"")] * 2)
+            reader = kind(SimpleNamespace(read=chunk))
+            self.assertEqual(next(reader), reader.read())
 
-        async def run():
+        async def run(kind):
             stream = asyncio.StreamReader()
-            reader = vm.AsyncMultihashReader(stream)
+            reader = kind(stream)
             next(reader.read().__await__())  # a call that is dropped
             first = asyncio.ensure_future(reader.read())
             await asyncio.sleep(0)
             for _ in range(2):
                 with self.assertRaisesRegex(RuntimeError, BUSY):
                     await reader.read()
-                self.assertRaisesRegex(RuntimeError, BUSY, reader.__init__, other)
+                self.assertRaisesRegex(RuntimeError, BUSY, reader.__init__, stream)
             stream.feed_data(bytes(4))
-            self.assertEqual([await first, await reader.read()], [Multihash(0, b"")] * 2)
+            self.assertEqual(await first, await reader.read())
 
-        asyncio.run(run())
+        for kind in (vm.AsyncMultihashReader, vm.AsyncFrameReader):
+            asyncio.run(run(kind))
 
     def test_loops(self):
         """An error of the file that would end a loop, as an exhausted iterator raises it, is not taken for its end."""
@@ -171,7 +230,7 @@ class Readers(unittest.TestCase):
             return bytes(size if reader else 0)
 
         own = type("Own", (vm.MultihashReader,), {})
-        own.kept = reader = own(Mock(read=chunk))
+        own.kept = reader = own(SimpleNamespace(read=chunk))
         self.assertEqual(reader.read(), Multihash(0, b""))
         return [weakref.ref(own), weakref.ref(reader), weakref.ref(chunk)]
 
@@ -196,25 +255,28 @@ class Readers(unittest.TestCase):
     def test_cancelled_calls(self):
         """A call is cancelled at each byte and each step of the loop, before or after more bytes are there."""
 
-        async def run(cut, steps, is_before, by_loop):
+        async def run(kind, data, cut, steps, is_before, by_loop):
             stream, found = asyncio.StreamReader(), []
-            reader = vm.AsyncMultihashReader(stream)
-            stream.feed_data(DATA[:cut])
+            reader = kind(stream)
+            stream.feed_data(data[:cut])
             call = asyncio.ensure_future(reader.__aiter__().__anext__() if by_loop else reader.read())
             for _ in range(steps):
                 await asyncio.sleep(0)
-            events = call.cancel, functools.partial(stream.feed_data, DATA[cut:])
+            events = call.cancel, functools.partial(stream.feed_data, data[cut:])
             for event in events if is_before else reversed(events):
                 event()
             await asyncio.wait([call])
             found += [] if call.cancelled() else [call.result()]
             stream.feed_eof()
-            found += [item async for item in reader]
-            self.assertEqual(b"".join(map(bytes, found)), DATA)
-            return call.cancelled()
+            return call.cancelled(), found + [item async for item in reader]
 
-        async def run_all():
-            choices = range(len(DATA) + 1), range(4), (True, False), (True, False)
-            return {(steps, await run(cut, steps, *rest)) for cut, steps, *rest in itertools.product(*choices)}
+        async def run_all(kind, items, data):
+            ended = set()
+            for cut, steps, *rest in itertools.product(range(len(data) + 1), range(4), (True, False), (True, False)):
+                is_cancelled, found = await run(kind, data, cut, steps, *rest)
+                self.assertEqual(found, items)
+                ended.add((steps, is_cancelled))
+            self.assertLessEqual({(0, True), (1, True), (3, True), (3, False)}, ended)
 
-        self.assertLessEqual({(0, True), (1, True), (3, True), (3, False)}, asyncio.run(run_all()))
+        asyncio.run(run_all(vm.AsyncMultihashReader, MULTIHASHES, b"".join(READERS[0][2])))
+        asyncio.run(run_all(vm.AsyncFrameReader, FRAMES[:2] + [bytes(129)], b"\0\3abc\x81\1" + bytes(129)))

@@ -17,14 +17,11 @@ MOST_INPUT = 65536
 
 
 def _input() -> bytes:
-    """Standard input, up to its end or one byte more than is accepted."""
-    text = b""
-    while len(text) <= MOST_INPUT:
-        part = os.read(0, MOST_INPUT + 1 - len(text))
-        if not part:
-            return text
-        text += part
-    raise OSError("the input is too long")
+    with open(0, "rb", closefd=False) as file:
+        text = file.read(MOST_INPUT + 1)
+    if len(text) > MOST_INPUT:
+        raise OSError("the input is too long")
+    return text
 
 
 def _shown(text: bytes) -> bytes:
@@ -39,8 +36,8 @@ def _shown(text: bytes) -> bytes:
 
 
 def _write(to: int, text: bytes) -> None:
-    while text:
-        text = text[os.write(to, text) :]
+    with open(to, "wb", closefd=False) as file:
+        file.write(text)
 
 
 def main() -> int:

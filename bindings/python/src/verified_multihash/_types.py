@@ -41,7 +41,9 @@ def part_of_file(read: Buffer) -> Buffer:
     return bytes_like(read, "the result of read", _HINTS)
 
 
-_FILES = "file must be an object with a method read, such as open(path, 'rb'), io.BytesIO(data) or socket.makefile('rb')"
+_FILES = (
+    "file must be an object with a method read, such as open(path, 'rb'), io.BytesIO(data) or socket.makefile('rb')"
+)
 
 
 def read_of(file: object, expected: str = _FILES) -> Any:

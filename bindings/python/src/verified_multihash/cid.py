@@ -17,17 +17,11 @@ import binascii
 import re
 from dataclasses import dataclass
 from types import MappingProxyType
-from typing import TYPE_CHECKING, Callable, Mapping, Optional
+from typing import Callable, Mapping, Optional, Self
 
 from . import LENGTH_MAX as MULTIHASH_MAX
 from . import VARINT_LENGTH_MAX, Multihash, MultihashError, decode, encode_varint, read, read_varint
-
-if TYPE_CHECKING:
-    from typing import Self
-
-    from _typeshed import ReadableBuffer as Buffer
-else:
-    from . import Buffer
+from ._types import Buffer
 
 __all__ = ["CID", "CIDError", "CODECS", "LENGTH_MAX", "TEXT_MAX"]
 
