@@ -28,8 +28,8 @@ DECODERS = [vm.decode, vm.read, vm.head, vm.scale_decode, vm.read_varint, vm.rea
 ENCODERS = [vm.encode, vm.scale_encode, Multihash]
 VALUE = Multihash(1, b"abc")
 CODE = 1 << 62
-NEGATIVE = (-1, -(1 << 63), -(1 << 63) - 1, -(1 << 700))
-LARGE = (1 << 63, 1 << 64, (1 << 64) + 18, 1 << 700, 10**5000)
+NEGATIVE = (-1, -(1 << 63), -(1 << 63) - 1, -(1 << 700), -(10**5000))
+LARGE = (1 << 63, 1 << 64, (1 << 64) + 18, 10**39, 10**40, 10**5000)
 # Arguments with which a function is called by position, and by the names that it shows; large, so that each is a block.
 NAMED_CALLS = {
     vm.decode: [b"\1\3abc"], vm.read: [b"\1\3abc", CODE], vm.head: [b"\1\3"], vm.scale_decode: [bytes(9)],
@@ -55,13 +55,8 @@ TEXTS = [
     (vm.read_varint, [b"\xff" * 9], "the varint has more than nine bytes"),
     (vm.encode_varint, [1 << 63], "the number 9223372036854775808 is 2^63 or more"),
     (vm.head, [b"\x92\0\1"], "the varint of the code is not minimal"),
-    (vm.decode, [bytearray(1002)], "1000 bytes follow"),
     (vm.read_from, [io.BytesIO(b"\x12\3abc"), 2], "digest 3 2"),
     (vm.read_from, [io.BytesIO(b"\x12\3ab")], "digest 2 3"),
-    (vm.encoded_len, [18, 10**5000], "digest %s 255" % front_of(10**5000)),
-    (vm.encode, [10**39, b""], "code %d 2^63" % 10**39),
-    (vm.encode, [10**40, b""], "code %s 2^63" % front_of(10**40)),
-    (vm.encode, [-(10**5000), b""], "code %s" % front_of(-(10**5000))),
     (vm.decode, ["1220"], "data bytes Multihash.fromhex str"),
     (vm.read, [COROUTINES.read()], "data bytes-like coroutine"),
     (Multihash.fromhex, [b"1220"], "text str decode bytes"),
@@ -70,10 +65,6 @@ TEXTS = [
     (VALUE.__replace__, {"name": 1}, "name code digest"),
     (Multihash, [18, "abc"], "digest bytes bytes.fromhex str"),
     (Multihash, ["sha2-256", b"abc"], "code int hashes.CODES str"),
-    (vm.encode, [1.5, b""], "code int float"),
-    (vm.encoded_len, [18, b""], "digest_length int bytes"),
-    (vm.encode_varint, ["1"], "number int str"),
-    (vm.read, [b"\0\0", "9"], "limit int str"),
     (vm.FrameReader, [io.BytesIO(), None], "limit int NoneType"),
     (vm.compare, [b"\1\0", VALUE], "left Multihash bytes"),
     (vm.compare, [VALUE, None], "right Multihash NoneType"),

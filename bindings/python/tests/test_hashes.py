@@ -42,6 +42,8 @@ class Hashes(unittest.TestCase):
         self.assertEqual(hashes.NAMES, {code: name for name, code in hashes.CODES.items()})
         for names, call in itertools.product((hashes.CODES, hashes.NAMES), ("__setitem__", "__delitem__", "clear")):
             self.assertFalse(hasattr(names, call))
+        for code in (1, 0xB200, 0xB241 + 32):
+            self.assertRaisesRegex(UNSUPPORTED, "code %#x" % code, hashes.verify, Multihash(code, b""), b"")
         for name in {*hashes.CODES} - {row["name"] for row in ROWS}:
             if not name.startswith("blake2"):
                 for key in (name, hashes.CODES[name]):
@@ -131,18 +133,7 @@ class Hashes(unittest.TestCase):
         wrong = (right[:-1], right[:20], b"", right + b"\0", right[:-1] + bytes([right[-1] ^ 1]))
         self.assertFalse(any(hashes.verify(Multihash(0x12, other), b"abc") for other in wrong))
         self.assertFalse(hashes.verify(Multihash(0x11, right), b"abc"))
+        self.assertRaises(MultihashError, hashes.verify, b"\x12", b"abc")
         with patch("hmac.compare_digest", return_value="its result") as compared:
             self.assertEqual(hashes.verify(Multihash(0, b"abc"), b"abd"), "its result")
         compared.assert_called_once_with(b"abc", b"abd")
-
-    def test_errors(self):
-        for code in (1, 0xB200, 0xB241 + 32):
-            self.assertRaisesRegex(UNSUPPORTED, "code %#x" % code, hashes.verify, Multihash(code, b""), b"")
-        for name in ("sha256", "sha2_256", "", "blake2b-512 "):
-            self.assertRaises(ValueError, hashes.digest, b"abc", name)
-        for wrong in (None, 18.0, ("sha1", "md5"), bytearray()):
-            self.assertRaises(TypeError, hashes.digest, b"abc", wrong)
-        for name, wrong in itertools.product(("identity", "sha2-256", "shake-128"), ("abc", 3, None, [1])):
-            self.assertRaisesRegex(TypeError, "^data .* %s$" % type(wrong).__name__, hashes.digest, wrong, name)
-        self.assertRaises(MultihashError, hashes.verify, b"\x12", b"abc")
-        self.assertRaises(TypeError, hashes.verify_file, "0000", io.BytesIO())

@@ -250,7 +250,7 @@ class Readers(unittest.TestCase):
         # so does the digest that the file returns
         chunk = type("Chunk", (bytearray,), {"__del__": lambda _: reader.__init__(io.BytesIO(b"\2\1b"))})
         reader.__init__(Mock(read=lambda size: b"\1\1" if size == 2 else chunk(size)))
-        self.assertEqual(reader.read(), Multihash(2, b"b"))
+        self.assertEqual((reader.read(), reader.taken, reader.count), (Multihash(2, b"b"), 3, 1))
 
     def test_cancelled_calls(self):
         """A call is cancelled at each byte and each step of the loop, before or after more bytes are there."""

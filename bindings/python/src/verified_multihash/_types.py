@@ -9,7 +9,7 @@ if TYPE_CHECKING:
 else:
     Buffer = Union[bytes, bytearray, memoryview]
 
-__all__ = ["AsyncReadable", "Buffer", "Readable", "bytes_like", "part_of_file", "read_of"]
+__all__ = ["AsyncReadable", "Buffer", "Readable", "bytes_like", "read_of"]
 
 
 class Readable(Protocol):
@@ -30,15 +30,6 @@ def bytes_like(data: Buffer, name: str, hints: Mapping[str, str]) -> Buffer:
         hint = next((hints[each] for each in hints if hasattr(data, each)), "")
         raise TypeError("%s must be a bytes-like object%s, not %s" % (name, hint, type(data).__name__)) from None
     return data if view.c_contiguous and view.ndim < 2 else view.tobytes()
-
-
-# What a file in text mode and an async method return.
-_HINTS = {"encode": " (open the file in binary mode)", "__await__": " (read must not be async)"}
-
-
-def part_of_file(read: Buffer) -> Buffer:
-    """Returns what `read` of a file returned."""
-    return bytes_like(read, "the result of read", _HINTS)
 
 
 _FILES = (

@@ -16,7 +16,7 @@ from . import _codes
 from ._core import DIGEST_MAX, decode
 from ._error import MultihashError
 from ._status import Status
-from ._types import Buffer, Readable, bytes_like, part_of_file, read_of
+from ._types import Buffer, Readable, bytes_like, read_of
 from ._value import Multihash
 
 # The calls that use hashlib and hmac import them: this takes longer than to import the rest of the package.
@@ -87,6 +87,8 @@ _HINTS = {
     "hexdigest": " (verify takes the multihash first)",
     "read": " (digest_file and verify_file take files)",
 }
+# The same for what a file in text mode and an async method return.
+_FILE_HINTS = {"encode": " (open the file in binary mode)", "__await__": " (read must not be async)"}
 
 
 @functools.lru_cache(maxsize=None)
@@ -154,7 +156,7 @@ class Hasher:
 def _parts(file: Readable) -> Iterator[Buffer]:
     read = read_of(file)
     while (part := read(1 << 18)) is not None:
-        part = part_of_file(part)
+        part = bytes_like(part, "the result of read", _FILE_HINTS)
         if memoryview(part).nbytes == 0:
             return
         yield part
