@@ -117,16 +117,17 @@ class Sha256(Multihash):
 
 def buffers():
     """Buffers of each shape: items of several bytes, gaps, no dimension and two; short ones, and more than is read."""
-    data, double = b"\1\4abcd", b"\1\1\4\4aabbccdd"
-    yield from (type("Own", (bytes,), {})(data), bytearray(data), array.array("B", data), (ctypes.c_ubyte * 6)(*data))
-    yield from (memoryview(b""), memoryview(double)[::2], memoryview(data[::-1])[::-1])
-    yield from (memoryview(array.array("H", [0x0201, 0, 0x4241, 0]))[::2], ctypes.c_uint16(7))
-    yield from (memoryview(bytes(2000))[::-2], memoryview(bytes(800)).cast("B", [40, 20])[::2])
+    data, long = b"\1\4abcd", vm.encode(1, bytes(range(255)))
+    yield from (type("Own", (bytes,), {})(data), bytearray(data), memoryview(b""), (ctypes.c_ubyte * 6)(*data))
+    yield memoryview(bytes(byte for pair in zip(long, long) for byte in pair))[::2]
+    yield from (memoryview(data[::-1])[::-1], memoryview(array.array("H", [0x0201, 0, 0x4241, 0]))[::2])
+    yield from ((ctypes.c_ubyte * 20 * 40)(), memoryview(bytes(800)).cast("B", [40, 20])[::2])
+    yield from (memoryview(bytes(2000))[::-2], ctypes.c_uint16(7))
     yield type("Block", (ctypes.Structure,), {"_fields_": [("all", ctypes.c_ubyte * 999)]})()
     for kind in "BHIQ":  # what a call reads ends within an item
         yield from (array.array(kind, b"\xff" * 8 + b"\x7f\xff\1" + bytes(261)), array.array(kind, bytes(800)))
     if ndarray is not None:
-        yield ndarray([*b"\0\2\2a"], shape=[2, 2], flags=ND_FORTRAN)  # its rows are not in memory
+        yield ndarray([*b"\0a\2b"], shape=[2, 2], flags=ND_FORTRAN)  # its rows are not in memory
 
 
 # What takes a number, the name of that, and the status for one that is too large, if any.

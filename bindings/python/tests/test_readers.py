@@ -111,19 +111,6 @@ class Readers(unittest.TestCase):
         with self.assertRaisesRegex(io.UnsupportedOperation, "MultihashReader"):
             vm.read_from(turns(b"\1", None))
 
-    def test_errors(self):
-        """What is no multihash stays, and nothing after what shows it is read."""
-        for kind in (vm.MultihashReader, AwaitedMultihashes):
-            file = io.BytesIO(b"\0\0\1\4abcd")
-            reader = kind(file, 3)
-            self.assertEqual(reader.read(), Multihash(0, b""))
-            for _ in range(2):
-                with self.assertRaises(MultihashError) as raised:
-                    reader.read()
-                error = raised.exception
-                self.assertEqual((error.status, error.size, error.taken), (Status.INVALID_SIZE, 4, 2))
-                self.assertEqual((reader.rest, reader.taken, file.tell()), (b"\1\4", 2, 4))
-
     def test_frame_errors(self):
         for kind, (limit, data, status, size, text) in itertools.product((vm.FrameReader, AwaitedFrames), FRAME_ERRORS):
             more = b"" if status in (Status.INSUFFICIENT, Status.UNEXPECTED_EOF) else b"more"
@@ -223,20 +210,13 @@ class Readers(unittest.TestCase):
 
         asyncio.run(run())
 
-    def own_reader(self):
-        """A reader, its class and its file, which know each other."""
-
-        def chunk(size):
-            return bytes(size if reader else 0)
-
-        own = type("Own", (vm.MultihashReader,), {})
-        own.kept = reader = own(SimpleNamespace(read=chunk))
-        self.assertEqual(reader.read(), Multihash(0, b""))
-        return [weakref.ref(own), weakref.ref(reader), weakref.ref(chunk)]
-
     def test_collected(self):
-        references = self.own_reader()
-        # the file is deleted with its reader
+        """A reader, its class and its file, which know each other; a file that is deleted with its reader."""
+        own, file = type("Own", (vm.MultihashReader,), {}), type("File", (io.BytesIO,), {})(bytes(4))
+        own.kept = file.reader = own(file)
+        self.assertEqual(own.kept.read(), Multihash(0, b""))
+        references = [weakref.ref(each) for each in (own, own.kept, file)]
+        del own, file
         vm.MultihashReader(type("File", (), {"read": lambda *_: b"", "__del__": lambda _: gc.collect()})())
         gc.collect()
         self.assertEqual([each() for each in references], [None] * 3)

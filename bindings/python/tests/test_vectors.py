@@ -1,11 +1,8 @@
 """The test vectors: decoded, read from files, encoded; messages. MULTIHASH_VERDICTS is the path of the list."""
 
-import importlib.util
 import io
 import itertools
 import os
-import subprocess
-import sys
 import unittest
 from array import array
 from operator import setitem
@@ -21,7 +18,7 @@ HERE = Path(__file__).resolve().parent
 DATA = next(path for path in (HERE / "../../../crates/vectors/data", HERE) if path.exists())
 LIST = Path(os.environ.get("MULTIHASH_VERDICTS", DATA / "verdicts.tsv"))
 KINDS = (bytes, bytearray, memoryview)
-ERRORS = {b"": None, b"\2\1": (Status.UNEXPECTED_EOF, 2), b"\xff" * 9: (Status.OVERFLOW, 9)}  # of read_many
+ERRORS = {b"": None, b"\2\1": (Status.UNEXPECTED_EOF, 2), b"\xff" * 300: (Status.OVERFLOW, 9)}  # of read_many
 
 
 def rows_of(path):
@@ -157,9 +154,3 @@ class Many(unittest.TestCase):
         with patch("verified_multihash._core.read_many", changes):
             found = vm.read_many(data)
         self.assertEqual((found.taken, found.error.status, found.error.taken), (2, Status.NOT_MINIMAL, 2))
-
-    @unittest.skipUnless(importlib.util.find_spec("numpy"), "numpy is not installed")
-    def test_numpy(self):
-        program = "import numpy, verified_multihash as vm; a, b = map(numpy.asarray, vm.read_many(bytes(6))[1:3])\n"
-        program += "assert a.tolist() == [2, 4, 6] and not a.flags.owndata and b.base.obj is a.base.obj, a.base"
-        subprocess.run([sys.executable, "-c", program], check=True)

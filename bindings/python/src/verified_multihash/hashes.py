@@ -210,9 +210,8 @@ def verify(multihash: Union[Multihash, Buffer], data: Buffer, functions: Optiona
     Raises UnsupportedHashError if neither `functions` nor this build of hashlib has a function for the code. The time
     that it takes to compare digests of equal lengths does not depend on their bytes.
     """
-    return _verify(
-        multihash, [bytes_like(data, "data", _HINTS)], functions
-    )  # first: if the arguments are swapped, data is wrong
+    part = bytes_like(data, "data", _HINTS)  # first: if the arguments are swapped, data is wrong
+    return _verify(multihash, [part], functions)
 
 
 def verify_file(multihash: Union[Multihash, Buffer], file: Readable, functions: Optional[_Functions] = None) -> bool:
