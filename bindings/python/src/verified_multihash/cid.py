@@ -36,7 +36,6 @@ LENGTH_MAX = 1 + VARINT_LENGTH_MAX + MULTIHASH_MAX
 TEXT_MAX = 1 + 2 * LENGTH_MAX
 
 _BASE58 = "123456789ABCDEFGHJKLMNPQRSTUVWXYZabcdefghijkmnopqrstuvwxyz"
-_VALUES = {digit: value for value, digit in enumerate(_BASE58)}
 _SHA256 = b"\x12\x20"  # the code, and the length of the digest
 # By the prefix of a text: the name of the base, and what is no digit of it.
 _BASES = {
@@ -214,7 +213,7 @@ def _to_base58(data: bytes) -> str:
 def _from_base58(digits: str) -> bytes:
     number = 0
     for digit in digits:
-        number = 58 * number + _VALUES[digit]
+        number = 58 * number + _BASE58.index(digit)
     zeros = len(digits) - len(digits.lstrip("1"))
     return bytes(zeros) + number.to_bytes((number.bit_length() + 7) // 8, "big")
 
