@@ -15,7 +15,7 @@ const state *state_of(PyTypeObject *type)
 }
 
 /* Raises a MultihashError with these arguments, a tuple. It steals the reference, which may be null. */
-static PyObject *raise(const state *own, PyObject *arguments)
+static PyObject *raise_with(const state *own, PyObject *arguments)
 {
     if (arguments != NULL) PyErr_SetObject(own->error, arguments);
     Py_XDECREF(arguments);
@@ -26,7 +26,7 @@ PyObject *raise_error(const state *own, multihash_status status, uint64_t size, 
                       const char *text)
 {
     unsigned long long numbers[] = {size, code, taken};
-    return raise(own, Py_BuildValue("IKKKs", status, numbers[0], numbers[1], numbers[2], text));
+    return raise_with(own, Py_BuildValue("IKKKs", status, numbers[0], numbers[1], numbers[2], text));
 }
 
 /* The texts are those of multihash_encode_message, whose numbers have 64 bits. */
@@ -41,7 +41,7 @@ PyObject *encoding_error(const state *own, multihash_status status, PyObject *le
     PyObject *wrong = PyNumber_Index(is_size ? length : number), *none = PyLong_FromLong(0);
     PyObject *shown = wrong == NULL ? NULL : shown_number(wrong);
     PyObject *text = shown == NULL ? NULL : PyUnicode_FromFormat(texts[status], shown, MULTIHASH_DIGEST_MAX);
-    raise(own, Py_BuildValue("IOOiN", status, is_size ? wrong : none, is_code ? wrong : none, 0, text));
+    raise_with(own, Py_BuildValue("IOOiN", status, is_size ? wrong : none, is_code ? wrong : none, 0, text));
     Py_XDECREF(length);
     Py_XDECREF(wrong);
     Py_XDECREF(none);

@@ -9,7 +9,7 @@ from unittest.mock import ANY
 
 import verified_multihash as vm
 from test_arguments import NAMED_CALLS, Named
-from verified_multihash import Multihash, MultihashError, Status
+from verified_multihash import Multihash
 
 try:
     from _testcapi import remove_mem_hooks, set_nomemory
@@ -49,11 +49,6 @@ def frames_of(file):
     return reader.read(), reader.read(), reader.rest
 
 
-def begun_at_once(read):
-    reader = vm._core.Reader(read, 1)
-    return reader._begin(), reader.__init__(read, 1)
-
-
 STEPS = vm._core.Reader(len, 1)
 FRAMES = vm.encode_varint(300) + LONG[:300] + vm.encode_varint(300) + LONG
 CALLS = {str((call.__name__, each)): (call, each) for call, each in calls()}
@@ -67,13 +62,8 @@ CALLS["reader"] = lambda data, limit: vm.read_from(io.BytesIO(data), limit), [by
 CALLS["frames"] = lambda data: frames_of(io.BytesIO(data)), [FRAMES]
 CALLS["frames in parts"] = lambda data: frames_of(Parts(data)), [FRAMES]
 CALLS["no frame"] = lambda data: frames_of(io.BytesIO(data)), [FRAMES[:-800]]
-CALLS["busy"] = begun_at_once, [len]
 CALLS["steps"] = lambda: (STEPS._fail(None), STEPS._begin(), STEPS._end(b""), STEPS._take()), ()
 CALLS["too many"] = lambda data: (STEPS._fail(None), STEPS._begin(), STEPS._end(data)), [LONG]
-CALLS["set"] = vm._core.set_error, [MultihashError]
-LASTING = [vm._core, vm._core.Reader, Multihash, MultihashError, Named, VALUE, OTHER, *Status]
-if sys.version_info < (3, 12):  # which made these immortal
-    LASTING += [None, False, True, NotImplemented, *range(2, 257)]
 
 
 def prepared(call, arguments):
@@ -112,22 +102,18 @@ def failing(call, number):
         remove_mem_hooks()
 
 
-def held():
-    """The number of blocks, and of references to what lasts."""
-    gc.collect()
-    return sys.getallocatedblocks() + sum(map(sys.getrefcount, LASTING))
-
-
 def keeps(call, number):
-    """Whether each run of a call, with that allocation failing, keeps or loses a block or a reference; its result."""
+    """Whether each run of a call, with that allocation failing, keeps or loses a block; its result."""
     for _ in range(5):  # CPython keeps some for itself
         forget()
-        before = held()
+        gc.collect()
+        before = sys.getallocatedblocks()
         for _ in range(RUNS):
             again = prepared(*call)
             found = result_of(functools.partial(failing, again, number))
         del again
-        if abs(held() - before) < RUNS // 2:
+        gc.collect()
+        if abs(sys.getallocatedblocks() - before) < RUNS // 2:
             return False, found
     return True, found
 
