@@ -45,13 +45,13 @@ class AwaitedFrames(Driven, vm.AsyncFrameReader):
 
 
 # Each reader, with items, and the encoding of each.
+ENCODINGS = [bytes(each) for each in MULTIHASHES]
+FRAMED = [vm.encode_varint(len(each)) + each for each in FRAMES]
 READERS = [
-    (kind, items, list(map(encode, items)))
-    for kinds, items, encode in (
-        ((vm.MultihashReader, AwaitedMultihashes), MULTIHASHES, bytes),
-        ((vm.FrameReader, AwaitedFrames), FRAMES, lambda frame: vm.encode_varint(len(frame)) + frame),
-    )
-    for kind in kinds
+    (vm.MultihashReader, MULTIHASHES, ENCODINGS),
+    (AwaitedMultihashes, MULTIHASHES, ENCODINGS),
+    (vm.FrameReader, FRAMES, FRAMED),
+    (AwaitedFrames, FRAMES, FRAMED),
 ]
 # A limit, the bytes of a frame after two others, and its error: the status, the size and the text.
 FRAME_ERRORS = [
@@ -62,13 +62,7 @@ FRAME_ERRORS = [
     (200, b"\xff" * 9, Status.OVERFLOW, 0, "the varint has more than nine bytes"),
     (200, b"\xc9\1", Status.INVALID_SIZE, 201, "the frame has 201 bytes, and the limit is 200"),
     (1, b"\2", Status.INVALID_SIZE, 2, "the frame has 2 bytes, and the limit is 1"),
-    (
-        None,
-        b"\x81\x80\x80\2",
-        Status.INVALID_SIZE,
-        (1 << 22) + 1,
-        "the frame has 4194305 bytes, and the limit is 4194304",
-    ),
+    (None, b"\x81\x80\x80\2", Status.INVALID_SIZE, 4194305, "the frame has 4194305 bytes, and the limit is 4194304"),
 ]
 
 
@@ -258,5 +252,5 @@ class Readers(unittest.TestCase):
                 ended.add((steps, is_cancelled))
             self.assertLessEqual({(0, True), (1, True), (3, True), (3, False)}, ended)
 
-        asyncio.run(run_all(vm.AsyncMultihashReader, MULTIHASHES, b"".join(READERS[0][2])))
+        asyncio.run(run_all(vm.AsyncMultihashReader, MULTIHASHES, b"".join(ENCODINGS)))
         asyncio.run(run_all(vm.AsyncFrameReader, FRAMES[:2] + [bytes(129)], b"\0\3abc\x81\1" + bytes(129)))
