@@ -63,8 +63,7 @@ static PyObject *copied(PyObject *argument, const Py_buffer *view, Py_ssize_t mo
 int get_input(PyObject *argument, const char *name, Py_ssize_t most, input *to)
 {
     Py_buffer view;
-    Py_ssize_t length, whole = -1;
-    char *bytes;
+    Py_ssize_t whole = -1;
     if (PyBytes_CheckExact(argument)) {
         to->owner = Py_NewRef(argument);
     } else {
@@ -73,10 +72,10 @@ int get_input(PyObject *argument, const char *name, Py_ssize_t most, input *to)
         to->owner = copied(argument, &view, most);
         PyBuffer_Release(&view);
     }
-    if (to->owner == NULL || PyBytes_AsStringAndSize(to->owner, &bytes, &length) < 0) return -1;
-    to->bytes = (const uint8_t *)bytes;
-    to->length = (size_t)length;
-    to->whole = (size_t)(whole < 0 ? length : whole);
+    if (to->owner == NULL) return -1;
+    to->bytes = (const uint8_t *)PyBytes_AsString(to->owner);
+    to->length = (size_t)PyBytes_Size(to->owner);
+    to->whole = whole < 0 ? to->length : (size_t)whole;
     return 0;
 }
 

@@ -206,6 +206,13 @@ static PyObject *frame_error(const reader_object *reader)
     return raise_error(reader->own, status, size, 0, reader->length, text);
 }
 
+/* The body, which is there, as bytes: most often what the file returned. */
+static PyObject *body_of(const reader_object *reader)
+{
+    if (reader->body == NULL) return PyBytes_FromStringAndSize(NULL, 0);
+    return PyBytes_CheckExact(reader->body) ? Py_NewRef(reader->body) : PyBytes_FromObject(reader->body);
+}
+
 /* The next item, which is dropped, or None if nothing of one was read. After an error it stays, for `rest`. */
 static PyObject *take(reader_object *reader)
 {
@@ -214,7 +221,7 @@ static PyObject *take(reader_object *reader)
     if (head->status != MULTIHASH_OK || reader->kept < head->digest_length) {
         return reader->is_framed ? frame_error(reader) : multihash_error(reader);
     }
-    PyObject *item = reader->body == NULL ? PyBytes_FromStringAndSize(NULL, 0) : PyBytes_FromObject(reader->body);
+    PyObject *item = body_of(reader);
     if (!reader->is_framed) item = new_multihash(reader->own->type, head->code, item);
     if (item == NULL) return NULL;
     reader->taken += reader->length + reader->kept;
