@@ -15,23 +15,17 @@ from verified_multihash.cid import CID
 DATA = b"\x12\0"
 ARRAY = array("B", DATA)  # a buffer that mypy does not take for bytes
 multihash = vm.decode(DATA)
+cid = CID(1, 0x55, multihash)
 assert_type(
-    (vm.decode(ARRAY), vm.read(ARRAY, limit=64), vm.head(data=ARRAY)), Tuple[Multihash, Tuple[Multihash, int], vm.Head]
+    (vm.decode(ARRAY), vm.read(ARRAY, limit=64), vm.encode(18, ARRAY)), Tuple[Multihash, Tuple[Multihash, int], bytes]
 )
-assert_type((vm.scale_decode(ARRAY), vm.encode(18, ARRAY)), Tuple[Tuple[Multihash, int], bytes])
-assert_type((vm.read_many(ARRAY).codes, vm.read_many(ARRAY).error), Tuple[memoryview, Optional[vm.MultihashError]])
+assert_type((vm.head(data=ARRAY), vm.read_many(ARRAY).error), Tuple[vm.Head, Optional[vm.MultihashError]])
+assert_type((CID.decode(ARRAY), CID.read(ARRAY)), Tuple[CID, Tuple[CID, int]])
 vm.decode("1200")  # type: ignore[arg-type]
 vm.read(DATA, None)  # type: ignore[arg-type]
 vm.encode("sha2-256", DATA)  # type: ignore[arg-type]
-vm.encode(18, 32)  # type: ignore[arg-type]
-vm.encoded_len(18, 32.0)  # type: ignore[arg-type]
 vm.compare(DATA, multihash)  # type: ignore[arg-type]
 vm.more  # type: ignore[attr-defined]
-
-cid = CID(1, 0x55, multihash)
-assert_type((CID.decode(ARRAY), CID.read(ARRAY)), Tuple[CID, Tuple[CID, int]])
-CID(1, 0x55, DATA)  # type: ignore[arg-type]
-CID.parse(DATA)  # type: ignore[arg-type]
 cid.codec = 0  # type: ignore[misc]
 
 
@@ -41,8 +35,6 @@ class Sha256(Multihash):
 
 assert_type((Sha256(18, digest=DATA).__replace__(code=1), Sha256.fromhex("1200")), Tuple[Sha256, Sha256])
 assert_type((multihash < multihash, bytes(multihash)), Tuple[bool, bytes])
-Multihash(18, "abc")  # type: ignore[arg-type]
-Multihash.fromhex(DATA)  # type: ignore[arg-type]
 multihash.digest = DATA  # type: ignore[misc]
 multihash.__replace__(size=2)  # type: ignore[call-arg]
 multihash < DATA  # type: ignore[operator]
@@ -68,23 +60,18 @@ assert_type((next(reader), list(reader), reader.read()), Tuple[Multihash, List[M
 assert_type((vm.read_from(Raw()), vm.FrameReader(Raw()).read()), Tuple[Optional[Multihash], Optional[bytes]])
 vm.MultihashReader("name")  # type: ignore[arg-type]
 vm.read_from(io.StringIO("a text"))  # type: ignore[arg-type]
-vm.FrameReader("name")  # type: ignore[arg-type]
 
 
 async def read(stream: asyncio.StreamReader) -> None:
     async for each in vm.AsyncMultihashReader(stream=stream, limit=64):
         assert_type(each, Multihash)
-    vm.AsyncMultihashReader(io.BytesIO(DATA))  # type: ignore[arg-type]
     async for part in vm.AsyncFrameReader(stream=stream, limit=64):
         assert_type(part, bytes)
-    vm.AsyncFrameReader(io.BytesIO(DATA))  # type: ignore[arg-type]
+    vm.AsyncMultihashReader(io.BytesIO(DATA))  # type: ignore[arg-type]
 
 
 assert_type(hashes.digest(ARRAY, 0x1E, functions={0x1E: hashlib.sha256}), Multihash)
 assert_type(hashes.verify(ARRAY, ARRAY, functions={0x1E: functools.partial(hashlib.blake2b, digest_size=8)}), bool)
 hashes.verify(ARRAY, ARRAY, functions={"blake3": hashlib.sha256})  # type: ignore[dict-item]
 hashes.verify(ARRAY, ARRAY, functions={0x1E: bytes})  # type: ignore[dict-item]
-hashes.digest("abc", "sha2-256")  # type: ignore[arg-type]
-hashes.verify(multihash, "abc")  # type: ignore[arg-type]
-hashes.digest_file(io.StringIO("abc"), "sha1")  # type: ignore[arg-type]
 hashes.CODES["sha2-256"] = 3  # type: ignore[index]
