@@ -33,7 +33,7 @@ PyObject *raise_error(const state *own, multihash_status status, uint64_t size, 
 PyObject *encoding_error(const state *own, multihash_status status, PyObject *length, PyObject *number)
 {
     static const char *texts[] = {
-        [MULTIHASH_OVERFLOW] = "the number %U is 2^63 or more",
+        [MULTIHASH_OVERFLOW] = "the value %U is 2^63 or more",
         [MULTIHASH_INVALID_SIZE] = "the digest has %U bytes, and the limit is %d",
         [MULTIHASH_INVALID_CODE] = "the code %U is 2^63 or more",
     };

@@ -53,7 +53,7 @@ TEXTS = [
     (vm.read_varint, [b"\x80"], "the input ends inside the varint"),
     (vm.read_varint, [b"\x80\0"], "the varint is not minimal: it ends in a zero byte"),
     (vm.read_varint, [b"\xff" * 9], "the varint has more than nine bytes"),
-    (vm.encode_varint, [1 << 63], "the number 9223372036854775808 is 2^63 or more"),
+    (vm.encode_varint, [1 << 63], "the value 9223372036854775808 is 2^63 or more"),
     (vm.head, [b"\x92\0\1"], "the varint of the code is not minimal"),
     (vm.read_from, [io.BytesIO(b"\x12\3abc"), 2], "digest 3 2"),
     (vm.read_from, [io.BytesIO(b"\x12\3ab")], "digest 2 3"),
@@ -216,10 +216,11 @@ class Arguments(unittest.TestCase):
 
     def test_texts(self):
         for call, arguments, words in TEXTS:
-            with self.subTest(words), self.assertRaises((TypeError, ValueError)) as raised:
-                call(**arguments) if isinstance(arguments, dict) else call(*arguments)
-            found = re.findall(r"[^\s:,()]+", str(raised.exception))
-            self.assertLessEqual({*re.findall(r"[^\s:,()]+", words)}, {*found})
+            with self.subTest(words):
+                with self.assertRaises((TypeError, ValueError)) as raised:
+                    call(**arguments) if isinstance(arguments, dict) else call(*arguments)
+                found, wanted = ({*re.findall(r"[^\s:,()]+", text)} for text in (str(raised.exception), words))
+                self.assertLessEqual(wanted, found)
 
 
 class Errors(unittest.TestCase):

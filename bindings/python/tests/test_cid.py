@@ -25,7 +25,7 @@ ERRORS = [
     (CID.parse, ["f0255"], "unknown_version", "the version must be 1, not 2"),
     (CID, [2, 0x55, HELLO], "unknown_version", "the version must be 0 or 1"),
     (CID, [-1, 0x55, HELLO], "unknown_version", "the version must be 0 or 1"),
-    (CID, [1, 2**63, HELLO], "overflow", "codec: the number 9223372036854775808 is 2^63 or more"),
+    (CID, [1, 2**63, HELLO], "overflow", "codec: the value 9223372036854775808 is 2^63 or more"),
     *(
         (CID, fields, "not_version_0", "version 0 has the codec 0x70 and a multihash of SHA2-256 with 32 bytes")
         for fields in ([0, 0x55, HELLO], [0, 0x70, Multihash(18, bytes(31))], [0, 0x70, Multihash(19, bytes(32))])
@@ -66,9 +66,10 @@ class Cids(unittest.TestCase):
 
     def test_errors(self):
         for call, arguments, status, text in ERRORS:
-            with self.subTest(text, arguments=arguments), self.assertRaises(CIDError) as raised:
-                call(*arguments)
-            self.assertEqual((raised.exception.status, str(raised.exception)), (status, text))
+            with self.subTest(text, arguments=arguments):
+                with self.assertRaises(CIDError) as raised:
+                    call(*arguments)
+                self.assertEqual((raised.exception.status, str(raised.exception)), (status, text))
 
     def test_values(self):
         for cid in (RAW, OLD):

@@ -113,10 +113,11 @@ class Values(unittest.TestCase):
     def test_messages(self):
         calls = {"from_bytes": lambda data, _: vm.decode(data), "scale_decode": lambda data, _: vm.scale_decode(data)}
         for row in rows_of(LIST.with_name("messages.tsv")):
-            with self.subTest(row=row), self.assertRaises(MultihashError) as raised:
-                calls.get(row["call"], vm.read)(bytes_of(row["input"]), int(row["limit"]))
-            error = raised.exception
-            self.assertEqual((error.status.name.lower(), str(error)), (row["status"], row["message"]))
+            with self.subTest(row=row):
+                with self.assertRaises(MultihashError) as raised:
+                    calls.get(row["call"], vm.read)(bytes_of(row["input"]), int(row["limit"]))
+                error = raised.exception
+                self.assertEqual((error.status.name.lower(), str(error)), (row["status"], row["message"]))
 
 
 class Many(unittest.TestCase):
