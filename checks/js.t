@@ -1,6 +1,6 @@
 #!/usr/bin/env bash
-# Tests the package for JavaScript: npm test, the same tests in browsers, what npm packs, and its types. pages.t installs
-# it by the command of its page.
+# Tests the package for JavaScript: npm test, a small part in browsers, what npm packs, and its types. pages.t installs it
+# by the command of its page.
 # shellcheck source=checks/lib/tap.sh
 . "$(dirname "$0")/lib/tap.sh"
 here=$PWD/bindings/js vectors=$PWD/crates/vectors/data
@@ -13,7 +13,6 @@ npm_test() { (cd "$here"; ulimit -t 600; npm test); }
 packed() {
   (cd "$here"; npm pack --loglevel=error --pack-destination "$work")
   mkdir "$work/elsewhere"
-  block_of "$here/README.md" html > "$work/elsewhere/page.html"
   cd "$work/elsewhere"
   npm_config_offline=true npm_config_cache=$work/npm npm install --loglevel=error "$work"/verified-multihash-*.tgz
   cmp "$here/LICENSE" node_modules/verified-multihash/LICENSE
@@ -48,6 +47,16 @@ packed_types() {
 # A page in a browser, which tests/browser.js serves and reads.
 in_browser() { node "$here/tests/browser.js" "$@"; }
 
+# The page of README.md, which reports what it shows.
+page_of_readme() {
+  { block_of "$here/README.md" html; cat << 'END'; } > "$work/elsewhere/page.html"
+<script type="module">
+fetch('/report', { method: 'POST', body: `${out.textContent}: ${out.textContent === 'code 18, size 2' ? 0 : 1} failed` });
+</script>
+END
+  in_browser chromium page.html "$work/elsewhere"
+}
+
 # The page that decodes what is pasted, in one file, which is opened without a server.
 inspector() {
   tools/generate inspector "$work/inspector.html"
@@ -62,7 +71,6 @@ needs="$node npm esbuild" try "a bundle of the packed package" bundle
 needs="$node npm tsc" try "the packed package's types" packed_types
 needs="$node chromium" try "in chromium" in_browser chromium tests/page.html "$here" "$vectors"
 needs="$node firefox-esr" try "in firefox" in_browser firefox tests/page.html "$here" "$vectors"
-needs="$node chromium" try "the packed package's page in chromium" in_browser chromium \
-  "tests/page.html?shown=page.html&shown=code+18,+size+2" "$here" "$work/elsewhere"
+needs="$node chromium" try "the packed package's page in chromium" page_of_readme
 needs="$node chromium" try "the inspector in chromium" inspector
 finish

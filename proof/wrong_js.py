@@ -73,7 +73,7 @@ EDITS = [
     ("readVarint", VARINT, f"const last = {{ at: 0 }};\n{VARINT}\n  last.at = at;", "unknown: the constant last"),
     ("varintLength", VARINT, f"const Number = (x) => x;\n{VARINT}", "unknown: the constant Number"),
     ("readVarint", VARINT, f"Uint8Array.prototype.set = () => {{}};\n{VARINT}", "unknown: ExpressionStatement"),
-    ("readVarint", VARINT, f"import {{ readMany }} from './many.js';\n{VARINT}", "unknown: ImportDeclaration"),
+    ("readVarint", VARINT, f"import {{ readMany }} from './core.js';\n{VARINT}", "unknown: ImportDeclaration"),
     ("readVarint", VARINT, "export async function readVarint(bytes, at, end) {", "unknown: the constant"),
     ("readVarint", VARINT, "export function readVarint(bytes, at, end = bytes.length) {", "unknown: the declaration"),
     ("readVarint", VARINT, f"{VARINT}\n  if (arguments.length > 3) return 0;", "unknown: Identifier arguments"),

@@ -86,27 +86,15 @@ export const version = '{VERSION}';
 export const version: string;
 {rows("/** The maximum length of {2}, in bytes. */", "export const {0}: {1};", of=LIMITS)}
 """,
-    "js/statuses.js": f"""// The statuses of multihash.h. Made by tools/generate tables.
+    "js/statuses.js": f"""// Statuses, and the texts of errors, of the headers for C. Made by tools/generate tables.
 
-/** Their names, by their numbers. */
+/** The statuses, by their numbers. */
 export const STATUSES = [
 {rows("  '{2}',")}
 ];
-
 /** Those of truncated input. */
 export const INCOMPLETE = {[name.lower() for name in INCOMPLETE]};
-""",
-    "js/statuses.d.ts": f"""// The statuses of multihash.h. Made by tools/generate tables.
 
-/** Their names, by their numbers. */
-export const STATUSES: readonly [
-{rows("  /* {3} */", "  '{2}',")}
-];
-
-/** Those of truncated input. */
-export const INCOMPLETE: readonly string[];
-""",
-    "js/texts.js": f"""// The texts of errors, of multihash_message.h. Made by tools/generate tables.
 {rows("export const {0} = ({1}) =>", "  `{2}`;", of=[*message_texts()])}
 """,
     "rust/verified-multihash/src/error/texts.rs": f"""//! The texts of errors, of multihash_message.h. Made by tools/generate tables.

@@ -15,28 +15,27 @@ export function shown(number) {
   return text.length > 40 ? `${text.slice(0, 40)}...` : text;
 }
 
-const DECODE = 'Multihash.fromHex(text) decodes hexadecimal';
-const ENCODING = 'open the stream without an encoding';
+const DECODE = 'Multihash.fromHex(text) and CID.parse(text) decode it';
 const STREAM = 'its stream() is a ReadableStream';
-// What makes an argument of a text, by the name of the argument, and of other values.
-const OF_TEXTS = {
-  __proto__: null, bytes: DECODE, multihash: DECODE, code: 'CODES has the codes of names',
-  content: 'new TextEncoder().encode(text) makes bytes', source: 'createReadStream(path) opens a file',
-  json: 'JSON.parse(text) makes one', 'a chunk of the content': ENCODING, 'a chunk of the source': ENCODING,
-};
-const OF_OTHERS = {
-  __proto__: null, Array: 'Uint8Array.from(array) makes bytes', ArrayBuffer: 'new Uint8Array(buffer) makes bytes',
-  Blob: STREAM, File: STREAM, Map: 'Object.fromEntries(map) makes one', Multihash: 'its bytes are the encoding', Promise: 'await it',
-  Response: 'its body is a ReadableStream', Uint8Array: 'decode(bytes) and read(bytes) decode it',
+// What makes an argument of what came, by its kind, or by its kind and the name of the argument.
+const HINTS = {
+  __proto__: null,
+  'string bytes': DECODE, 'string multihash': DECODE, 'string code': 'CODES has the codes of names',
+  'string content': 'new TextEncoder().encode(text) makes bytes', 'string source': 'createReadStream(path) opens a file',
+  'string a chunk of the stream': 'open the stream without an encoding', 'string json': 'JSON.parse(text) makes one',
+  Uint8Array: 'decode(bytes) and read(bytes) decode it',
+  Array: 'Uint8Array.from(array) makes bytes', ArrayBuffer: 'new Uint8Array(buffer) makes bytes',
   view: 'new Uint8Array(view.buffer, view.byteOffset, view.byteLength) makes bytes',
+  Blob: STREAM, File: STREAM, Response: 'its body is a ReadableStream',
+  Map: 'Object.fromEntries(map) makes one', Multihash: 'its bytes are the encoding', Promise: 'await it',
 };
 
 /** The error of an argument of another type. */
 export function wrongType(name, expected, value) {
   const kind = received(value);
-  const got = kind === 'Uint8Array' && !isBytes(value) ? 'a Proxy of a Uint8Array, or what is named so' : kind;
+  const got = kind === 'Uint8Array' && !isBytes(value) ? 'a Proxy of a Uint8Array' : kind;
   const isOtherView = ArrayBuffer.isView(value) && got !== 'Uint8Array';
-  const hint = got === 'string' ? OF_TEXTS[name] : OF_OTHERS[isOtherView ? 'view' : got];
+  const hint = HINTS[`${got} ${name}`] ?? HINTS[isOtherView ? 'view' : got];
   return new TypeError(`${name} must be ${expected}, got ${got}${hint ? `: ${hint}` : ''}`);
 }
 

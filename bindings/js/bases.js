@@ -1,31 +1,68 @@
-// The bases in which content identifiers are texts. They are tested, not proved.
+// The bases in which multihashes and content identifiers are texts. They are tested, not proved.
+import { wrongType } from './arguments.js';
+import { MultihashError } from './errors.js';
+import { LENGTH_MAX, VARINT_LENGTH_MAX } from './limits.js';
 
-/**
- * A base whose digits have `bits` bits. `decode` returns undefined if the last digit has bits that belong to no byte, or
- * that are not zero.
- */
-function baseOfBits(name, digits, bits) {
-  const encode = (bytes) => {
-    let text = '', kept = 0, count = 0;
-    for (const byte of bytes) {
-      kept = (kept << 8) | byte;
-      for (count += 8; count >= bits; kept &= (1 << count) - 1) text += digits[kept >> (count -= bits)];
-    }
-    return count === 0 ? text : text + digits[kept << (bits - count)];
-  };
-  const decode = (text) => {
-    const bytes = new Uint8Array((text.length * bits) >> 3);
-    let length = 0, kept = 0, count = 0;
-    for (const digit of text) {
-      kept = (kept << bits) | digits.indexOf(digit);
-      count += bits;
-      if (count < 8) continue;
-      bytes[length++] = kept >> (count -= 8);
-      kept &= (1 << count) - 1;
-    }
-    return count < bits && kept === 0 ? bytes : undefined;
-  };
-  return { name, other: new RegExp(`[^${digits}]`), encode, decode };
+// ---- base16: hexadecimal digits
+
+/** The value of a hexadecimal digit: 0x30 is the code of 0, 0x41 of A, 0x61 of a. */
+function digitAt(text, index) {
+  const code = text.charCodeAt(index);
+  return (code & 15) + 9 * (code >> 6);
+}
+
+/** The bytes of a text of hexadecimal digits. */
+export function unhex(text, name = 'text') {
+  if (typeof text !== 'string') throw wrongType(name, 'a string', text);
+  const at = text.search(/[^0-9a-f]/i);
+  if (at >= 0 || text.length % 2 !== 0) {
+    const what = at < 0 ? `an odd number of digits, ${text.length}` :
+      `${JSON.stringify(String.fromCodePoint(text.codePointAt(at)))} at index ${at}, which is no hexadecimal digit`;
+    throw new MultihashError(`the ${name} has ${what}`, { status: 'not_hexadecimal' });
+  }
+  const bytes = new Uint8Array(text.length / 2);
+  for (let index = 0; index < bytes.length; index++)
+    bytes[index] = 16 * digitAt(text, 2 * index) + digitAt(text, 2 * index + 1);
+  return bytes;
+}
+
+const BASE16 = Uint8Array.from('0123456789abcdef', (digit) => digit.charCodeAt(0));
+const digits = new Uint8Array(2 * (1 + VARINT_LENGTH_MAX + LENGTH_MAX)); // of a CID
+const decoder = new TextDecoder();
+
+/** The bytes of a multihash or a CID in hexadecimal. A text made by additions takes several times as long. */
+export function hex(bytes) {
+  for (let index = 0; index < bytes.length; index++) {
+    digits[2 * index] = BASE16[bytes[index] >> 4];
+    digits[2 * index + 1] = BASE16[bytes[index] & 15];
+  }
+  return decoder.decode(digits.subarray(0, 2 * bytes.length));
+}
+
+// ---- base32 and base58btc
+
+const BASE32 = 'abcdefghijklmnopqrstuvwxyz234567';
+
+function toBase32(bytes) {
+  let text = '', kept = 0, count = 0;
+  for (const byte of bytes) {
+    kept = (kept << 8) | byte;
+    for (count += 8; count >= 5; kept &= (1 << count) - 1) text += BASE32[kept >> (count -= 5)];
+  }
+  return count === 0 ? text : text + BASE32[kept << (5 - count)];
+}
+
+function fromBase32(text) {
+  const bytes = new Uint8Array((text.length * 5) >> 3);
+  let length = 0, kept = 0, count = 0;
+  for (const digit of text) {
+    kept = (kept << 5) | BASE32.indexOf(digit);
+    count += 5;
+    if (count < 8) continue;
+    bytes[length++] = kept >> (count -= 8);
+    kept &= (1 << count) - 1;
+  }
+  return count < 5 && kept === 0 ? bytes : undefined;
 }
 
 const BASE58 = '123456789ABCDEFGHJKLMNPQRSTUVWXYZabcdefghijkmnopqrstuvwxyz';
@@ -50,11 +87,14 @@ const fromBase58 = (text) => new Uint8Array(inBase([...text].map((digit) => BASE
 
 /**
  * By the prefix of a text: the name of the base, what is no digit of it, and its functions for texts without the prefix,
- * which have digits alone.
+ * which have digits alone. `decode` returns undefined if the last digit has bits that belong to no byte, or that are not
+ * zero.
  */
 export const BASES = {
   __proto__: null,
-  b: baseOfBits('base32', 'abcdefghijklmnopqrstuvwxyz234567', 5),
-  f: baseOfBits('base16', '0123456789abcdef', 4),
-  z: { name: 'base58btc', other: new RegExp(`[^${BASE58}]`), encode: toBase58, decode: fromBase58 },
+  b: { name: 'base32', other: /[^a-z2-7]/, encode: toBase32, decode: fromBase32 },
+  f: {
+    name: 'base16', other: /[^0-9a-f]/, encode: hex, decode: (text) => (text.length % 2 === 0 ? unhex(text) : undefined),
+  },
+  z: { name: 'base58btc', other: /[^1-9A-HJ-NP-Za-km-z]/, encode: toBase58, decode: fromBase58 },
 };

@@ -20,8 +20,8 @@ export const CID_TEXT_MAX: 553;
 /** Why a call failed, by the names that other languages have too. */
 export type CIDStatus =
   /**
-   * The version, the codec or the multihash is invalid or truncated, or bytes follow it, as the status of that name in
-   * statuses.d.ts says; `cause` is the `MultihashError`. An empty text is `insufficient`.
+   * The version, the codec or the multihash is invalid or truncated, or bytes follow it, as `Status` of index.d.ts says;
+   * `cause` is the `MultihashError`. An empty text is `insufficient`.
    */
   | Exclude<MultihashStatus, 'invalid_code' | 'not_hexadecimal'>
   /** The text does not start with `b`, `f`, `z` or `Qm`. */

@@ -1,10 +1,9 @@
 // Content identifiers, as bytes and as texts. The bases are tested, not proved.
 import { checkedLength, checkedWide, shown, viewOf, wrongType } from './arguments.js';
 import { BASES } from './bases.js';
-import { decode, encodeVarint, read, readVarint } from './core.js';
-import { MultihashError } from './errors.js';
+import { encodeVarint, readVarint } from './core.js';
 import { LENGTH_MAX, VARINT_LENGTH_MAX } from './limits.js';
-import { MAKING, Multihash } from './multihash.js';
+import { MAKING, Multihash, decode, read } from './multihash.js';
 
 /** The codecs that most CIDs have, by their names in the multicodec table. */
 export const CODECS = Object.freeze({
@@ -33,12 +32,11 @@ export class CIDError extends Error {
 }
 Object.defineProperty(CIDError.prototype, 'name', { value: 'CIDError', writable: true, configurable: true });
 
-/** Calls what decodes or encodes a part of a CID. */
+/** Calls what decodes or encodes a part of a CID, whose arguments were checked. */
 function ofPart(part, call) {
   try {
     return call();
   } catch (cause) {
-    if (!(cause instanceof MultihashError)) throw cause;
     throw new CIDError(cause.status, `${part}: ${cause.message}`, { cause });
   }
 }
@@ -53,12 +51,6 @@ function headOf(bytes, length) {
   if (version.value !== 1) throw new CIDError('unknown_version', `the version must be 1, not ${version.value}`);
   const codec = ofPart('codec', () => readVarint(viewOf(bytes, version.taken, length - version.taken)));
   return { version: 1, codec: codec.value, start: version.taken + codec.taken };
-}
-
-/** The length of the bytes of a CID. */
-function lengthOf(bytes) {
-  if (typeof bytes === 'string') throw new TypeError('bytes must be a Uint8Array, got string: CID.parse(text) decodes it');
-  return checkedLength(bytes, 'bytes');
 }
 
 /** The encoding of a version, a codec and a multihash. */
@@ -89,14 +81,14 @@ export class CID {
 
   /** Decodes the CID whose encoding is the whole of the bytes. */
   static decode(bytes) {
-    const length = lengthOf(bytes);
+    const length = checkedLength(bytes, 'bytes');
     const { version, codec, start } = headOf(bytes, length);
     return CID.of(version, codec, ofPart('multihash', () => decode(viewOf(bytes, start, length - start))));
   }
 
   /** Decodes the CID whose encoding is a prefix of the bytes. */
   static read(bytes) {
-    const length = lengthOf(bytes);
+    const length = checkedLength(bytes, 'bytes');
     const { version, codec, start } = headOf(bytes, length);
     const { multihash, taken } = ofPart('multihash', () => read(viewOf(bytes, start, length - start)));
     return { cid: CID.of(version, codec, multihash), taken: start + taken };

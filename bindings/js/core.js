@@ -1,23 +1,39 @@
-// The calls that decode: format.js does it, between checks of the arguments and the texts of errors.
-import { checkedLength, checkedWide } from './arguments.js';
-import { MultihashError, errorOf, scaleReasonOf, varintReasonOf } from './errors.js';
+// The calls over bytes alone: format.js decodes and encodes, between checks of the arguments and the texts of errors.
+import { checkedLength, checkedWide, viewOf, wrongType } from './arguments.js';
+import { MultihashError, errorOf, varintReasonOf } from './errors.js';
 import * as format from './format.js';
 import { DIGEST_MAX } from './limits.js';
-import { multihashOf } from './multihash.js';
+import { tooLarge, tooLong } from './statuses.js';
 
-export { encode, encodeVarint, encodedLength, scaleEncode, writeVarint } from './encoding.js';
-export { decode } from './multihash.js';
+/** Throws why a code and a digest of that length have no encoding. */
+export function checkPair(code, length) {
+  const status = format.encodingStatus(code, length);
+  if (status === 'invalid_code') throw new MultihashError(tooLarge('code', code), { status, code });
+  if (status !== 'ok') throw new MultihashError(tooLong('digest', length, DIGEST_MAX), { status, size: length });
+}
 
-/** The maximum length of a digest by the argument `limit`. */
-export const checkedLimit = (limit) => Math.min(Number(checkedWide(limit, 'limit')), DIGEST_MAX);
+/** Returns the encoding of a code and a digest. */
+export function encode(code, digest) {
+  const number = checkedWide(code, 'code');
+  const length = checkedLength(digest, 'digest');
+  checkPair(number, length);
+  return format.encodeMultihash(number, digest, length);
+}
 
-/** Decodes the multihash whose encoding is a prefix of the bytes, with a digest of at most `limit` bytes. */
-export function read(bytes, limit) {
-  const most = limit === undefined ? DIGEST_MAX : checkedLimit(limit);
-  const length = checkedLength(bytes, 'bytes');
-  const found = format.readMultihash(bytes, 0, length, most);
-  if (found.status !== 'ok') throw errorOf(found, bytes, 0, length, most);
-  return { multihash: multihashOf(bytes, found), taken: found.next };
+/** Returns the SCALE encoding of a code and a digest. */
+export function scaleEncode(code, digest) {
+  const number = checkedWide(code, 'code');
+  const length = checkedLength(digest, 'digest');
+  checkPair(number, length);
+  return format.encodeScale(number, digest, length);
+}
+
+/** Returns the length of the encoding of a code and a digest of that length. */
+export function encodedLength(code, digestLength) {
+  const number = checkedWide(code, 'code');
+  const length = checkedWide(digestLength, 'digestLength');
+  checkPair(number, length);
+  return format.encodedLength(number, length);
 }
 
 /** Decodes the two varints before a digest. */
@@ -28,6 +44,35 @@ export function head(bytes) {
   return { code: found.code, digestLength: found.size, taken: found.next };
 }
 
+// ---- varints
+
+/** A number that has a varint. */
+function checkedValue(value) {
+  const number = checkedWide(value, 'value');
+  if (number < 2 ** 63) return number;
+  throw new MultihashError(tooLarge('value', value), { status: 'overflow' });
+}
+
+/** Returns the varint of a number. */
+export function encodeVarint(value) {
+  const number = checkedValue(value);
+  const bytes = new Uint8Array(format.varintLength(number));
+  format.writeVarint(number, bytes, 0);
+  return bytes;
+}
+
+/** Writes the varint of a number to bytes, from an index on, and returns its length. */
+export function writeVarint(value, bytes, at = 0) {
+  const room = checkedLength(bytes, 'bytes');
+  const number = checkedValue(value);
+  const length = format.varintLength(number);
+  if (typeof at !== 'number') throw wrongType('at', 'a number', at);
+  if (!Number.isInteger(at) || at < 0 || length > room - at)
+    throw new RangeError(`at must be an index with room for ${length} more in bytes, got ${at} of ${room}`);
+  format.writeVarint(number, bytes, at);
+  return length;
+}
+
 /** Decodes the varint at the start of the bytes. */
 export function readVarint(bytes) {
   const length = checkedLength(bytes, 'bytes');
@@ -36,11 +81,44 @@ export function readVarint(bytes) {
   return { value, taken: next };
 }
 
-/** Decodes the multihash whose SCALE encoding is a prefix of the bytes. */
-export function scaleDecode(bytes) {
+// ---- many multihashes
+
+/** Columns, with those codes, offsets and lengths of others that are there. */
+function columnsOf(capacity, others = {}) {
+  const codes = new BigUint64Array(capacity);
+  const columns = { codes, offsets: new Float64Array(capacity), lengths: new Uint8Array(capacity) };
+  for (const [name, column] of Object.entries(others)) columns[name].set(column.subarray(0, capacity));
+  return columns;
+}
+
+/** Decodes the multihashes at the start of the bytes, one after the other, into columns. */
+export function readMany(bytes) {
   const length = checkedLength(bytes, 'bytes');
-  const found = format.readScale(bytes, length);
-  const { status, code, next } = found;
-  if (status === 'ok') return { multihash: multihashOf(bytes, found), taken: next };
-  throw new MultihashError(scaleReasonOf(found, bytes, length), { status, code: code || undefined, taken: next });
+  const view = viewOf(bytes, 0, length);
+  // room for as many encodings of 34 bytes as the input has, but at first for a million at most
+  let { codes, offsets, lengths } = columnsOf(Math.min(Math.ceil(length / 34), 2 ** 20));
+  let halves = new Uint32Array(codes.buffer);
+  const low = new Uint8Array(Uint32Array.of(1).buffer)[0] === 1 ? 0 : 1; // most machines have the low half of 64 bits first
+  let [taken, count] = [0, 0];
+  let error;
+  while (taken < length) {
+    const found = format.readMultihash(view, taken, length, DIGEST_MAX);
+    const { status, code, size, next } = found;
+    if (status !== 'ok') {
+      error = errorOf(found, view, taken, length, DIGEST_MAX);
+      break;
+    }
+    if (count === lengths.length) {
+      ({ codes, offsets, lengths } = columnsOf(2 * count, { codes, offsets, lengths }));
+      halves = new Uint32Array(codes.buffer);
+    }
+    if (code < 2 ** 32) halves[2 * count + low] = code; // without a bigint, which takes as long as all the rest
+    else codes[count] = BigInt(code);
+    offsets[count] = next - size;
+    lengths[count] = size;
+    taken = next;
+    count++;
+  }
+  if (count < lengths.length) ({ codes, offsets, lengths } = columnsOf(count, { codes, offsets, lengths }));
+  return { codes, offsets, lengths, taken, error };
 }

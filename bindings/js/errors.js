@@ -1,9 +1,8 @@
 // MultihashError, the error of invalid input, and the choice of its text.
 import { readHead, readVarint } from './format.js';
-import { INCOMPLETE, STATUSES } from './statuses.js';
-import * as texts from './texts.js';
+import * as texts from './statuses.js';
 
-const ALL = [...STATUSES.slice(1), 'not_hexadecimal'];
+const ALL = [...texts.STATUSES.slice(1), 'not_hexadecimal'];
 
 /** A number as JSON.stringify accepts it: a bigint as decimal text. */
 export const forJSON = (number) => (typeof number === 'bigint' ? `${number}` : number);
@@ -12,8 +11,9 @@ export const forJSON = (number) => (typeof number === 'bigint' ? `${number}` : n
 export class MultihashError extends Error {
   constructor(message, details) {
     const { status, size, code, taken } = { __proto__: null, ...details };
-    super(message, { cause: { status, size, code, taken } });
-    Object.assign(this, { status, size, code, taken });
+    const fields = { status, size, code, taken };
+    super(message, { cause: fields });
+    Object.assign(this, fields);
   }
 
   /** The name, the text and the fields, for JSON.stringify. */
@@ -31,7 +31,7 @@ export class MultihashError extends Error {
 
   /** Whether the input is truncated. But for `decode`, only then can more input change the result. */
   get isIncomplete() {
-    return INCOMPLETE.includes(this.status);
+    return texts.INCOMPLETE.includes(this.status);
   }
 }
 Object.defineProperty(MultihashError.prototype, 'name',
@@ -79,10 +79,4 @@ export function scaleReasonOf({ status, code }, input, length) {
   if (length < 8) return texts.truncated('code', length, 8);
   if (length === 8) return texts.ends('before', "digest's length");
   return texts.truncated('digest', length - 9, input[8]);
-}
-
-/** The error of an encoding. */
-export function encodingError(status, size, code, limit) {
-  if (status === 'invalid_code') return new MultihashError(texts.tooLarge('code', code), { status, code });
-  return new MultihashError(texts.tooLong('digest', size, limit), { status, size });
 }

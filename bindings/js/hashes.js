@@ -14,7 +14,6 @@ export { CODES, NAMES };
 const node = globalThis.process?.getBuiltinModule?.('node:crypto');
 
 const PIECE = node ? 2 ** 20 : Infinity; // bytes that are hashed at once: WebCrypto hashes in a thread of its own
-const later = () => new Promise((resolve) => globalThis.setImmediate(resolve));
 
 /** The error of a hash function that the platform does not have, and that was not passed: nothing was hashed. */
 export class UnsupportedHashError extends RangeError {
@@ -26,12 +25,6 @@ export class UnsupportedHashError extends RangeError {
 }
 Object.defineProperty(UnsupportedHashError.prototype, 'name',
   { value: 'UnsupportedHashError', writable: true, configurable: true });
-
-/** Hashes pieces with a function of node:crypto. */
-function byNode(algorithm, outputLength) {
-  const hash = node.createHash(algorithm, outputLength && { outputLength });
-  return { update: (piece) => hash.update(piece), digest: () => hash.digest() };
-}
 
 /** Hashes pieces with WebCrypto, which needs all of them at once, not in shared or resizable memory. */
 function byWeb(algorithm) {
@@ -64,17 +57,31 @@ function byNothing() {
 }
 
 /** Hashes the digest of the pieces. */
-function twice(begin) {
-  const hash = begin();
+function twice(create) {
+  const [first, second] = [create(), create()];
   return {
-    update: hash.update,
+    update: (piece) => first.update(piece),
     async digest() {
-      const second = begin();
-      second.update(await hash.digest());
+      second.update(await first.digest());
       return second.digest();
     },
   };
 }
+
+// What creates an object that hashes pieces, by the names of the functions that this platform has.
+const creators = { __proto__: null, identity: byNothing };
+if (node) {
+  const available = node.getHashes();
+  for (const name of Object.keys(CODES)) {
+    const algorithm = name.replace('sha2-', 'sha').replace(/^(shake|ripemd|blake2.)-/, '$1').replace('sm3-256', 'sm3');
+    const outputLength = { __proto__: null, shake128: 32, shake256: 64 }[algorithm];
+    if (available.includes(algorithm)) creators[name] = () => node.createHash(algorithm, { outputLength });
+  }
+} else {
+  for (const bits of [256, 384, 512]) creators[`sha2-${bits}`] = () => byWeb(`SHA-${bits}`);
+  creators.sha1 = () => byWeb('SHA-1');
+}
+creators['dbl-sha2-256'] = () => twice(creators['sha2-256']);
 
 /**
  * Calls with what makes a source of the content, once. After an error the source is cancelled, even if it was not read.
@@ -92,43 +99,23 @@ async function reading(content, call) {
 }
 
 /** The digest of bytes, or of the chunks of the source that `open` returns. */
-async function digestOf(begin, content, open) {
-  const hash = begin();
+async function digestOf(create, content, open) {
+  const hash = create();
   if (isBytes(content)) {
     const length = checkedLength(content, 'content');
     for (let at = 0; at < length; at += PIECE) {
-      if (at > 0) await later();
+      if (at > 0) await new Promise((resolve) => globalThis.setImmediate(resolve)); // other work has a turn
       hash.update(viewOf(content, at, Math.min(PIECE, length - at)));
     }
     return hash.digest();
   }
   const source = open();
   for (let chunk; !(chunk = await source.next()).done; ) {
-    checkedLength(chunk.value, 'a chunk of the content');
+    checkedLength(chunk.value, 'a chunk of the stream');
     hash.update(new Uint8Array(chunk.value)); // a copy, since sources may use their memory again
   }
   source.release();
   return hash.digest();
-}
-
-/** What begins to hash with a function, or undefined if the platform does not have it. */
-function beginningOf(name, available) {
-  if (name === 'identity') return byNothing;
-  if (name === 'dbl-sha2-256') return () => twice(beginnings['sha2-256']);
-  if (!node) {
-    const algorithm = name.replace(/^sha2?-?/, 'SHA-');
-    return /^SHA-(1|256|384|512)$/.test(algorithm) ? () => byWeb(algorithm) : undefined;
-  }
-  const algorithm = name.replace('sha2-', 'sha').replace(/^(shake|ripemd|blake2.)-/, '$1').replace('sm3-256', 'sm3');
-  const length = { __proto__: null, shake128: 32, shake256: 64 }[algorithm];
-  return available.includes(algorithm) ? () => byNode(algorithm, length) : undefined;
-}
-
-const beginnings = { __proto__: null };
-const available = node?.getHashes();
-for (const name of Object.keys(CODES)) {
-  const begin = beginningOf(name, available);
-  if (begin) beginnings[name] = begin;
 }
 
 /** Hashes pieces with an object of @noble/hashes, hash-wasm or node:crypto, which a function of a caller returns. */
@@ -147,13 +134,13 @@ function byOwn(create, name) {
   };
 }
 
-/** What begins to hash with the function of a code: a caller's, by its name or code, or that of the platform. */
-function beginningFor(code, functions = {}) {
+/** What creates an object that hashes by a code: a caller's function, by its name or code, or that of the platform. */
+function creatorOf(code, functions = {}) {
   checkedObject(functions, 'functions');
   const key = [code, NAMES[code]].find((each) => Object.prototype.hasOwnProperty.call(functions, each));
   if (key === undefined) {
-    if (!beginnings[NAMES[code]]) throw new UnsupportedHashError(code);
-    return beginnings[NAMES[code]];
+    if (!creators[NAMES[code]]) throw new UnsupportedHashError(code);
+    return creators[NAMES[code]];
   }
   const own = functions[key];
   const create = typeof own?.create === 'function' ? () => own.create() : own;
@@ -189,7 +176,7 @@ function multihashOf(code, whole, truncate) {
 export const digest = (content, hash, options = {}) => reading(content, async (open) => {
   const { truncate, functions } = checkedOptions(options, ['truncate', 'functions']);
   const code = codeOf(hash);
-  return multihashOf(code, await digestOf(beginningFor(code, functions), content, open), truncate);
+  return multihashOf(code, await digestOf(creatorOf(code, functions), content, open), truncate);
 });
 
 /** Makes the multihash of bytes that are passed in parts. */
@@ -202,7 +189,7 @@ export class Hasher {
   constructor(hash, options = {}) {
     const { functions } = checkedOptions(options, ['functions']);
     this.#code = codeOf(hash);
-    this.#hash = beginningFor(this.#code, functions)();
+    this.#hash = creatorOf(this.#code, functions)();
   }
 
   /** Appends bytes, and returns this hasher. */
@@ -224,7 +211,7 @@ const hasher = (name) =>
 
 /** The functions that this platform has, by their names. */
 export const hashers = { __proto__: null };
-for (const name of Object.keys(beginnings)) hashers[name] = hasher(name);
+for (const name of Object.keys(creators)) hashers[name] = hasher(name);
 Object.freeze(hashers);
 export const { identity, 'sha2-256': sha256, 'sha2-384': sha384, 'sha2-512': sha512 } = hashers;
 
@@ -244,7 +231,7 @@ export const verify = (multihash, content, options = {}) => reading(content, asy
   const { functions } = checkedOptions(options, ['functions']);
   if (!isBytes(content)) open(); // if the arguments are swapped, it is the content that has the wrong type
   const { code, digest } = claimOf(multihash);
-  const wanted = await digestOf(beginningFor(code, functions), content, open);
+  const wanted = await digestOf(creatorOf(code, functions), content, open);
   if (digest.length === 0) checkedLength(digest, 'the digest');
   if (digest.length !== wanted.length) return false;
   let difference = 0;

@@ -1,6 +1,4 @@
 // What the package declares.
-import type { STATUSES } from './statuses.js';
-
 export * from './hashes.js';
 export * from './limits.js';
 
@@ -10,8 +8,22 @@ export * from './limits.js';
  */
 export type Wide = number | bigint;
 
-/** Why a call failed: see statuses.d.ts. With `not_hexadecimal` a text is not an even number of hexadecimal digits. */
-export type Status = Exclude<(typeof STATUSES)[number], 'ok' | 'no_room'> | 'not_hexadecimal';
+/** Why a call failed. */
+export type Status =
+  /** The input ends before or inside a varint. */
+  | 'insufficient'
+  /** A varint has more than nine bytes; numbers of 2^63 and above do. */
+  | 'overflow'
+  /** A varint of more than one byte ends in a zero byte. */
+  | 'not_minimal'
+  /** `size` is the length of a digest that is too long, or the number of bytes that follow the multihash. */
+  | 'invalid_size'
+  /** The code is 2^63 or more: `code` is the code. */
+  | 'invalid_code'
+  /** The input ends before the end of the digest, after any varints. */
+  | 'unexpected_eof'
+  /** A text is not an even number of hexadecimal digits. */
+  | 'not_hexadecimal';
 
 /** The fields of an error. */
 export interface Details {

@@ -1,9 +1,7 @@
 // What the package exports.
-export { head, read, readVarint, scaleDecode } from './core.js';
-export { encode, encodeVarint, encodedLength, scaleEncode, writeVarint } from './encoding.js';
+export { encode, encodeVarint, encodedLength, head, readMany, readVarint, scaleEncode, writeVarint } from './core.js';
 export { MultihashError } from './errors.js';
 export * from './hashes.js';
 export * from './limits.js';
-export { readMany } from './many.js';
-export { Multihash, compare, decode } from './multihash.js';
-export { FrameReader, MultihashReader } from './readers.js';
+export { Multihash, compare, decode, read, scaleDecode } from './multihash.js';
+export { FrameReader, MultihashReader } from './reader.js';

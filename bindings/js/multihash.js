@@ -1,9 +1,9 @@
-// The class Multihash, what decodes one, and how multihashes compare.
+// The class Multihash, the calls that decode one, and how multihashes compare.
 import { checkedLength, checkedWide, copyOf, isBytes, shown, wrongType } from './arguments.js';
-import { checkPair, encode } from './encoding.js';
-import { errorOf, forJSON } from './errors.js';
-import { compareBytes, compareMultihashes, decodeMultihash } from './format.js';
-import { hex, unhex } from './hex.js';
+import { hex, unhex } from './bases.js';
+import { checkPair, encode } from './core.js';
+import { MultihashError, errorOf, forJSON, scaleReasonOf } from './errors.js';
+import { compareBytes, compareMultihashes, decodeMultihash, readMultihash, readScale } from './format.js';
 import { DIGEST_MAX } from './limits.js';
 
 /** What only this package has, to make a multihash that was checked. */
@@ -76,12 +76,13 @@ export class Multihash {
     return `Multihash(0x${this.code.toString(16)}, ${digest})`;
   }
 
-  /** Whether the other value has the same code and the same digest. */
+  /** Whether another value, such as a digest of js-multiformats, has the same code and the same digest. */
   equals(other) {
-    if (!(other instanceof Multihash)) return isLike(this, other);
-    const left = digestOf(this, 'left');
-    const right = digestOf(other, 'right');
-    return this.code === other.code && left.length === right.length && compareBytes(left, right, left.length) === 0;
+    const digest = digestOf(this, 'this multihash');
+    if (!isBytes(other?.digest) || !['number', 'bigint'].includes(typeof other.code)) return false;
+    const length = checkedLength(other.digest, 'the other digest');
+    // a number and a bigint of the same value are the same code
+    return other.code == this.code && length === digest.length && compareBytes(digest, other.digest, length) === 0;
   }
 
   /** This multihash, whose code is a number: a RangeError if it is a bigint. */
@@ -102,13 +103,25 @@ export function decode(bytes) {
   return multihashOf(bytes, found);
 }
 
-/** Whether an object of another class, such as a digest of js-multiformats, has the same code and the same digest. */
-function isLike(multihash, other) {
-  const digest = digestOf(multihash, 'this multihash');
-  if (!isBytes(other?.digest) || !['number', 'bigint'].includes(typeof other.code)) return false;
-  // a number and a bigint of the same value are the same code
-  const length = checkedLength(other.digest, 'the other digest');
-  return other.code == multihash.code && length === digest.length && compareBytes(digest, other.digest, length) === 0;
+/** The maximum length of a digest by the argument `limit`. */
+export const checkedLimit = (limit) => Math.min(Number(checkedWide(limit, 'limit')), DIGEST_MAX);
+
+/** Decodes the multihash whose encoding is a prefix of the bytes, with a digest of at most `limit` bytes. */
+export function read(bytes, limit) {
+  const most = limit === undefined ? DIGEST_MAX : checkedLimit(limit);
+  const length = checkedLength(bytes, 'bytes');
+  const found = readMultihash(bytes, 0, length, most);
+  if (found.status !== 'ok') throw errorOf(found, bytes, 0, length, most);
+  return { multihash: multihashOf(bytes, found), taken: found.next };
+}
+
+/** Decodes the multihash whose SCALE encoding is a prefix of the bytes. */
+export function scaleDecode(bytes) {
+  const length = checkedLength(bytes, 'bytes');
+  const found = readScale(bytes, length);
+  const { status, code, next } = found;
+  if (status === 'ok') return { multihash: multihashOf(bytes, found), taken: next };
+  throw new MultihashError(scaleReasonOf(found, bytes, length), { status, code: code || undefined, taken: next });
 }
 
 /** The digest of a Multihash, whose memory was not moved elsewhere. */

@@ -1,20 +1,23 @@
-// What reads the items of a stream one after the other, such as its multihashes or frames.
-import { checkedLength } from './arguments.js';
+// What reads the items of a stream one after the other: its multihashes, or its frames.
+import { checkedLength, checkedOptions, checkedWide, copyOf } from './arguments.js';
+import { MultihashError, errorOf, frameReasonOf } from './errors.js';
+import { readMultihash, readVarint } from './format.js';
+import { DIGEST_MAX } from './limits.js';
+import { checkedLimit, multihashOf } from './multihash.js';
 import { sourceOf } from './sources.js';
 import { INCOMPLETE } from './statuses.js';
 
 /** Reads items from a `ReadableStream` or an async iterable of `Uint8Array`. */
-export class ItemReader {
+class ItemReader {
   #source;
   #find;
   #make;
   #bytes = new Uint8Array(); // what was received, and room for more
   #at = 0; // the index in it after the last item that was returned
   #end = 0; // the index after what was received
-  #isShort = false; // whether the bytes end inside the next item
   #taken = 0; // bytes of all that were returned
   #calls = 0; // pending calls
-  #last = Promise.resolve();
+  #last = Promise.resolve(); // settled after the last of them
   #isReleased = false; // by its user
   #stop; // ends the call that waits
   #over; // what each call does once the reader has ended: it returns null, or throws an error
@@ -48,59 +51,52 @@ export class ItemReader {
     const item = this.#ready();
     if (item) return Promise.resolve(item);
     const next = this.#calls++ === 0 ? this.#next() : this.#last.then(() => this.#next());
-    if (this.#calls > 0) this.#last = next.catch(() => {});
+    this.#last = next.catch(() => {});
     return next;
   }
 
+  /** The next item, once it was received. At an error or the end of the source the reader ends. */
   async #next() {
     try {
-      return this.#over ? this.#over() : (this.#received() ?? (await this.#awaited()) ?? this.#finish(() => null));
+      for (let isLast = false; !this.#over; ) {
+        const item = this.#received(isLast);
+        if (item) return item;
+        isLast = await this.#more();
+        if (isLast && this.#at === this.#end) this.#over ??= () => null;
+      }
     } catch (error) {
-      return this.#finish(() => {
+      this.#over ??= () => {
         throw error;
-      });
+      };
     } finally {
       this.#calls--;
     }
-  }
-
-  #finish(end) {
-    this.#over ??= end;
     this.#source.release();
     return this.#over();
   }
 
   /** The next item, if all of it was received. Throws if the rest of it does not follow. */
   #received(isLast = false) {
-    if (this.#isShort && !isLast) return undefined;
     const found = this.#find(this.#bytes, this.#at, this.#end);
-    this.#isShort = INCOMPLETE.includes(found.status);
-    if (this.#isShort && !isLast) return undefined;
+    if (!isLast && INCOMPLETE.includes(found.status)) return undefined;
     const item = this.#make(found, this.#bytes, this.#at, this.#end);
     this.#taken += found.next - this.#at;
     this.#at = found.next;
     return item;
   }
 
-  /** The next item of the source, or null after the last one. */
-  async #awaited() {
-    let item;
-    while (!item) {
-      const done = await new Promise((resolve, reject) => {
-        this.#stop = resolve;
-        this.#receive().then(resolve, reject);
-      });
-      // after a release or a cancellation meanwhile, `rest` has what was received
-      if (this.#over || (done && this.#at === this.#end)) return null;
-      item = this.#received(done);
-    }
-    return item;
+  /** Waits for a chunk of the source, or until `cancel` is called. Returns whether the source has ended. */
+  #more() {
+    return new Promise((resolve, reject) => {
+      this.#stop = resolve;
+      // a chunk that comes later is appended to `rest`
+      this.#receive().then(resolve, reject);
+    });
   }
 
-  /** Waits for a chunk of the source, and appends it to `rest`. Returns whether the source has ended instead. */
   async #receive() {
     const { done, value } = await this.#source.next();
-    if (!done) this.#append(value, 'a chunk of the source');
+    if (!done) this.#append(value, 'a chunk of the stream');
     return done;
   }
 
@@ -117,7 +113,6 @@ export class ItemReader {
     }
     this.#bytes.set(bytes, this.#end);
     this.#end += length;
-    this.#isShort = false;
   }
 
   /** What `read` would return, if that is an item and nothing needs to be awaited. */
@@ -149,57 +144,88 @@ export class ItemReader {
     await this.#source.close(reason);
   }
 
-  /** Returns each item; where the loop is left, the source is cancelled. */
+  /**
+   * Returns each item; where the loop is left, the source is cancelled. This is what an async generator would do, which
+   * takes twice as long for an item that was received before.
+   */
   [Symbol.asyncIterator]() {
-    return new Loop(this, () => this.#ready());
+    let isOver = false;
+    const awaited = async () => {
+      if (isOver) return { done: true, value: undefined };
+      try {
+        const value = await this.read();
+        return value === null ? loop.return() : { done: false, value };
+      } catch (error) {
+        return loop.throw(error);
+      }
+    };
+    const loop = {
+      next: () => {
+        const value = isOver ? undefined : this.#ready();
+        return value ? Promise.resolve({ done: false, value }) : awaited();
+      },
+      return: async (value) => {
+        if (!isOver) {
+          isOver = true;
+          await this.cancel();
+        }
+        return { done: true, value };
+      },
+      throw: async (error) => {
+        await loop.return().catch(() => {}); // the first error is the one to know
+        throw error;
+      },
+      [Symbol.asyncIterator]: () => loop,
+    };
+    if (Symbol.asyncDispose) loop[Symbol.asyncDispose] = loop.return;
+    return loop;
+  }
+}
+if (Symbol.asyncDispose) ItemReader.prototype[Symbol.asyncDispose] = ItemReader.prototype.cancel;
+
+/** The maximum length of an item, and bytes that precede those of the source. */
+const checkedLimits = (options) => checkedOptions(options, ['limit', 'rest']);
+
+/** Reads concatenated encodings. */
+export class MultihashReader extends ItemReader {
+  constructor(source, options = {}) {
+    const { limit = DIGEST_MAX, rest = new Uint8Array() } = checkedLimits(options);
+    const most = checkedLimit(limit);
+    super(source, rest, (bytes, at, end) => readMultihash(bytes, at, end, most), (found, bytes, at, end) => {
+      if (found.status !== 'ok') throw errorOf(found, bytes, at, end, most);
+      return multihashOf(bytes, found);
+    });
   }
 }
 
-/** Iterates as an async generator does, which takes twice as long for an item that was received before. */
-class Loop {
-  #reader;
-  #ready;
-  #isOver = false;
-
-  constructor(reader, ready) {
-    this.#reader = reader;
-    this.#ready = ready;
-  }
-
-  next() {
-    const value = this.#isOver ? undefined : this.#ready();
-    return value ? Promise.resolve({ done: false, value }) : this.#awaited();
-  }
-
-  async #awaited() {
-    if (this.#isOver) return { done: true, value: undefined };
-    try {
-      const value = await this.#reader.read();
-      return value === null ? this.return() : { done: false, value };
-    } catch (error) {
-      return this.throw(error);
-    }
-  }
-
-  async return(value) {
-    if (!this.#isOver) {
-      this.#isOver = true;
-      await this.#reader.cancel();
-    }
-    return { done: true, value };
-  }
-
-  async throw(error) {
-    await this.return().catch(() => {}); // the first error is the one to know
-    throw error;
-  }
-
-  [Symbol.asyncIterator]() {
-    return this;
-  }
+/** Finds the frame that starts at an index: a varint, and then as many bytes. */
+function frameAt(bytes, at, end, limit) {
+  const { status, value: size, next } = readVarint(bytes, at, end);
+  if (status !== 'ok') return { status, size: 0, next };
+  if (size > limit) return { status: 'invalid_size', size, next };
+  return end - next < size ? { status: 'unexpected_eof', size, next } : { status, size, next: next + size };
 }
 
-if (Symbol.asyncDispose) {
-  ItemReader.prototype[Symbol.asyncDispose] = ItemReader.prototype.cancel;
-  Loop.prototype[Symbol.asyncDispose] = Loop.prototype.return;
+/** Reads frames. */
+export class FrameReader extends ItemReader {
+  #count = 0;
+
+  constructor(source, options = {}) {
+    const { limit = 2 ** 22, rest = new Uint8Array() } = checkedLimits(options);
+    const most = checkedWide(limit, 'limit');
+    super(source, rest, (bytes, at, end) => frameAt(bytes, at, end, most), (found, bytes, at, end) => {
+      const { status, size, next } = found;
+      if (status === 'ok') {
+        this.#count++;
+        return copyOf(bytes, next - size, next);
+      }
+      const reason = `frame ${this.#count} at offset ${this.taken}: ${frameReasonOf(found, end, most)}`;
+      throw new MultihashError(reason, { status, size: status === 'invalid_size' ? size : undefined, taken: next - at });
+    });
+  }
+
+  /** The number of frames returned so far. */
+  get count() {
+    return this.#count;
+  }
 }

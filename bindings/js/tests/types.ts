@@ -10,29 +10,26 @@ import { CID, CODECS } from 'verified-multihash/cid';
 type Same<A, B> = (<T>() => T extends A ? 1 : 2) extends <T>() => T extends B ? 1 : 2 ? true : false;
 /** The value has this type and no other, such as `any` or a union with more. */
 const is = <A>() => <B>(value: B, ..._: Same<A, B> extends true ? [] : [never]): B => value;
-type Fields<A> = { [Name in keyof A as A[Name] extends Function ? never : Name]: A[Name] };
-/** No field of the value is assigned to. */
-const isFixed = <A>(_: A, ...__: Same<Fields<A>, Readonly<Fields<A>>> extends true ? [] : [never]): void => undefined;
 
 const bytes = new Uint8Array([0x12, 0]);
 const found = decode(bytes);
 is<Wide>()(head(bytes).code);
 is<BigUint64Array>()(readMany(bytes).codes);
-isFixed(found);
 is<Multihash<number>>()(found.narrow());
-is<Multihash<18>>()(Multihash.of(18, bytes).narrow() as Multihash<18>);
+is<Multihash<number>>()(Multihash.of(18, bytes));
+is<Multihash>()(Multihash.of(18n, bytes));
 Multihash.fromJSON(found.toJSON());
 // @ts-expect-error Multihash.of makes one
 new Multihash();
+// @ts-expect-error a field is not assigned to
+found.code = 18;
 // @ts-expect-error bytes are no text
 decode('1200');
 // @ts-expect-error a limit is a number
 read(bytes, '9');
 
-const error = new MultihashError('a text', { status: 'not_hexadecimal', size: 2n ** 60n });
-export const plain: Error = error;
+const error: Error & MultihashError = new MultihashError('a text', { status: 'not_hexadecimal', size: 2n ** 60n });
 is<Status>()(error.status);
-isFixed(error as Omit<MultihashError, 'name' | 'message' | 'stack'>);
 // @ts-expect-error 'ok' is the status of no error
 new MultihashError('a text', { status: 'ok' });
 // @ts-expect-error a field may be absent, not undefined
@@ -40,13 +37,11 @@ new MultihashError('a text', { status: 'overflow', taken: undefined });
 
 declare const stream: ReadableStream<Uint8Array>;
 export const source: ByteStream = stream;
-const reader = new MultihashReader(stream, { limit: 64, rest: bytes });
-is<Promise<Multihash | null>>()(reader.read());
-isFixed(reader);
+is<Promise<Multihash | null>>()(new MultihashReader(stream, { limit: 64, rest: bytes }).read());
+is<Promise<Uint8Array | null>>()(new index.FrameReader(stream, { limit: 64n }).read());
 export const iterable = (chunks: AsyncIterable<Uint8Array>): MultihashReader => new MultihashReader(chunks);
 // @ts-expect-error chunks are no texts
 export const texts = (stream: ReadableStream<string>): MultihashReader => new MultihashReader(stream);
-is<Promise<Uint8Array | null>>()(new index.FrameReader(stream, { limit: 64, rest: bytes }).read());
 export const entries: (typeof index)[] = [hashes];
 
 /** As in js-multiformats, whose `CID.create` takes it. */
@@ -100,15 +95,10 @@ is<0x12>()(CODES['sha2-256']);
 is<number | undefined>()(CODES['blake2b-128']);
 // @ts-expect-error a list is not changed
 CODES['blake2b-128'] = 3;
-// @ts-expect-error nor are the functions
-hashers['blake2b-512'] = sha256;
 
 const cid = CID.of(1, CODECS.raw, Multihash.fromHex('0000'));
 is<0 | 1>()(cid.version);
-isFixed(cid as Omit<CID, never>);
 // @ts-expect-error a base that is not there
 cid.toString('m');
 // @ts-expect-error a version that is none
 CID.of(2, CODECS.raw, cid.multihash);
-// @ts-expect-error a text is parsed
-CID.decode('b');

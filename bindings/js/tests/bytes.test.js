@@ -1,0 +1,178 @@
+// Calls over bytes: the test vectors, in arrays of each kind; varints, heads, lengths, and many multihashes at once.
+import assert from 'node:assert/strict';
+import { test } from 'node:test';
+import { Multihash, MultihashError, compare, decode, encode, encodeVarint, encodedLength, head, read, readMany, readVarint,
+  scaleDecode, scaleEncode, writeVarint } from '../index.js';
+import { KINDS, fails, hex, rowsOf, unhex } from './support.js';
+
+/** The result of a call as a row has it, and the multihash or the error. */
+function told(call) {
+  try {
+    const result = call();
+    const found = result.multihash ?? result;
+    return [`pair ${found.code} ${hex(found.digest) || '-'}`, found, result.taken];
+  } catch (error) {
+    if (!(error instanceof MultihashError)) throw error;
+    const { status, size, code, taken } = error;
+    return [[status, size ?? code ?? []].flat().join(' '), error, taken];
+  }
+}
+
+/** Compares the result of a call that decodes the start of its input, and the number of bytes that it consumed. */
+function consumes(call, wanted, wantedTaken, row) {
+  const [words, found, taken] = told(call);
+  assert.equal(words, wanted, row.input);
+  if (found.isIncomplete) assert.equal(wantedTaken, '-', row.input); // more input can change the result
+  else assert.equal(taken, Number(wantedTaken), row.input);
+}
+
+/** Whether the result with a limit is the result with 255 too. */
+const isForAll = (verdict, limit) =>
+  limit >= 255 || !verdict.startsWith('invalid_size') || BigInt(verdict.slice(13)) > 255n;
+
+test('vectors of decoding', () => {
+  for (const [index, row] of rowsOf('verdicts').entries()) {
+    const kind = KINDS[index % KINDS.length];
+    const data = unhex(row.input);
+    const limit = Number(row.S);
+    // what follows does not change a result, and is not part of it
+    const more = row.read_taken === '-' ? data : Uint8Array.of(...data, ...new Uint8Array(400));
+    consumes(() => (limit === 255 ? read(kind(more)) : read(kind(more), limit)), row.read, row.read_taken, row);
+    if (isForAll(row.scale_decode, limit)) consumes(() => scaleDecode(kind(data)), row.scale_decode, row.scale_taken, row);
+    if (!isForAll(row.read, limit)) continue;
+    const [words, found] = told(() => decode(kind(data)));
+    assert.equal(words, row.from_bytes, row.input);
+    if (found instanceof MultihashError) assert.equal(found.taken, data.length, row.input);
+    else assert.equal(`${found}`, row.input);
+  }
+});
+
+const valueOf = (call) => {
+  try {
+    return hex(call());
+  } catch (error) {
+    return [error.status, error.size ?? error.code].join(' ');
+  }
+};
+
+test('vectors of encoding, and of order', () => {
+  for (const { kind, limit, code, digest, encoding, scale } of rowsOf('values')) {
+    const bytes = unhex(digest);
+    if (kind === 'order') {
+      const [left, right] = [Multihash.of(BigInt(limit), unhex(code)), Multihash.of(BigInt(digest), unhex(encoding))];
+      assert.equal(compare(left, right), Number(scale), `${left} ${right}`);
+      assert.equal(left.equals(right), scale === '0', `${left} ${right}`);
+    } else if (bytes.length <= Number(limit) || bytes.length > 255) { // the encoders have the limit 255
+      for (const call of [encode, (...pair) => Multihash.of(...pair).bytes])
+        assert.equal(valueOf(() => call(BigInt(code), bytes)), encoding);
+      assert.equal(valueOf(() => scaleEncode(BigInt(code), bytes)), scale);
+    }
+  }
+});
+
+/** The calls that reject the input of a row with its message. */
+function callsOf({ call, limit, input, status }) {
+  const bytes = unhex(input);
+  if (call === 'scale_decode') return [() => scaleDecode(bytes)];
+  const calls = call === 'read' ? [() => read(bytes, BigInt(limit))] : [];
+  if (limit === '255') calls.push(() => decode(bytes));
+  if (['insufficient', 'overflow', 'not_minimal'].includes(status)) calls.push(() => head(bytes));
+  return calls;
+}
+
+test('vectors of messages', () => {
+  for (const row of rowsOf('messages'))
+    for (const call of callsOf(row)) assert.throws(call, { name: 'MultihashError', status: row.status, message: row.message });
+});
+
+const joined = (...parts) => Uint8Array.from(parts.flatMap((part) => [...part]));
+
+// The varint of a number is checked for all numbers: these are the shortest and the longest, a number and a bigint.
+const VARINTS = [[0, '00'], [127, '7f'], [128, '8001'], [2 ** 53 - 1, 'ffffffffffffff0f'],
+  [2n ** 53n, '8080808080808010'], [2n ** 63n - 1n, 'ffffffffffffffff7f']];
+
+test('varints of each kind of number, in memory of each kind', () => {
+  for (const [value, text] of VARINTS) {
+    const varint = unhex(text);
+    assert.deepEqual([hex(encodeVarint(value)), hex(encodeVarint(BigInt(value)))], [text, text]);
+    for (const kind of KINDS) {
+      const bytes = kind(new Uint8Array(12).fill(0xee));
+      assert.equal(writeVarint(value, bytes, 2), varint.length);
+      assert.equal(hex([...bytes]), `eeee${text}`.padEnd(24, 'e'));
+      assert.deepEqual(readVarint(kind(joined(varint, [0x81]))), { value, taken: varint.length });
+    }
+    for (let cut = 0; cut < varint.length; cut++) {
+      const { isIncomplete } = fails(MultihashError, () => readVarint(varint.subarray(0, cut)), cut === 0 ? 'empty' : 'inside varint');
+      assert.ok(isIncomplete);
+    }
+  }
+  assert.equal(encodeVarint(5).buffer.byteLength, 1);
+});
+
+test('malformed varints, numbers that have none, and where none fits', () => {
+  for (const [text, status, words] of [['ff'.repeat(9), 'overflow', 'varint nine'], ['8000', 'not_minimal', 'varint minimal']]) {
+    const error = fails(MultihashError, () => readVarint(unhex(text)), words);
+    assert.equal(`${error.status} ${error.isIncomplete} ${error.taken}`, `${status} false undefined`);
+  }
+  const bytes = new Uint8Array(3);
+  for (const call of [encodeVarint, (value) => writeVarint(value, bytes)])
+    assert.throws(() => call(2n ** 63n), { status: 'overflow', message: `the value ${2n ** 63n} is 2^63 or more` });
+  for (const [at, words] of [[2, '2 2 3'], [-1, '2 -1 3'], [0.5, '2 0.5 3'], [NaN, '2 NaN 3']])
+    fails(RangeError, () => writeVarint(300, bytes, at), `at ${words}`);
+  for (const at of ['1', 2n]) fails(TypeError, () => writeVarint(300, bytes, at), `at number ${typeof at}`);
+  assert.deepEqual(bytes, new Uint8Array(3)); // nothing was written
+});
+
+test('heads and lengths', () => {
+  assert.deepEqual(head(unhex('ac02ff01')), { code: 300, digestLength: 255, taken: 4 });
+  assert.deepEqual(head(unhex('12ffffffffffffffff7f')), { code: 18, digestLength: 2n ** 63n - 1n, taken: 10 });
+  for (const [code, size] of [[18, 32], [300, 0], [2n ** 63n - 1n, 255]]) {
+    const digest = new Uint8Array(size);
+    assert.equal(encodedLength(code, size), encode(code, digest).length);
+    const { multihash, taken } = scaleDecode(joined(scaleEncode(code, digest), digest));
+    assert.deepEqual([multihash.code, multihash.size, taken], [code, size, 9 + size]);
+  }
+  assert.throws(() => encodedLength(2n ** 63n, 2), { status: 'invalid_code', code: 2n ** 63n });
+  assert.throws(() => encodedLength(2n ** 63n, 2n ** 63n + 256n), { status: 'invalid_size', size: 2n ** 63n + 256n });
+  assert.throws(() => read(unhex('0101aa'), 0), { status: 'invalid_size', size: 1 });
+  assert.equal(read(unhex('0101aa'), 2n ** 64n - 1n).taken, 3);
+});
+
+/** The columns of readMany by calls of read. */
+function oneByOne(bytes) {
+  const found = { codes: [], offsets: [], lengths: [], taken: 0, error: undefined };
+  while (found.taken < bytes.length) {
+    try {
+      const { multihash, taken } = read(bytes.subarray(found.taken));
+      found.taken += taken;
+      found.codes.push(BigInt(multihash.code));
+      found.offsets.push(found.taken - multihash.size);
+      found.lengths.push(multihash.size);
+    } catch (error) {
+      return { ...found, error };
+    }
+  }
+  return found;
+}
+
+function checkMany(bytes, kind = (each) => each) {
+  const { codes, offsets, lengths, taken, error } = readMany(kind(bytes));
+  const wanted = oneByOne(bytes);
+  assert.deepEqual({ codes: [...codes], offsets: [...offsets], lengths: [...lengths], taken, error }, wanted);
+  assert.deepEqual([codes, offsets, lengths].map((column) => column.constructor), [BigUint64Array, Float64Array, Uint8Array]);
+  for (const column of [codes, lengths]) assert.equal(column.buffer.byteLength, column.byteLength);
+  return codes.length;
+}
+
+test('many multihashes at once', () => {
+  const few = joined(encode(18, new Uint8Array(32)), encode(2n ** 62n, new Uint8Array(255)), encode(0, new Uint8Array()));
+  for (let cut = 0; cut <= few.length; cut++) checkMany(few.subarray(0, cut), KINDS[cut % KINDS.length]);
+  for (const end of ['8000', 'ff'.repeat(9), '12ac02']) checkMany(joined(few, unhex(end)));
+  // more than the columns have room for at first, and codes of one or both halves of 64 bits
+  const codes = [0, 1, 2 ** 32 - 1, 2 ** 32, 2n ** 63n - 1n];
+  const mixed = Array.from({ length: 3000 }, (_, at) => encode(codes[at % 5], new Uint8Array(at % 7).fill(at)));
+  assert.equal(checkMany(joined(...mixed)), 3000);
+  const { codes: made, offsets, lengths } = readMany(few);
+  const again = Array.from(made, (code, at) => Multihash.of(code, few.subarray(offsets[at], offsets[at] + lengths[at])).bytes);
+  assert.deepEqual(joined(...again), few);
+});

@@ -1,0 +1,147 @@
+// Values and errors: their fields, texts, JSON and clones, and what they equal.
+import assert from 'node:assert/strict';
+import { test } from 'node:test';
+import { inspect } from 'node:util';
+import { Multihash, MultihashError, compare, decode, encode, head, read } from '../index.js';
+import { KINDS, detach, fails, hex, unhex, withoutMemory } from './support.js';
+
+const EXAMPLE = unhex('1620644bcc7e564373040999aac89e7622f3ca71fba1d972fd94a31c3bfbf24e3938');
+const LONG = 2n ** 53n; // the least code that is a bigint
+
+test('fields', () => {
+  const multihash = decode(EXAMPLE);
+  assert.deepEqual({ ...multihash }, { code: 22, size: 32, digest: EXAMPLE.slice(2) });
+  assert.deepEqual(multihash.bytes, EXAMPLE);
+  assert.equal(multihash.bytes, multihash.bytes); // it is kept
+  assert.equal(multihash.digestHex, hex(EXAMPLE.subarray(2)));
+  assert.equal(`${multihash}`, hex(EXAMPLE));
+  assert.equal(Multihash.of(18, new Uint8Array()).digestHex, '');
+  assert.ok(Object.is(Multihash.of(-0, EXAMPLE.subarray(2)).code, 0));
+  assert.equal(inspect(multihash), `Multihash(0x16, ${multihash.digestHex})`);
+  assert.equal(inspect(Multihash.of(2n ** 63n - 1n, new Uint8Array())), 'Multihash(0x7fffffffffffffff, empty)');
+});
+
+test('a multihash has a copy of the bytes, of each kind of memory', () => {
+  for (const kind of KINDS) {
+    const [bytes, digest] = [kind(EXAMPLE), kind(EXAMPLE.subarray(2))];
+    const made = [decode(bytes), read(bytes).multihash, Multihash.of(22, digest)];
+    const encoded = encode(22, digest);
+    for (const given of [bytes, digest]) Uint8Array.prototype.fill.call(given, 1);
+    for (const multihash of made) {
+      assert.deepEqual(multihash.bytes, EXAMPLE);
+      assert.equal(multihash.digest.buffer.byteLength, 32); // and no more memory
+    }
+    assert.deepEqual(encoded, EXAMPLE);
+  }
+});
+
+test('a Proxy of a multihash has its bytes', () => {
+  const proxy = new Proxy(decode(EXAMPLE), {});
+  assert.deepEqual(proxy.bytes, EXAMPLE);
+  assert.ok(proxy.equals(decode(EXAMPLE)));
+});
+
+test('a code is a number if that is exact', () => {
+  for (const [code, text] of [[22, '22'], [LONG - 1n, '9007199254740991'], [LONG, '"9007199254740992"']]) {
+    const made = Multihash.of(code, unhex('00ab'));
+    const json = `{"code":${text},"size":2,"digest":"00ab"}`;
+    for (const each of [made, decode(made.bytes), Multihash.fromJSON(JSON.parse(json))]) {
+      assert.equal(JSON.stringify(each), json);
+      assert.equal(typeof each.code, code < LONG ? 'number' : 'bigint');
+      if (code < LONG) assert.equal(each.narrow(), each);
+      else fails(RangeError, () => each.narrow(), 'code 9007199254740992 2^53 bigint');
+    }
+  }
+  const { code, digestLength } = head(encode(LONG, EXAMPLE));
+  assert.deepEqual([code, digestLength], [LONG, 34]);
+});
+
+test('texts and JSON', () => {
+  for (const text of [hex(EXAMPLE), hex(EXAMPLE).toUpperCase()]) assert.deepEqual(Multihash.fromHex(text), decode(EXAMPLE));
+  for (const [text, words] of [['162', '3'], ['1g01', '"g" index 1'], ['0x16', '"x" 1'], ['\n160', '\\n 0'], ['1\u{1f600}', '\u{1f600} 1']])
+    assert.equal(fails(MultihashError, () => Multihash.fromHex(text), words).status, 'not_hexadecimal');
+  const json = { code: 18, size: 2, digest: '00ab' };
+  for (const each of [json, { code: '18', digest: '00AB' }, { ...json, code: 18n }])
+    assert.equal(`${Multihash.fromJSON(each)}`, '120200ab');
+  const wrong = [
+    [TypeError, '{}', 'json object string JSON.parse'], [TypeError, null, 'json object null'],
+    [TypeError, {}, 'digest string undefined'],
+    [TypeError, { ...json, code: undefined }, 'code number undefined'], [TypeError, { ...json, code: '' }, 'code string'],
+    [TypeError, { ...json, code: '0x12' }, 'code string CODES'], [RangeError, { ...json, code: -1 }, 'code 2^53 -1'],
+    [RangeError, { ...json, code: '9'.repeat(99) }, `code 2^63 ${'9'.repeat(40)}...`],
+    [RangeError, { ...json, code: '18'.padStart(21, '0') }, `code 2^63 ${'18'.padStart(21, '0')}`],
+    [TypeError, { ...json, digest: EXAMPLE }, 'digest string Uint8Array'], [MultihashError, { ...json, digest: '00a' }, 'digest odd 3'],
+    [RangeError, { ...json, size: 3 }, 'size 2 3'], [RangeError, { ...json, size: '2' }, 'size 2 2'],
+    [MultihashError, { code: 18, digest: '00'.repeat(256) }, 'digest 256 255'],
+    [MultihashError, { ...json, code: `${2n ** 63n}` }, `code ${2n ** 63n} 2^63`],
+  ];
+  for (const [kind, each, words] of wrong) fails(kind, () => Multihash.fromJSON(each), words);
+});
+
+test('what has the same code and the same digest is equal', () => {
+  const multihash = Multihash.of(0, Uint8Array.of(5));
+  for (const kind of KINDS) for (const code of [0, 0n]) assert.ok(multihash.equals({ code, digest: kind(multihash.digest) }));
+  assert.ok(multihash.equals(structuredClone(multihash)));
+  const { digest } = multihash;
+  const codes = ['0', '', false, [], [0], null, undefined, Symbol('0'), Object.create(null), { valueOf: () => 0 }, 0.5, 1n];
+  const digests = [[5], '5', Int8Array.of(5), Uint8ClampedArray.of(5), Uint8Array.of(6), Uint8Array.of(5, 6)];
+  const others = [null, undefined, 22, 'text', {}, EXAMPLE, Multihash.of(0, Uint8Array.of(6)), Multihash.of(1, digest)];
+  for (const other of [...codes.map((code) => ({ code, digest })), ...digests.map((each) => ({ code: 0, digest: each })), ...others])
+    assert.ok(!multihash.equals(other));
+  const [zeros, last] = [new Uint8Array(255), new Uint8Array(255).fill(1, 254)];
+  const long = Multihash.of(LONG, zeros);
+  for (const other of [Multihash.of(LONG, last), { code: LONG, digest: last }, { code: LONG + 1n, digest: zeros }])
+    assert.ok(!long.equals(other));
+  assert.equal(compare(long, Multihash.of(LONG, last)), -1);
+});
+
+test('a digest without its memory', () => {
+  const [moved, whole] = [decode(EXAMPLE), decode(EXAMPLE)];
+  detach(moved.digest);
+  const calls = [
+    [() => compare(moved, whole), 'left'], [() => compare(whole, moved), 'right'], [() => moved.equals(whole), 'detached'],
+    [() => whole.equals(moved), 'detached'], [() => moved.equals({ code: 22, digest: new Uint8Array() }), 'detached'],
+    [() => moved.digestHex, 'detached'], [() => `${moved}`, 'detached'], [() => JSON.stringify(moved), 'detached'],
+  ];
+  for (const [call, words] of calls) fails(TypeError, call, `digest ${words}`);
+  assert.equal(inspect(moved), 'Multihash(0x16, detached)');
+  for (const digest of withoutMemory())
+    fails(TypeError, () => Multihash.of(18, new Uint8Array()).equals({ code: 18, digest }), 'other digest detached');
+});
+
+test('errors have fields that are exact, and are restored from a clone', () => {
+  const code = 2n ** 63n;
+  const cases = [
+    [() => encode(1, new Uint8Array(256)), '"invalid_size","size":256'],
+    [() => encode(code, EXAMPLE), `"invalid_code","code":"${code}"`],
+    [() => decode(unhex('12ffffffffffffffff7f')), `"invalid_size","size":"${code - 1n}","taken":10`],
+    [() => decode(new Uint8Array(1 << 22)), '"invalid_size","size":4194302,"taken":4194304'],
+    [() => decode(unhex('80')), '"insufficient","taken":1'],
+    [() => head(unhex('8000')), '"not_minimal","taken":2'],
+    [() => Multihash.fromHex('1g'), '"not_hexadecimal"'],
+    [() => Multihash.fromHex(''), '"insufficient","taken":0'],
+  ];
+  for (const [call, rest] of cases) {
+    const error = fails(MultihashError, call, '');
+    assert.equal(JSON.stringify(error), `{"name":"MultihashError","message":${JSON.stringify(error.message)},"status":${rest}}`);
+    assert.deepEqual(Object.keys(error), ['status', 'size', 'code', 'taken']); // what console.log shows
+    const again = MultihashError.from(structuredClone(error));
+    assert.ok(again instanceof MultihashError);
+    for (const name of ['name', 'message', 'status', 'size', 'code', 'taken', 'isIncomplete', 'cause'])
+      assert.deepEqual(again[name], error[name]);
+    assert.equal(MultihashError.from(error), error);
+  }
+  const causes = [undefined, { status: 'ok' }, { status: 404 }].map((cause) => new Error('text', { cause }));
+  for (const value of [null, undefined, 3, {}, ...causes]) assert.equal(MultihashError.from(value), undefined);
+});
+
+test('the fields of an error are its own, whatever Object.prototype has', () => {
+  Object.assign(Object.prototype, { size: 5, code: 6 });
+  try {
+    const { size, code, taken } = fails(MultihashError, () => head(unhex('8000')), '');
+    assert.equal(`${size} ${code} ${taken}`, 'undefined undefined 2');
+  } finally {
+    delete Object.prototype.size;
+    delete Object.prototype.code;
+  }
+});

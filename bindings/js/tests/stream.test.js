@@ -1,0 +1,296 @@
+// The readers: over streams that are cut, end by an error, or are malformed, and that are left, released or cancelled.
+import assert from 'node:assert/strict';
+import { createReadStream } from 'node:fs';
+import { Readable } from 'node:stream';
+import { test } from 'node:test';
+import { setImmediate, setTimeout } from 'node:timers/promises';
+import { FrameReader, MultihashError, MultihashReader, encode, encodeVarint } from '../index.js';
+import { detach, fails, hex, rejects, unhex } from './support.js';
+
+const DIGESTS = [[0x12, new Uint8Array(32).fill(7)], [0, new Uint8Array()], [2n ** 62n, new Uint8Array(255).fill(9)]];
+const MULTIHASHES = DIGESTS.map(([code, digest]) => hex(encode(code, digest)));
+const STREAM = unhex(MULTIHASHES.join(''));
+const FRAMES = ['', '00', '010203', 'ab'.repeat(127), 'cd'.repeat(128), '', 'ef'.repeat(300)];
+const PREFIXES = ['00', '01', '03', '7f', '8001', '00', 'ac02'];
+
+/** For each reader its items, and their encodings, all in hexadecimal. */
+const READERS = [
+  { Reader: MultihashReader, items: MULTIHASHES, encodings: MULTIHASHES },
+  { Reader: FrameReader, items: FRAMES, encodings: FRAMES.map((frame, at) => PREFIXES[at] + frame) },
+];
+
+const textOf = (item) => item && hex(item.bytes ?? item);
+
+/** A source may use the memory of a chunk again. A chunk may be empty, and what a generator returns is no chunk. */
+async function* chunks(...parts) {
+  const memory = new Uint8Array(1024);
+  for (const part of parts) {
+    memory.set(part);
+    yield memory.subarray(0, part.length);
+    yield memory.subarray(1024);
+  }
+  return memory;
+}
+
+/** A stream of chunks, which then closes or does something else. */
+const streamOf = (parts, after = (controller) => controller.close(), cancel = undefined) => new ReadableStream({
+  start: (controller) => parts.forEach((part) => controller.enqueue(part.slice())),
+  pull: after,
+  cancel,
+});
+
+/** The items up to an error or the end. */
+async function drained(reader) {
+  const found = [];
+  try {
+    for (let item; (item = await reader.read()) !== null; ) found.push(textOf(item));
+  } catch (error) {
+    return { found, error };
+  }
+  return { found };
+}
+
+/** A stream in two chunks has the same items. One that ends at the cut has those before it, and another reader goes on. */
+async function cutAt(cut, { Reader, items, encodings }, starts) {
+  const bytes = unhex(encodings.join(''));
+  const parts = [bytes.subarray(0, cut), bytes.subarray(cut)];
+  for (const source of [chunks(...parts), streamOf(parts)]) {
+    const whole = new Reader(source);
+    assert.deepEqual(await drained(whole), { found: items });
+    assert.deepEqual([whole.taken, whole.rest.length], [bytes.length, 0]);
+  }
+  const count = starts.filter((start) => start <= cut).length - 1;
+  const reader = new Reader(chunks(parts[0]));
+  const { found, error } = await drained(reader);
+  assert.deepEqual(found, items.slice(0, count));
+  assert.deepEqual([reader.taken, hex(reader.rest)], [starts[count], hex(bytes.subarray(starts[count], cut))]);
+  assert.equal(error?.isIncomplete, cut === starts[count] ? undefined : true);
+  if (error && Reader === FrameReader) checkFrame(reader, error, count, cut - starts[count]);
+  const other = new Reader(chunks(parts[1]), { rest: reader.rest });
+  assert.deepEqual(await drained(other), { found: items.slice(count) });
+  assert.equal(other.taken, bytes.length - starts[count]);
+}
+
+/** The error of a frame of which that many bytes are there names its number and its offset. */
+function checkFrame(reader, error, count, there) {
+  const varint = PREFIXES[count].length / 2;
+  const words = there < varint ? 'inside varint' : `${there - varint} of ${FRAMES[count].length / 2}`;
+  fails(MultihashError, () => { throw error; }, `frame ${count} offset ${reader.taken} ${words}`);
+  assert.deepEqual([reader.count, error.taken], [count, Math.min(varint, there)]);
+}
+
+for (const reader of READERS)
+  test(`${reader.Reader.name} over a stream that is cut anywhere`, async () => {
+    const starts = [0];
+    for (const [at, encoding] of reader.encodings.entries()) starts.push(starts[at] + encoding.length / 2);
+    for (let cut = 0; cut <= starts.at(-1); cut++) await cutAt(cut, reader, starts);
+  });
+
+test('a frame that is too long, before its bytes arrive, or malformed', async () => {
+  const long = 2 ** 22 + 1;
+  const cases = [
+    ['0103', { limit: 0 }, ['invalid_size', 1, 1], 'frame 0 offset 0 1 byte limit 0'],
+    ['010304', { limit: 3 }, ['invalid_size', 4, 1], 'frame 1 offset 2 4 bytes limit 3'],
+    [`00${hex(encodeVarint(long))}`, undefined, ['invalid_size', long, 4], `frame 1 offset 1 ${long} bytes limit ${long - 1}`],
+    ['ffffffffffffffff7f', { limit: 2n ** 53n }, ['invalid_size', 2n ** 63n - 1n, 9], `${2n ** 63n - 1n} bytes`],
+    ['0102ff00', undefined, ['not_minimal', undefined, 2], 'frame 1 offset 2 varint minimal'],
+    ['ff'.repeat(9), undefined, ['overflow', undefined, 9], 'frame 0 offset 0 varint nine bytes'],
+  ];
+  for (const [text, options, fields, words] of cases) {
+    const { error } = await drained(new FrameReader(streamOf([unhex(text)], () => {}), options));
+    fails(MultihashError, () => { throw error; }, words);
+    assert.deepEqual([error.status, error.size, error.taken], fields);
+  }
+});
+
+test('the limit of a digest is at most 255', async () => {
+  const cases = [[31, STREAM, 'digest 32 31'], [2n ** 63n, Uint8Array.of(18, 172, 2), 'digest 300 255']];
+  for (const [limit, bytes, words] of cases)
+    await rejects(MultihashError, new MultihashReader(chunks(bytes), { limit }).read(), words);
+});
+
+test('time and memory are linear in the items, and in the chunks of an item', async () => {
+  const [count, first, more] = [50_000, 2 ** 24, 3000];
+  const list = new Uint8Array(count * 34);
+  for (let at = 0; at < list.length; at += 34) list.set(STREAM.subarray(0, 34), at);
+  async function* longFrame() {
+    yield encodeVarint(first + more);
+    yield new Uint8Array(first);
+    for (let sent = 0; sent < more; sent++) yield Uint8Array.of(1);
+  }
+  const start = process.cpuUsage();
+  assert.equal((await drained(new MultihashReader(streamOf([list])))).found.length, count);
+  assert.equal((await new FrameReader(longFrame(), { limit: 2 ** 25 }).read()).indexOf(1), first);
+  assert.ok(process.cpuUsage(start).user < 2e6); // with their square it is many times as long
+});
+
+test('a source that fails, and a chunk that is no bytes', async () => {
+  const part = STREAM.slice(0, 20);
+  const failing = async function* () {
+    yield part;
+    throw new Error('broken');
+  };
+  const moved = new Uint8Array(1);
+  detach(moved);
+  const sources = [
+    [Error, failing(), 'broken'], [Error, Readable.from(failing()), 'broken'],
+    [Error, streamOf([part], (controller) => controller.error(new Error('broken'))), 'broken'],
+    [TypeError, Readable.from([part, 'text']), 'chunk stream Uint8Array string encoding'],
+    [TypeError, Readable.from([part, moved]), 'chunk stream detached'],
+  ];
+  for (const [kind, source, words] of sources) {
+    const reader = new MultihashReader(source);
+    await rejects(kind, reader.read(), words);
+    reader.release();
+    await rejects(kind, reader.read(), words); // the same from then on
+    reader.rest.fill(0); // a copy
+    assert.deepEqual(reader.rest, part);
+  }
+});
+
+test('an error releases a stream for another reader, and a loop that it ends cancels the stream', async () => {
+  let cancelled = 0;
+  const source = streamOf([STREAM], undefined, () => (cancelled += 1));
+  const ended = new MultihashReader(source, { limit: 31 });
+  const { error } = await drained(ended);
+  assert.deepEqual([ended.taken, source.locked, await ended.read().catch((again) => again)], [0, false, error]);
+  const other = new MultihashReader(source, { rest: ended.rest });
+  await ended.cancel(); // the stream is the other's now
+  assert.deepEqual([(await drained(other)).found, cancelled, source.locked], [MULTIHASHES, 0, false]);
+  const left = streamOf([], () => {}, () => (cancelled += 1));
+  const { rest } = ended;
+  const loop = new MultihashReader(left, { limit: 31, rest })[Symbol.asyncIterator]();
+  rest.fill(0); // the reader has a copy
+  await rejects(MultihashError, loop.next(), 'digest 32 31');
+  assert.deepEqual([cancelled, left.locked], [1, false]);
+});
+
+test('a loop ends as that over an async generator, and cancels the source unless the reader was released', async () => {
+  const end = { done: true, value: undefined };
+  const endings = [
+    [true, async (loop) => assert.deepEqual(await loop.return(7), { done: true, value: 7 })],
+    [true, (loop) => rejects(Error, loop.throw(new Error('left')), 'left')],
+    [true, async (loop) => { for await (const item of loop) if (item) break; }],
+    [false, async (loop, reader) => { reader.release(); await loop.return(); }],
+  ];
+  for (const [cancels, ending] of endings) {
+    let isCancelled = false;
+    const source = streamOf([STREAM], () => {}, () => (isCancelled = true));
+    const reader = new MultihashReader(source);
+    const loop = reader[Symbol.asyncIterator]();
+    assert.equal(textOf((await loop.next()).value), MULTIHASHES[0]);
+    await ending(loop, reader);
+    assert.deepEqual([isCancelled, source.locked], [cancels, false]);
+    assert.deepEqual([await loop.next(), await loop.next()], [end, end]);
+    if (cancels) assert.equal(await reader.read(), null);
+    else await rejects(TypeError, reader[Symbol.asyncIterator]().next(), 'release');
+  }
+  const waiting = new MultihashReader(new ReadableStream())[Symbol.asyncIterator]();
+  const next = waiting.next();
+  assert.deepEqual([await waiting.return(), await next], [end, end]);
+});
+
+test('calls that overlap return the items in order', async () => {
+  const reader = new MultihashReader(chunks(STREAM));
+  const items = await Promise.all([reader.read(), reader.read(), reader.read(), reader.read()]);
+  assert.deepEqual(items.map(textOf), [...MULTIHASHES, null]);
+  const loop = new MultihashReader(chunks(STREAM))[Symbol.asyncIterator]();
+  const results = await Promise.all([loop.next(), loop.next(), loop.next(), loop.next(), loop.next()]);
+  assert.deepEqual(results.map(({ value }) => textOf(value)), [...MULTIHASHES, undefined, undefined]);
+  const both = new MultihashReader(chunks(STREAM));
+  const [first, second] = [both.read(), both.read()];
+  await first;
+  const { value } = await both[Symbol.asyncIterator]().next();
+  assert.deepEqual([await first, await second, value].map(textOf), MULTIHASHES);
+});
+
+test('calls that wait at a release or a cancellation end as later ones do', async () => {
+  const ends = { release: 'TypeError', cancel: null, [Symbol.asyncDispose]: null };
+  for (const name of ['release', 'cancel', Symbol.asyncDispose ?? 'cancel']) {
+    for (const part of [STREAM.subarray(0, 20), STREAM]) {
+      const reasons = [];
+      const source = streamOf([STREAM.subarray(0, 20)], () => {}, (reason) => void reasons.push(reason));
+      let deliver;
+      const chunk = new Promise((resolve) => (deliver = resolve));
+      const iterable = { destroy() {}, [Symbol.asyncIterator]: () => ({ next: () => chunk, return: () => chunk }) };
+      const readers = [source, iterable].map((each) => new MultihashReader(each));
+      const told = (reader) => reader.read().catch((error) => error.name);
+      const calls = readers.flatMap((reader) => [told(reader), told(reader)]);
+      await readers.map((reader) => reader[name]('why'))[0]; // the other one waits for the chunk
+      assert.deepEqual([reasons, source.locked], [name === 'release' ? [] : ['why'], false]);
+      if (name === 'cancel') assert.deepEqual(await Promise.all(calls), [null, null, null, null]); // at once
+      deliver({ done: false, value: part });
+      for (const call of [...calls, ...readers.map(told)]) assert.equal(await call, ends[name]);
+      assert.deepEqual(readers[1].rest, part.slice());
+    }
+  }
+});
+
+test('a release or a cancellation after any number of turns loses no byte', async () => {
+  const bytes = Uint8Array.of(18, 2, 1, 2, 0, 0, 1, 1, 9);
+  for (const name of ['release', 'cancel']) {
+    for (let turns = 0, count; count !== 3; turns++) {
+      let given = 0;
+      const generated = (async function* () {
+        while (given < bytes.length) yield Uint8Array.of(bytes[given++]);
+      })();
+      const source = name === 'release' ? Readable.toWeb(Readable.from(generated, { objectMode: false })) : generated;
+      const reader = new MultihashReader(source);
+      const call = drained(reader);
+      for (let turn = 0; turn < turns; turn++) await (name === 'release' ? new Promise(process.nextTick) : null);
+      await reader[name]();
+      const { found } = await call;
+      count = found.length;
+      let { rest } = reader;
+      if (name === 'release') {
+        const next = new MultihashReader(source, { rest });
+        found.push(...(await drained(next)).found);
+        rest = next.rest;
+      }
+      assert.equal(found.join('') + hex(rest), hex(bytes.subarray(0, given)), `a ${name} after ${turns} turns`);
+    }
+  }
+});
+
+test("a source's error at a cancellation is that of the call, if that has no other one", async () => {
+  let hasEnded;
+  const fail = async (reason = 'stuck') => {
+    await setTimeout();
+    hasEnded = true;
+    throw new Error(reason);
+  };
+  const iterable = (value) => {
+    const iterators = [{ next: async () => ({ value }), return: fail }];
+    return { [Symbol.asyncIterator]: () => iterators.pop() };
+  };
+  for (const [sourceOf, text] of [[(bytes) => streamOf([bytes], () => {}, fail), 'why'], [iterable, 'stuck']]) {
+    const [first, second, left] = [[0x80, 0], [0x80, 0], [1, 0]].map((bytes) => sourceOf(Uint8Array.from(bytes)));
+    const reader = new MultihashReader(first);
+    await rejects(MultihashError, reader.read(), 'minimal');
+    await rejects(Error, reader.cancel('why'), text);
+    hasEnded = false;
+    await rejects(MultihashError, new MultihashReader(second)[Symbol.asyncIterator]().next(), 'minimal');
+    assert.ok(hasEnded);
+    const loop = new MultihashReader(left)[Symbol.asyncIterator]();
+    await loop.next();
+    await rejects(Error, loop.return(), 'stuck');
+    assert.ok(!left.locked);
+  }
+});
+
+test('streams of Node.js', async () => {
+  const waiting = new MultihashReader(new Readable({ read() {} }));
+  const call = waiting.read();
+  await waiting.cancel();
+  assert.equal(await call, null);
+  const unread = new Readable({ read() {} });
+  await new MultihashReader(unread).cancel('why');
+  assert.deepEqual([unread.destroyed, unread.errored], [true, null]);
+  const early = createReadStream('missing').on('error', () => {});
+  const reader = new MultihashReader(early);
+  new MultihashReader(early); // adds no listener, and removes none
+  await new Promise((resolve) => early.once('close', resolve));
+  assert.equal(early.listenerCount('error'), 2);
+  await rejects(Error, reader.read(), 'ENOENT');
+  await setImmediate(); // an error without a listener would have ended the process
+});

@@ -1,0 +1,90 @@
+// What the tests share: the test vectors, and bytes in memory of each kind.
+import assert from 'node:assert/strict';
+import { readFileSync } from 'node:fs';
+import { dirname, join } from 'node:path';
+import { fileURLToPath } from 'node:url';
+
+export const hex = (bytes) => Buffer.from(bytes).toString('hex');
+export const unhex = (text) => Uint8Array.from(Buffer.from(text, 'hex'));
+
+const vectors = process.env.MULTIHASH_VERDICTS ??
+  fileURLToPath(new URL('../../../crates/vectors/data/verdicts.tsv', import.meta.url));
+
+/** The rows of verdicts.tsv, or of a list beside it: the words of each by the names of the columns. */
+export function rowsOf(name) {
+  const text = readFileSync(name === 'verdicts' ? vectors : join(dirname(vectors), `${name}.tsv`), 'utf8');
+  const [columns, ...lines] = text.trimEnd().split('\n').map((line) => line.split('\t'));
+  return lines.map((words) => Object.fromEntries(columns.map((column, at) => [column, words[at]])));
+}
+
+/** Returns the error of a call: of that class, with these words in this order in its text, whatever the sentence. */
+export function fails(kind, call, words) {
+  let error;
+  assert.throws(call, (found) => checkError((error = found), kind, words));
+  return error;
+}
+
+/** The same of a promise. */
+export async function rejects(kind, promise, words) {
+  let error;
+  await assert.rejects(promise, (found) => checkError((error = found), kind, words));
+  return error;
+}
+
+function checkError({ name, message }, kind, words) {
+  assert.equal(name, kind.name, message);
+  const parts = words.split(' ').map((word) => word.replace(/[.*+?^${}()|[\]\\]/g, '\\$&'));
+  assert.match(message, new RegExp(parts.map((part) => part && `(?<![\\w.])${part}(?![\\w.])`).join('.*')));
+  assert.doesNotMatch(message, /: undefined/); // a hint that is missing
+  return true;
+}
+
+/** A subclass that says something else of itself than its bytes are. */
+class Lying extends Uint8Array {}
+Object.defineProperty(Lying, Symbol.species, { value: Array });
+Object.defineProperties(Lying.prototype, {
+  length: { value: 5e9 },
+  byteOffset: { value: 0 },
+  buffer: { value: new ArrayBuffer(1) },
+  [Symbol.toStringTag]: { value: 'Int8Array' },
+});
+
+/** A view of bytes amid others in a larger buffer. */
+function amid(bytes, buffer = new ArrayBuffer(bytes.length + 7), Kind = Uint8Array) {
+  new Uint8Array(buffer).fill(0x81);
+  const view = new Kind(buffer, 3, bytes.length);
+  Uint8Array.prototype.set.call(view, bytes);
+  return view;
+}
+
+const resizable = ({ length }) => new ArrayBuffer(length + 7, { maxByteLength: 2 * length + 7 });
+
+function shrunk(bytes) {
+  const { buffer } = amid(bytes, resizable(bytes));
+  buffer.resize(bytes.length + 3);
+  return new Uint8Array(buffer, 3);
+}
+
+/** Arrays of each kind with these bytes. */
+export const KINDS = [
+  (bytes) => bytes.slice(),
+  (bytes) => amid(bytes),
+  (bytes) => amid(bytes, undefined, Lying),
+  (bytes) => amid(bytes, new SharedArrayBuffer(bytes.length + 7)),
+  (bytes) => amid(bytes, resizable(bytes)),
+  shrunk,
+  (bytes) => Buffer.from(amid(bytes).buffer, 3, bytes.length),
+];
+
+/** Moves the memory of an array elsewhere. */
+export const detach = ({ buffer }) => structuredClone(buffer, { transfer: [buffer] });
+
+/** Arrays without their memory: it was moved, or has shrunk. */
+export function withoutMemory() {
+  const moved = new Uint8Array(8);
+  detach(moved);
+  const buffer = new ArrayBuffer(8, { maxByteLength: 16 });
+  const outOfBounds = new Uint8Array(buffer, 4, 4);
+  buffer.resize(2);
+  return [moved, outOfBounds];
+}
