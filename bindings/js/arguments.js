@@ -23,7 +23,7 @@ const HINTS = {
   'string bytes': DECODE, 'string multihash': DECODE, 'string code': 'CODES has the codes of names',
   'string content': 'new TextEncoder().encode(text) makes bytes', 'string source': 'createReadStream(path) opens a file',
   'string a chunk of the stream': 'open the stream without an encoding', 'string json': 'JSON.parse(text) makes one',
-  Uint8Array: 'decode(bytes) and read(bytes) decode it',
+  'Uint8Array source': 'new Blob([bytes]).stream() makes one', Uint8Array: 'decode(bytes) and read(bytes) decode it',
   Array: 'Uint8Array.from(array) makes bytes', ArrayBuffer: 'new Uint8Array(buffer) makes bytes',
   view: 'new Uint8Array(view.buffer, view.byteOffset, view.byteLength) makes bytes',
   Blob: STREAM, File: STREAM, Response: 'its body is a ReadableStream',

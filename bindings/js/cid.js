@@ -114,10 +114,11 @@ export class CID {
     return CID.decode(bytes);
   }
 
-  /** The encoding, which is made once. */
+  /** The encoding, which is made once, and again if its memory was moved elsewhere. */
   get bytes() {
     if (!(#bytes in this)) return encode(this); // a Proxy has no private fields
-    return (this.#bytes ??= encode(this));
+    if (!this.#bytes?.length) this.#bytes = encode(this);
+    return this.#bytes;
   }
 
   /** The text, in the base of a prefix. */

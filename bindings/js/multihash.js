@@ -49,10 +49,11 @@ export class Multihash {
     return Multihash.of(isText ? BigInt(code) : code, bytes);
   }
 
-  /** The encoding, which is made once. */
+  /** The encoding, which is made once, and again if its memory was moved elsewhere. */
   get bytes() {
     if (!(#bytes in this)) return encode(this.code, this.digest); // a Proxy has no private fields
-    return (this.#bytes ??= encode(this.code, this.digest));
+    if (!this.#bytes?.length) this.#bytes = encode(this.code, this.digest);
+    return this.#bytes;
   }
 
   /** The digest in hexadecimal. */

@@ -76,7 +76,7 @@ test('multihashes and CIDs', () => {
 
 test('sources and options of readers', () => {
   const sources = [
-    [null, 'null'], [3, '3'], ['path', 'string createReadStream'], [[EXAMPLE], 'Array'], [EXAMPLE, 'Uint8Array'],
+    [null, 'null'], [3, '3'], ['path', 'string createReadStream'], [[EXAMPLE], 'Array'], [EXAMPLE, 'Uint8Array new Blob'],
     [new Response(), 'Response body'], [new Blob([]), 'Blob stream'], [new File([], ''), 'File stream'],
     [new (class {})(), 'Object'], [{ [Symbol.asyncIterator]: () => null }, 'Object'], [{ [Symbol.asyncIterator]: () => ({}) }, 'Object'],
   ];

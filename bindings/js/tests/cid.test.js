@@ -4,7 +4,7 @@ import { test } from 'node:test';
 import { inspect } from 'node:util';
 import { CID, CIDError, CODECS } from '../cid.js';
 import { Multihash, MultihashError } from '../index.js';
-import { KINDS, fails, hex, rowsOf, unhex } from './support.js';
+import { KINDS, detach, fails, hex, rowsOf, unhex } from './support.js';
 
 const HELLO = Multihash.fromHex('1220b94d27b9934d3e08a52e52d7da7dabfac484efe37a5380ee9088f7ace2efcde9');
 const RAW = CID.of(1, CODECS.raw, HELLO);
@@ -67,6 +67,17 @@ test('fields that make no CID', () => {
   const rows = [['unknown_version', 2, 0x55, HELLO], ['not_version_0', 0, 0x55, HELLO], ['not_version_0', 0, 0x70, short],
     ['not_version_0', 0, 0x70, Multihash.of(0x13, HELLO.digest)], ['overflow', 1, 2n ** 63n, HELLO]];
   for (const [status, ...fields] of rows) assert.equal(fails(CIDError, () => CID.of(...fields), '').status, status);
+});
+
+test('bytes whose memory was moved are made again', () => {
+  for (const text of [`${RAW}`, `${OLD}`]) {
+    const cid = CID.parse(text);
+    for (const bytes of [cid.bytes, cid.multihash.bytes]) detach(bytes);
+    assert.equal(`${cid}`, text);
+  }
+  const cid = CID.of(1, CODECS.raw, Multihash.of(0, Uint8Array.of(5)));
+  detach(cid.multihash.digest);
+  fails(TypeError, () => `${cid}`, 'digest detached');
 });
 
 test('values', () => {

@@ -95,6 +95,12 @@ test('what has the same code and the same digest is equal', () => {
   assert.equal(compare(long, Multihash.of(LONG, last)), -1);
 });
 
+test('bytes whose memory was moved are made again', () => {
+  const multihash = decode(EXAMPLE);
+  detach(multihash.bytes);
+  assert.equal(`${multihash}`, hex(EXAMPLE));
+});
+
 test('a digest without its memory', () => {
   const [moved, whole] = [decode(EXAMPLE), decode(EXAMPLE)];
   detach(moved.digest);
