@@ -45,7 +45,7 @@ function reasonOf(status, bytes, at, end, limit) {
   const { size, next } = readHead(bytes, at, end);
   const rest = end - next;
   if (status === 'unexpected_eof') return texts.truncated('digest', rest, size);
-  if (status === 'invalid_size' && size > limit) return texts.tooLong('digest', size, limit);
+  if (size > limit) return texts.tooLong('digest', size, limit);
   if (status === 'invalid_size') return texts.trailing(rest - size);
   const code = readVarint(bytes, at, end);
   const name = code.status === 'ok' ? "digest's length" : 'code';

@@ -169,10 +169,7 @@ function multihashOf(code, whole, truncate) {
   return Multihash.of(code, whole.subarray(0, size));
 }
 
-/**
- * Returns the multihash of the content by the function of a name or a code. `functions` has functions that the platform
- * lacks.
- */
+/** Returns the multihash of the content by the function of a name or a code. */
 export const digest = (content, hash, options = {}) => reading(content, async (open) => {
   const { truncate, functions } = checkedOptions(options, ['truncate', 'functions']);
   const code = codeOf(hash);
@@ -185,7 +182,6 @@ export class Hasher {
   #hash;
   #multihash; // once it was asked for
 
-  /** The function is that of a name or a code. `functions` has functions that the platform lacks. */
   constructor(hash, options = {}) {
     const { functions } = checkedOptions(options, ['functions']);
     this.#code = codeOf(hash);
@@ -206,12 +202,10 @@ export class Hasher {
   }
 }
 
-const hasher = (name) =>
-  Object.freeze({ name, code: CODES[name], digest: (content, options) => digest(content, name, options) });
-
 /** The functions that this platform has, by their names. */
 export const hashers = { __proto__: null };
-for (const name of Object.keys(creators)) hashers[name] = hasher(name);
+for (const name of Object.keys(creators))
+  hashers[name] = Object.freeze({ name, code: CODES[name], digest: (content, options) => digest(content, name, options) });
 Object.freeze(hashers);
 export const { identity, 'sha2-256': sha256, 'sha2-384': sha384, 'sha2-512': sha512 } = hashers;
 
@@ -223,10 +217,7 @@ function claimOf(multihash) {
   return Multihash.of(multihash.code, multihash.digest);
 }
 
-/**
- * Returns whether a multihash, or its encoding, is that of the content. `functions` has functions that the platform
- * lacks. The time for digests of equal lengths does not depend on their bytes.
- */
+/** Returns whether a multihash, or its encoding, is that of the content. */
 export const verify = (multihash, content, options = {}) => reading(content, async (open) => {
   const { functions } = checkedOptions(options, ['functions']);
   if (!isBytes(content)) open(); // if the arguments are swapped, it is the content that has the wrong type
@@ -234,7 +225,7 @@ export const verify = (multihash, content, options = {}) => reading(content, asy
   const wanted = await digestOf(creatorOf(code, functions), content, open);
   if (digest.length === 0) checkedLength(digest, 'the digest');
   if (digest.length !== wanted.length) return false;
-  let difference = 0;
+  let difference = 0; // the time does not depend on the bytes
   for (let index = 0; index < wanted.length; index++) difference |= wanted[index] ^ digest[index];
   return difference === 0;
 });

@@ -43,10 +43,7 @@ class ItemReader {
     return this.#taken;
   }
 
-  /**
-   * Returns the next item, or null after the last one. After an error each call rejects with that error. After an
-   * error or null the source is released. Calls that overlap run one after the other.
-   */
+  /** Returns the next item, or null after the last one. Calls that overlap run one after the other. */
   read() {
     const item = this.#ready();
     if (item) return Promise.resolve(item);
@@ -57,8 +54,9 @@ class ItemReader {
 
   /** The next item, once it was received. At an error or the end of the source the reader ends. */
   async #next() {
+    let isLast = false;
     try {
-      for (let isLast = false; !this.#over; ) {
+      while (!this.#over) {
         const item = this.#received(isLast);
         if (item) return item;
         isLast = await this.#more();
@@ -124,10 +122,7 @@ class ItemReader {
     }
   }
 
-  /**
-   * Unlocks a `ReadableStream` for another reader: `rest` has the bytes received. From then on `read` rejects. The
-   * source is not cancelled.
-   */
+  /** Unlocks a `ReadableStream` for another reader. From then on `read` rejects. */
   release() {
     this.#over ??= () => {
       throw new TypeError('release() was called, so this reader reads no more');

@@ -18,14 +18,13 @@ const commands = {
   firefox: (profile, url) => ['firefox-esr', '--headless', '--no-remote', '--profile', profile, url],
 };
 
+let browser, report;
+
 async function serve(request, response) {
-  clearTimeout(startLimit);
-  if (request.method === 'POST' && request.url === '/report') {
-    let text = '';
-    for await (const chunk of request) text += chunk;
+  if (request.method === 'POST') {
+    report = '';
+    for await (const chunk of request) report += chunk;
     response.end();
-    console.log(text);
-    process.exitCode = / 0 failed$/.test(text) ? 0 : 1;
     browser.kill();
     return;
   }
@@ -35,25 +34,21 @@ async function serve(request, response) {
   response.end(file && readFileSync(file));
 }
 
-// On a busy machine Chromium sometimes hangs at its start, before it asks for the page, so another one is started with
-// a new profile, and may take longer. timeout ends a browser and what it has started.
+// On a busy machine Chromium sometimes hangs at its start, so another one is started with a new profile, and may take
+// longer. timeout ends a browser and what it has started.
 function start(attempt) {
   const profile = mkdtempSync(join(tmpdir(), `${name}-`));
   const { port } = server.address();
   const url = path.startsWith('file:') ? `${path}?port=${port}` : `http://127.0.0.1:${port}/${path}`;
-  const words = commands[name](profile, url);
-  const env = { ...process.env, HOME: profile, TMPDIR: profile };
-  browser = spawn('timeout', ['--kill-after=1', '1800', ...words], { stdio: 'ignore', env });
-  startLimit = setTimeout(() => browser.kill(), 120_000 * attempt ** 2);
+  const words = ['--kill-after=1', `${100 * attempt ** 2}`, ...commands[name](profile, url)];
+  browser = spawn('timeout', words, { stdio: 'ignore', env: { ...process.env, HOME: profile, TMPDIR: profile } });
   browser.on('exit', () => {
-    clearTimeout(startLimit);
     rmSync(profile, { recursive: true, force: true, maxRetries: 20, retryDelay: 100 });
-    if (process.exitCode === undefined && attempt < 3) return start(attempt + 1);
-    if (process.exitCode === undefined) console.log(`${name} sent no report`);
-    process.exitCode ??= 1;
+    if (report === undefined && attempt < 3) return start(attempt + 1);
+    console.log(report ?? `${name} sent no report`);
+    process.exitCode = / 0 failed$/.test(report) ? 0 : 1;
     server.close();
   });
 }
 
-let browser, startLimit;
 const server = createServer(serve).listen(0, '127.0.0.1', () => start(1));

@@ -83,6 +83,8 @@ function callsOf({ call, limit, input, status }) {
 test('vectors of messages', () => {
   for (const row of rowsOf('messages'))
     for (const call of callsOf(row)) assert.throws(call, { name: 'MultihashError', status: row.status, message: row.message });
+  const longest = Uint8Array.of(1, 255, 1, ...new Uint8Array(255));
+  fails(MultihashError, () => decode(Uint8Array.of(...longest, 7)), '1 byte follows');
 });
 
 const joined = (...parts) => Uint8Array.from(parts.flatMap((part) => [...part]));
@@ -107,6 +109,8 @@ test('varints of each kind of number, in memory of each kind', () => {
     }
   }
   assert.equal(encodeVarint(5).buffer.byteLength, 1);
+  const bytes = new Uint8Array(2); // with room for exactly one, from the index 0
+  assert.deepEqual([writeVarint(300, bytes), hex(bytes)], [2, 'ac02']);
 });
 
 test('malformed varints, numbers that have none, and where none fits', () => {

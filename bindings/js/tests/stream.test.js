@@ -86,27 +86,23 @@ for (const reader of READERS)
     for (let cut = 0; cut <= starts.at(-1); cut++) await cutAt(cut, reader, starts);
   });
 
-test('a frame that is too long, before its bytes arrive, or malformed', async () => {
+test('an item that is too long, before its bytes arrive, or malformed', async () => {
   const long = 2 ** 22 + 1;
   const cases = [
-    ['0103', { limit: 0 }, ['invalid_size', 1, 1], 'frame 0 offset 0 1 byte limit 0'],
-    ['010304', { limit: 3 }, ['invalid_size', 4, 1], 'frame 1 offset 2 4 bytes limit 3'],
-    [`00${hex(encodeVarint(long))}`, undefined, ['invalid_size', long, 4], `frame 1 offset 1 ${long} bytes limit ${long - 1}`],
-    ['ffffffffffffffff7f', { limit: 2n ** 53n }, ['invalid_size', 2n ** 63n - 1n, 9], `${2n ** 63n - 1n} bytes`],
-    ['0102ff00', undefined, ['not_minimal', undefined, 2], 'frame 1 offset 2 varint minimal'],
-    ['ff'.repeat(9), undefined, ['overflow', undefined, 9], 'frame 0 offset 0 varint nine bytes'],
+    [FrameReader, '0103', { limit: 0 }, ['invalid_size', 1, 1], 'frame 0 offset 0 1 byte limit 0'],
+    [FrameReader, '010304', { limit: 3 }, ['invalid_size', 4, 1], 'frame 1 offset 2 4 bytes limit 3'],
+    [FrameReader, `00${hex(encodeVarint(long))}`, {}, ['invalid_size', long, 4], `frame 1 offset 1 ${long} bytes limit ${long - 1}`],
+    [FrameReader, 'ffffffffffffffff7f', { limit: 2n ** 53n }, ['invalid_size', 2n ** 63n - 1n, 9], `${2n ** 63n - 1n} bytes`],
+    [FrameReader, '0102ff00', {}, ['not_minimal', undefined, 2], 'frame 1 offset 2 varint minimal'],
+    [FrameReader, 'ff'.repeat(9), {}, ['overflow', undefined, 9], 'frame 0 offset 0 varint nine bytes'],
+    [MultihashReader, '1220', { limit: 31 }, ['invalid_size', 32, 2], 'digest 32 31'],
+    [MultihashReader, '12ac02', { limit: 2n ** 63n }, ['invalid_size', 300, 3], 'digest 300 255'],
   ];
-  for (const [text, options, fields, words] of cases) {
-    const { error } = await drained(new FrameReader(streamOf([unhex(text)], () => {}), options));
+  for (const [Reader, text, options, fields, words] of cases) {
+    const { error } = await drained(new Reader(streamOf([unhex(text)], () => {}), options));
     fails(MultihashError, () => { throw error; }, words);
     assert.deepEqual([error.status, error.size, error.taken], fields);
   }
-});
-
-test('the limit of a digest is at most 255', async () => {
-  const cases = [[31, STREAM, 'digest 32 31'], [2n ** 63n, Uint8Array.of(18, 172, 2), 'digest 300 255']];
-  for (const [limit, bytes, words] of cases)
-    await rejects(MultihashError, new MultihashReader(chunks(bytes), { limit }).read(), words);
 });
 
 test('time and memory are linear in the items, and in the chunks of an item', async () => {
