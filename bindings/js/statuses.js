@@ -19,7 +19,7 @@ export const empty = () =>
 export const ends = (place, part) =>
   `the input ends ${place} the ${part}`;
 export const truncated = (part, there, whole) =>
-  `the input ends ${there === 0 ? 'before' : 'inside'} the ${part} (${there} of ${whole} bytes)`;
+  `the input ends ${there === 0 ? 'before' : 'inside'} the ${part} (${there} of ${whole} ${whole === 1 ? 'byte' : 'bytes'})`;
 export const overflow = (varint) =>
   `the ${varint} has more than nine bytes`;
 export const notMinimal = (varint) =>

@@ -37,8 +37,8 @@ static inline int mh_text_ends(char *text, size_t text_size, const char *place, 
 
 static inline int mh_text_truncated(char *text, size_t text_size, const char *part, uint64_t there, uint64_t whole)
 {
-    return snprintf(text, text_size, "the input ends %s the %s (%" PRIu64 " of %" PRIu64 " bytes)",
-                    there == 0 ? "before" : "inside", part, there, whole);
+    return snprintf(text, text_size, "the input ends %s the %s (%" PRIu64 " of %" PRIu64 " %s)",
+                    there == 0 ? "before" : "inside", part, there, whole, whole == 1 ? "byte" : "bytes");
 }
 
 static inline int mh_text_overflow(char *text, size_t text_size, const char *varint)

@@ -107,7 +107,7 @@ mod serde {
         assert_eq!(found, of::<2>(0x12, b"ab"));
         let error = |text| serde_json::from_str::<Multihash<3>>(text).expect_err("an error").to_string();
         assert!(error("[18,4,97,98,99,100]").starts_with("the digest has 4 bytes, and the limit is 3"));
-        assert!(error("[18,1]").starts_with("the input ends before the digest (0 of 1 bytes)"));
+        assert!(error("[18,1]").starts_with("the input ends before the digest (0 of 1 byte)"));
         assert!(error("[18,256]").contains("256"));
         assert!(error("7").contains("expected a valid Multihash in bytes at"));
     }

@@ -10,7 +10,7 @@ pub(super) fn ends(f: &mut Formatter<'_>, place: &str, part: &str) -> Result {
 }
 
 pub(super) fn truncated(f: &mut Formatter<'_>, part: &str, there: u64, whole: u64) -> Result {
-    write!(f, "the input ends {} the {part} ({there} of {whole} bytes)", if there == 0 { "before" } else { "inside" })
+    write!(f, "the input ends {} the {part} ({there} of {whole} {})", if there == 0 { "before" } else { "inside" }, if whole == 1 { "byte" } else { "bytes" })
 }
 
 pub(super) fn overflow(f: &mut Formatter<'_>, varint: &str) -> Result {
