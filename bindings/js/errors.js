@@ -54,9 +54,9 @@ function reasonOf(status, bytes, at, end, limit) {
   return texts.ends(code.status === 'ok' && code.next === end ? 'before' : 'inside', name);
 }
 
-/** The error that was found in the bytes from an index on. A number that does not belong to its status is 0. */
-export function errorOf({ status, size, code, next }, bytes, at, end, limit) {
-  const details = { status, size: size || undefined, code: code || undefined, taken: next - at };
+/** The error that was found in the bytes from an index on. A size that does not belong to its status is 0. */
+export function errorOf({ status, size, next }, bytes, at, end, limit) {
+  const details = { status, size: size || undefined, taken: next - at };
   return new MultihashError(reasonOf(status, bytes, at, end, limit), details);
 }
 
