@@ -189,7 +189,7 @@ test('a loop ends as that over an async generator, and cancels the source unless
 });
 
 test('calls that overlap return the items in order', async () => {
-  const reader = new MultihashReader(chunks(STREAM));
+  const reader = new MultihashReader(chunks(...Array.from(STREAM, (byte) => Uint8Array.of(byte))));
   const items = await Promise.all([reader.read(), reader.read(), reader.read(), reader.read()]);
   assert.deepEqual(items.map(textOf), [...MULTIHASHES, null]);
   const loop = new MultihashReader(chunks(STREAM))[Symbol.asyncIterator]();
