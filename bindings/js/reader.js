@@ -156,7 +156,7 @@ class ItemReader {
     };
     const loop = {
       next: () => {
-        const value = isOver ? undefined : this.#ready();
+        const value = this.#ready(); // none after the end, since `return` cancels
         return value ? Promise.resolve({ done: false, value }) : awaited();
       },
       return: async (value) => {
@@ -196,7 +196,7 @@ export class MultihashReader extends ItemReader {
 /** Finds the frame that starts at an index: a varint, and then as many bytes. */
 function frameAt(bytes, at, end, limit) {
   const { status, value: size, next } = readVarint(bytes, at, end);
-  if (status !== 'ok') return { status, size: 0, next };
+  if (status !== 'ok') return { status, next };
   if (size > limit) return { status: 'invalid_size', size, next };
   return end - next < size ? { status: 'unexpected_eof', size, next } : { status, size, next: next + size };
 }

@@ -90,7 +90,7 @@ test('an item that is too long, before its bytes arrive, or malformed', async ()
   const long = 2 ** 22 + 1;
   const cases = [
     [FrameReader, '0103', { limit: 0 }, ['invalid_size', 1, 1], 'frame 0 offset 0 1 byte limit 0'],
-    [FrameReader, '010304', { limit: 3 }, ['invalid_size', 4, 1], 'frame 1 offset 2 4 bytes limit 3'],
+    [FrameReader, '0301020304', { limit: 3 }, ['invalid_size', 4, 1], 'frame 1 offset 4 4 bytes limit 3'],
     [FrameReader, `00${hex(encodeVarint(long))}`, {}, ['invalid_size', long, 4], `frame 1 offset 1 ${long} bytes limit ${long - 1}`],
     [FrameReader, 'ffffffffffffffff7f', { limit: 2n ** 53n }, ['invalid_size', 2n ** 63n - 1n, 9], `${2n ** 63n - 1n} bytes`],
     [FrameReader, '0102ff00', {}, ['not_minimal', undefined, 2], 'frame 1 offset 2 varint minimal'],
@@ -167,6 +167,7 @@ test('a loop ends as that over an async generator, and cancels the source unless
     [true, async (loop) => assert.deepEqual(await loop.return(7), { done: true, value: 7 })],
     [true, (loop) => rejects(Error, loop.throw(new Error('left')), 'left')],
     [true, async (loop) => { for await (const item of loop) if (item) break; }],
+    [true, (loop) => loop[Symbol.asyncDispose ?? 'return']()],
     [false, async (loop, reader) => { reader.release(); await loop.return(); }],
   ];
   for (const [cancels, ending] of endings) {
