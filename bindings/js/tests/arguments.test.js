@@ -2,8 +2,8 @@
 import assert from 'node:assert/strict';
 import { test } from 'node:test';
 import { CID } from '../cid.js';
-import { FrameReader, Hasher, Multihash, MultihashReader, compare, decode, digest, encode, encodeVarint, encodedLength, head, read,
-  readMany, readVarint, scaleDecode, scaleEncode, sha256, verify, writeVarint } from '../index.js';
+import { FrameReader, Hasher, Multihash, MultihashReader, compare, decode, digest, encode, encodeVarint, encodedLength,
+  head, read, readMany, readVarint, scaleDecode, scaleEncode, sha256, verify, writeVarint } from '../index.js';
 import { fails, rejects, unhex, withoutMemory } from './support.js';
 
 const EXAMPLE = unhex('1620644bcc7e564373040999aac89e7622f3ca71fba1d972fd94a31c3bfbf24e3938');
@@ -41,14 +41,16 @@ const OF_NUMBERS = [
   ['code', (code) => encodedLength(code, 2)], ['digestLength', (length) => encodedLength(18, length)],
   ['value', encodeVarint], ['value', (value) => writeVarint(value, new Uint8Array(9))],
   ['codec', (codec) => CID.of(1, codec, MULTIHASH)], ['version', (version) => CID.of(version, 0x55, MULTIHASH)],
-  ['limit', (limit) => read(EXAMPLE, limit)], ...READERS.map((Reader) => ['limit', (limit) => new Reader(NOTHING, { limit })]),
+  ['limit', (limit) => read(EXAMPLE, limit)],
+  ...READERS.map((Reader) => ['limit', (limit) => new Reader(NOTHING, { limit })]),
 ];
 
 test('numbers', () => {
   for (const [name, call] of OF_NUMBERS) {
     for (const [value, kind] of [['18', 'string'], [null, 'null'], [{}, 'Object'], [[18], 'Array'], [true, 'true']])
       fails(TypeError, () => call(value), `${name} number bigint ${kind}`);
-    for (const value of [-1, 1.5, NaN, Infinity, 2 ** 53]) fails(RangeError, () => call(value), `${name} 2^53 - 1 or ${value}`);
+    for (const value of [-1, 1.5, NaN, Infinity, 2 ** 53])
+      fails(RangeError, () => call(value), `${name} 2^53 - 1 or ${value}`);
     const most = `${name} 2^${name === 'code' ? 63 : 64} - 1 got`;
     for (const value of [-1n, 1n << 64n]) fails(RangeError, () => call(value), `${most} ${value}`);
     // a number of many digits is cut
@@ -78,10 +80,12 @@ test('sources and options of readers', () => {
   const sources = [
     [null, 'null'], [3, '3'], ['path', 'string createReadStream'], [[EXAMPLE], 'Array'], [EXAMPLE, 'Uint8Array new Blob'],
     [new Response(), 'Response body'], [new Blob([]), 'Blob stream'], [new File([], ''), 'File stream'],
-    [new (class {})(), 'Object'], [{ [Symbol.asyncIterator]: () => null }, 'Object'], [{ [Symbol.asyncIterator]: () => ({}) }, 'Object'],
+    [new (class {})(), 'Object'], [{ [Symbol.asyncIterator]: () => null }, 'Object'],
+    [{ [Symbol.asyncIterator]: () => ({}) }, 'Object'],
   ];
   for (const Reader of READERS) {
-    for (const [source, words] of sources) fails(TypeError, () => new Reader(source), `source a ReadableStream iterable ${words}`);
+    for (const [source, words] of sources)
+      fails(TypeError, () => new Reader(source), `source a ReadableStream iterable ${words}`);
     for (const options of [null, 2, [], new Map(), { limit: 1, max: 2 }]) {
       const stream = new ReadableStream();
       fails(TypeError, () => new Reader(stream, options), 'options');

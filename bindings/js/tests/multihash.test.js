@@ -57,8 +57,10 @@ test('a code is a number if that is exact', () => {
 });
 
 test('texts and JSON', () => {
-  for (const text of [hex(EXAMPLE), hex(EXAMPLE).toUpperCase()]) assert.deepEqual(Multihash.fromHex(text), decode(EXAMPLE));
-  for (const [text, words] of [['162', '3'], ['1g01', '"g" index 1'], ['0x16', '"x" 1'], ['\n160', '\\n 0'], ['1\u{1f600}', '\u{1f600} 1']])
+  for (const text of [hex(EXAMPLE), hex(EXAMPLE).toUpperCase()])
+    assert.deepEqual(Multihash.fromHex(text), decode(EXAMPLE));
+  const noHex = [['162', '3'], ['1g01', '"g" index 1'], ['0x16', '"x" 1'], ['\n160', '\\n 0'], ['1\u{1f600}', '\u{1f600} 1']];
+  for (const [text, words] of noHex)
     assert.equal(fails(MultihashError, () => Multihash.fromHex(text), words).status, 'not_hexadecimal');
   const json = { code: 18, size: 2, digest: '00ab' };
   for (const each of [json, { code: '18', digest: '00AB' }, { ...json, code: 18n }])
@@ -70,7 +72,8 @@ test('texts and JSON', () => {
     [TypeError, { ...json, code: '0x12' }, 'code string CODES'], [RangeError, { ...json, code: -1 }, 'code 2^53 -1'],
     [RangeError, { ...json, code: '9'.repeat(99) }, `code 2^63 ${'9'.repeat(40)}...`],
     [RangeError, { ...json, code: '18'.padStart(21, '0') }, `code 2^63 ${'18'.padStart(21, '0')}`],
-    [TypeError, { ...json, digest: EXAMPLE }, 'digest string Uint8Array'], [MultihashError, { ...json, digest: '00a' }, 'digest odd 3'],
+    [TypeError, { ...json, digest: EXAMPLE }, 'digest string Uint8Array'],
+    [MultihashError, { ...json, digest: '00a' }, 'digest odd 3'],
     [RangeError, { ...json, size: 3 }, 'size 2 3'], [RangeError, { ...json, size: '2' }, 'size 2 2'],
     [MultihashError, { code: 18, digest: '00'.repeat(256) }, 'digest 256 255'],
     [MultihashError, { ...json, code: `${2n ** 63n}` }, `code ${2n ** 63n} 2^63`],
@@ -80,14 +83,16 @@ test('texts and JSON', () => {
 
 test('what has the same code and the same digest is equal', () => {
   const multihash = Multihash.of(0, Uint8Array.of(5));
-  for (const kind of KINDS) for (const code of [0, 0n]) assert.ok(multihash.equals({ code, digest: kind(multihash.digest) }));
-  assert.ok(multihash.equals(structuredClone(multihash)));
   const { digest } = multihash;
+  for (const kind of KINDS)
+    for (const code of [0, 0n]) assert.ok(multihash.equals({ code, digest: kind(digest) }));
+  assert.ok(multihash.equals(structuredClone(multihash)));
   const codes = ['0', '', false, [], [0], null, undefined, Symbol('0'), Object.create(null), { valueOf: () => 0 }, 0.5, 1n];
   const digests = [[5], '5', Int8Array.of(5), Uint8ClampedArray.of(5), Uint8Array.of(6), Uint8Array.of(5, 6)];
   const others = [null, undefined, 22, 'text', {}, EXAMPLE, Multihash.of(0, Uint8Array.of(6)), Multihash.of(1, digest)];
-  for (const other of [...codes.map((code) => ({ code, digest })), ...digests.map((each) => ({ code: 0, digest: each })), ...others])
-    assert.ok(!multihash.equals(other));
+  for (const code of codes) assert.ok(!multihash.equals({ code, digest }));
+  for (const each of digests) assert.ok(!multihash.equals({ code: 0, digest: each }));
+  for (const other of others) assert.ok(!multihash.equals(other));
   const [zeros, last] = [new Uint8Array(255), new Uint8Array(255).fill(1, 254)];
   const long = Multihash.of(LONG, zeros);
   for (const other of [Multihash.of(LONG, last), { code: LONG, digest: last }, { code: LONG + 1n, digest: zeros }])
@@ -129,7 +134,8 @@ test('errors have fields that are exact, and are restored from a clone', () => {
   ];
   for (const [call, rest] of cases) {
     const error = fails(MultihashError, call, '');
-    assert.equal(JSON.stringify(error), `{"name":"MultihashError","message":${JSON.stringify(error.message)},"status":${rest}}`);
+    const start = `{"name":"MultihashError","message":${JSON.stringify(error.message)},"status":`;
+    assert.equal(JSON.stringify(error), `${start}${rest}}`);
     assert.deepEqual(Object.keys(error), ['status', 'size', 'code', 'taken']); // what console.log shows
     const again = MultihashError.from(structuredClone(error));
     assert.ok(again instanceof MultihashError);

@@ -17,7 +17,8 @@ test('names and numbers of *.d.ts, and package.json', () => {
     assert.deepEqual(Object.keys(module).sort(), [...new Set(stated.map(([, name]) => name))].sort());
     for (const [, name, value] of stated) if (value) assert.equal(module[name], Number(value), name);
     const codes = module.CODECS ?? module.CODES;
-    for (const [, name, code] of text.matchAll(/^  readonly '?([\w-]+)'?: (0x\w+);/gm)) assert.equal(codes[name], Number(code), name);
+    for (const [, name, code] of text.matchAll(/^  readonly '?([\w-]+)'?: (0x\w+);/gm))
+      assert.equal(codes[name], Number(code), name);
   }
 });
 

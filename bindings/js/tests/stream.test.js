@@ -87,12 +87,12 @@ for (const reader of READERS)
   });
 
 test('an item that is too long, before its bytes arrive, or malformed', async () => {
-  const long = 2 ** 22 + 1;
+  const [long, most] = [2 ** 22 + 1, 2n ** 63n - 1n];
   const cases = [
     [FrameReader, '0103', { limit: 0 }, ['invalid_size', 1, 1], 'frame 0 offset 0 1 byte limit 0'],
     [FrameReader, '0301020304', { limit: 3 }, ['invalid_size', 4, 1], 'frame 1 offset 4 4 bytes limit 3'],
-    [FrameReader, `00${hex(encodeVarint(long))}`, {}, ['invalid_size', long, 4], `frame 1 offset 1 ${long} bytes limit ${long - 1}`],
-    [FrameReader, 'ffffffffffffffff7f', { limit: 2n ** 53n }, ['invalid_size', 2n ** 63n - 1n, 9], `${2n ** 63n - 1n} bytes`],
+    [FrameReader, `00${hex(encodeVarint(long))}`, {}, ['invalid_size', long, 4], `frame 1 ${long} bytes limit ${long - 1}`],
+    [FrameReader, hex(encodeVarint(most)), { limit: 2n ** 53n }, ['invalid_size', most, 9], `${most} bytes`],
     [FrameReader, '0102ff00', {}, ['not_minimal', undefined, 2], 'frame 1 offset 2 varint minimal'],
     [FrameReader, 'ff'.repeat(9), {}, ['overflow', undefined, 9], 'frame 0 offset 0 varint nine bytes'],
     [MultihashReader, '1220', { limit: 31 }, ['invalid_size', 32, 2], 'digest 32 31'],

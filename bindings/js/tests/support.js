@@ -35,7 +35,7 @@ function checkError({ name, message }, kind, words) {
   assert.equal(name, kind.name, message);
   const parts = words.split(' ').map((word) => word.replace(/[.*+?^${}()|[\]\\]/g, '\\$&'));
   assert.match(message, new RegExp(parts.map((part) => part && `(?<![\\w.])${part}(?![\\w.])`).join('.*')));
-  assert.doesNotMatch(message, /: undefined/); // a hint that is missing
+  assert.doesNotMatch(message, /[:(] ?undefined/); // a hint or a name that is missing
   return true;
 }
 
