@@ -8,8 +8,12 @@ import { tooLarge, tooLong } from './statuses.js';
 /** Throws why a code and a digest of that length have no encoding. */
 export function checkPair(code, length) {
   const status = format.encodingStatus(code, length);
-  if (status === 'invalid_code') throw new MultihashError(tooLarge('code', code), { status, code });
-  if (status !== 'ok') throw new MultihashError(tooLong('digest', length, DIGEST_MAX), { status, size: length });
+  if (status !== 'ok') throw encodingError(status, code, length); // apart, so that engines inline this function
+}
+
+function encodingError(status, code, length) {
+  if (status === 'invalid_code') return new MultihashError(tooLarge('code', code), { status, code });
+  return new MultihashError(tooLong('digest', length, DIGEST_MAX), { status, size: length });
 }
 
 /** Returns the encoding of a code and a digest. */

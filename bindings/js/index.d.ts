@@ -37,12 +37,8 @@ export interface Details {
 }
 
 /** The error of invalid input. Arguments of a wrong type or range throw a `TypeError` or a `RangeError` instead. */
-export class MultihashError extends Error implements Details {
+export class MultihashError extends Error {
   constructor(message: string, details: Details);
-  readonly status: Status;
-  readonly size?: Wide;
-  readonly code?: Wide;
-  readonly taken?: number;
   /**
    * Whether the input is truncated: it ends before or inside a varint, or before the end of the digest. In `read`,
    * `readMany`, `readVarint`, `head`, `scaleDecode` and `MultihashReader` more input can change the result only then.
@@ -65,6 +61,7 @@ export class MultihashError extends Error implements Details {
     taken?: number;
   };
 }
+export interface MultihashError extends Details {}
 
 /** A code and a digest: a `Multihash`, its clone, or a digest of js-multiformats. */
 export interface MultihashDigest {

@@ -80,7 +80,7 @@ export class Multihash {
   /** Whether another value, such as a digest of js-multiformats, has the same code and the same digest. */
   equals(other) {
     const digest = digestOf(this, 'this multihash');
-    if (!isBytes(other?.digest) || !['number', 'bigint'].includes(typeof other.code)) return false;
+    if (!isBytes(other?.digest) || (typeof other.code !== 'number' && typeof other.code !== 'bigint')) return false;
     const length = checkedLength(other.digest, 'the other digest');
     // a number and a bigint of the same value are the same code
     return other.code == this.code && length === digest.length && compareBytes(digest, other.digest, length) === 0;

@@ -1,6 +1,6 @@
 // Hash functions: of node:crypto, and where web.test.js imports these tests of WebCrypto.
 import assert from 'node:assert/strict';
-import { getHashes } from 'node:crypto';
+import { createHash, getHashes } from 'node:crypto';
 import { createReadStream } from 'node:fs';
 import { Readable } from 'node:stream';
 import { test } from 'node:test';
@@ -146,6 +146,8 @@ test("a caller's functions are found by code and by name, before those of the pl
       assert.deepEqual(await new Hasher(0x1e, { functions }).update(ABC).multihash(), wanted);
     }
   }
+  const ofNode = { 'sha2-256': () => createHash('sha256') }; // which returns a text if it is asked for 'binary'
+  assert.deepEqual(await digest(ABC, 'sha2-256', { functions: ofNode }), await sha256.digest(ABC));
   const functions = { 'sha2-256': summing, [2n ** 60n]: summing };
   assert.equal(`${await sha256.digest(ABC, { functions })}`, '120426010000');
   assert.equal(`${await digest(ABC, 2n ** 60n, { functions })}`, '8080808080808080100426010000');
