@@ -76,7 +76,8 @@ test('texts and JSON', () => {
     [MultihashError, { ...json, digest: '00a' }, 'digest odd 3'],
     [RangeError, { ...json, size: 3 }, 'size 2 3'], [RangeError, { ...json, size: '2' }, 'size 2 2'],
     [MultihashError, { code: 18, digest: '00'.repeat(256) }, 'digest 256 255'],
-    [MultihashError, { ...json, code: `${2n ** 63n}` }, `code ${2n ** 63n} 2^63`],
+    [MultihashError, { ...json, code: `${2n ** 64n - 1n}` }, `code ${2n ** 64n - 1n} 2^63`],
+    [TypeError, { ...json, code: ['18'] }, 'code number Array'],
   ];
   for (const [kind, each, words] of wrong) fails(kind, () => Multihash.fromJSON(each), words);
 });
@@ -90,9 +91,9 @@ test('what has the same code and the same digest is equal', () => {
   const codes = ['0', '', false, [], [0], null, undefined, Symbol('0'), Object.create(null), { valueOf: () => 0 }, 0.5, 1n];
   const digests = [[5], '5', Int8Array.of(5), Uint8ClampedArray.of(5), Uint8Array.of(6), Uint8Array.of(5, 6)];
   const others = [null, undefined, 22, 'text', {}, EXAMPLE, Multihash.of(0, Uint8Array.of(6)), Multihash.of(1, digest)];
-  for (const code of codes) assert.ok(!multihash.equals({ code, digest }));
-  for (const each of digests) assert.ok(!multihash.equals({ code: 0, digest: each }));
-  for (const other of others) assert.ok(!multihash.equals(other));
+  for (const code of codes) others.push({ code, digest });
+  for (const each of digests) others.push({ code: 0, digest: each });
+  for (const other of others) assert.equal(multihash.equals(other), false);
   const [zeros, last] = [new Uint8Array(255), new Uint8Array(255).fill(1, 254)];
   const long = Multihash.of(LONG, zeros);
   for (const other of [Multihash.of(LONG, last), { code: LONG, digest: last }, { code: LONG + 1n, digest: zeros }])
