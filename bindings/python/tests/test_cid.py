@@ -94,8 +94,9 @@ class Cids(unittest.TestCase):
             (CID.parse, b"b"), (CID, 1.0, 0x55, HELLO), (CID, 1, "raw", HELLO), (CID, 1, 0x55, bytes(HELLO)),
         ):  # fmt: skip
             self.assertRaises(TypeError, call, *wrong)
+        with self.assertRaisesRegex(ValueError, "codec"):
+            CID(1, -1, HELLO)
         for call, *wrong in (
-            (CID, 1, -1, HELLO),
             (OLD.text, "b"),
             *((RAW.text, base) for base in ("m", "base32", "bf")),
         ):

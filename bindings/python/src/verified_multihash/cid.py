@@ -88,6 +88,8 @@ class CID:
                 raise TypeError("%s must be an int, not %s" % (name, type(number).__name__))
         if not isinstance(self.multihash, Multihash):
             raise TypeError("multihash must be a Multihash, not %s" % type(self.multihash).__name__)
+        if self.codec < 0:
+            raise ValueError("codec must not be negative, but is %d" % self.codec)
         if self.version not in (0, 1):
             raise CIDError("unknown_version", "the version must be 0 or 1")
         try:
