@@ -1,147 +1,181 @@
-"""Runs a function of C for all arguments at once, from the tree that Clang prints. What has no defined result is refused,
-and so is what this file does not know. A method with the name of a node of the tree says what the node means."""
+"""Runs a function of C for all arguments at once, from the tree that Clang prints. It knows what multihash.c uses. What has
+no defined result is refused, and so is what this file does not know."""
 import json
-import re
-from collections.abc import Callable, Iterator
-from contextlib import contextmanager, suppress
+from collections.abc import Callable
+from functools import partial
+from operator import add, and_, eq, ge, gt, le, lt, mul, ne, or_, sub
 from typing import Any
 
 import z3
-from arithmetic import Arithmetic
-from memory import Place, Pointer, Region, Value, Variable
-from path import Refused
-from tree import Node, Unit, is_const, type_of
+from memory import Memory, Place, Pointer, Region, Value, Variable
+from path import Refused, Return
+from tree import Node, Unit, type_of
 
-MOST_TURNS = 300  # of a loop on one path
-
-
-class Return(Exception):
-    """The end of a function: its argument is what that returns."""
+ORDER = {"==": eq, "!=": ne, "<": lt, "<=": le, ">": gt, ">=": ge}
+UNSIGNED = {**ORDER, "<": z3.ULT, "<=": z3.ULE, ">": z3.UGT, ">=": z3.UGE}
+SUMS = {"+": add, "-": sub, "*": mul}
+BITS = {"&": and_, "|": or_}
+WIDE = 130  # bits, in which no sum or product of two numbers overflows
 
 
 class Break(Exception):
     ...
 
 
-class Run(Arithmetic):
+class Continue(Exception):
+    ...
+
+
+class Run(Memory):
     """A path through a function. `summaries` are functions that are not run: what they return was shown before."""
 
     def __init__(self, unit: Unit, solver: Any, prefix: list[bool], model: Any):
-        super().__init__(unit, solver, prefix, model)
+        super().__init__(solver, prefix, model, unit.word)
+        self.unit = unit
         self.summaries: dict[str, Callable[..., Value]] = {"memcpy": self.memcpy, "memcmp": self.memcmp}
+        self.arguments: dict[str, Value] = {}  # of the function that is shown
         self.calls: list[str] = []
-        self.scope: dict[str, Variable] = {}  # the variables of the function, by the ids of their declarations
-        self.line = 0
+        self.scope: dict[str, Variable] = {}  # the variables of the function
+
+    # ---- numbers
+
+    def number(self, x: int, kind: str) -> Any:
+        return z3.BitVecVal(x, self.unit.width(kind))
+
+    def extended(self, x: Value, kind: str) -> Any:
+        """A number of a type in so many bits that nothing overflows."""
+        more = WIDE - self.unit.width(kind)
+        return z3.SignExt(more, x) if self.unit.is_signed(kind) else z3.ZeroExt(more, x)
+
+    def converted(self, x: Value, old: str, new: str) -> Value:
+        """A number of a type as one of another type, which a signed type has to have."""
+        if new == "char" != old:
+            raise Refused("unknown: a number as char, which may have a sign or none")
+        exact = self.extended(x, old)
+        x = z3.simplify(z3.Extract(self.unit.width(new) - 1, 0, exact))
+        if self.unit.is_signed(new):
+            self.must(self.extended(x, new) == exact, f"overflow: a number as {new}")
+        return x
+
+    def binary(self, name: str, x: Value, y: Value, kind: str) -> Value:
+        """An operation on two numbers of a type."""
+        is_signed = self.unit.is_signed(kind)
+        if name in ORDER:
+            holds = (ORDER if is_signed else UNSIGNED)[name](x, y)
+            return z3.simplify(z3.If(holds, self.number(1, "int"), self.number(0, "int")))
+        if name not in SUMS | BITS:
+            raise Refused(f"unknown: the operator {name}")
+        result = (SUMS | BITS)[name](x, y)
+        if is_signed and name in SUMS:
+            exact = SUMS[name](self.extended(x, kind), self.extended(y, kind))
+            self.must(self.extended(result, kind) == exact, f"overflow: {name}")
+        return z3.simplify(result)
+
+    def shifted(self, name: str, x: Value, by: Value, kind: str, by_kind: str) -> Value:
+        by, width = z3.simplify(self.extended(by, by_kind)), self.unit.width(kind)
+        if not z3.is_bv_value(by):
+            raise Refused("unknown: a shift by a number that is not known")
+        self.must(0 <= by.as_signed_long() < width, "shift: by a negative number, or too far")
+        count = by.as_long()
+        if self.unit.is_signed(kind):
+            most = ((1 << width - 1) - 1) >> (count if name == "<<" else 0)
+            self.must(z3.And(x >= 0, x <= most), "shift: of a negative number, or into the sign")
+        return z3.simplify(x << count if name == "<<" else z3.LShR(x, count))
+
+    def operation(self, name: str, x: Value, y: Value, kind: str, other: str) -> Value:
+        """An operation on values of two types."""
+        if not isinstance(x, Pointer):
+            return self.shifted(name, x, y, kind, other) if name in ("<<", ">>") else self.binary(name, x, y, kind)
+        if name != "+" or isinstance(y, Pointer):
+            raise Refused(f"unknown: {name} of pointers")
+        return self.moved(x, self.index(y, other))
+
+    def index(self, x: Value, kind: str) -> Value:
+        if self.unit.is_signed(kind):
+            self.must(x >= 0, "unknown: an index that may be negative")
+        return z3.simplify(x)
 
     # ---- expressions
-
-    def at(self, node: Node) -> None:
-        self.step()
-        self.line = node["line"]
 
     def truth(self, node: Node) -> bool:
         """Which way a condition goes."""
         x = self.value(node)
-        if not (isinstance(x, int) or z3.is_bool(x) or z3.is_bv(x)):
+        if not z3.is_bv(x):
             raise Refused("unknown: a condition that is no number")
-        return self.decide(bool(x) if isinstance(x, int) else x if z3.is_bool(x) else x != 0)
-
-    def value(self, node: Node) -> Value:
-        """What an expression has as its value."""
-        self.at(node)
-        method = getattr(self, node["kind"], None)
-        if not method:
-            raise Refused(f"unknown: {node['kind']}")
-        return method(node, *node.get("inner", []))
+        return self.decide(x != 0)
 
     def each(self, *evaluate: Callable[[], Value]) -> list[Value]:
         """Values whose order is open: none may depend on what another one writes."""
-        values, seen = [], []
+        values, logs = [], []
         for one in evaluate:
             start = len(self.log)
             values.append(one())
-            seen.append(self.log[start:])
-        written = [(i, place) for i, log in enumerate(seen) for place, is_write in log if is_write]
-        for i, place in written:
-            if any(place.overlaps(other) for j, log in enumerate(seen) if j != i for other, _ in log):
-                raise Refused(f"order: {place.variable.name} is written and used in one expression")
+            logs.append(self.log[start:])
+        for i, log in enumerate(logs):
+            others = [place for j, other in enumerate(logs) if j != i for place, _ in other]
+            for place, is_write in log:
+                if is_write and any(place.overlaps(other) for other in others):
+                    raise Refused(f"order: {place.variable.name} is written and used in one expression")
         return values
 
-    def ParenExpr(self, _: Node, inner: Node) -> Value:
-        return self.value(inner)
+    def values(self, *nodes: Node) -> list[Value]:
+        return self.each(*(partial(self.value, node) for node in nodes))
 
-    ConstantExpr = CompoundLiteralExpr = ParenExpr
+    def value(self, node: Node) -> Value:
+        """What an expression has as its value."""
+        self.step(node["line"])
+        match parts(node):
+            case ["ParenExpr" | "ConstantExpr" | "CompoundLiteralExpr", x]:
+                return self.value(x)
+            case ["IntegerLiteral", *_]:
+                return self.number(int(node["value"]), type_of(node))
+            case ["StringLiteral", *_]:
+                text = json.loads(node["value"]).encode("ascii") + b"\0"
+                return Pointer(Region("a text", self.size(len(text)), text=text), self.size(0))
+            case ["ImplicitValueInitExpr", *_]:
+                return self.number(0, type_of(node))
+            case ["DeclRefExpr", *_] if node["referencedDecl"]["kind"] == "EnumConstantDecl":
+                return self.number(self.unit.constants[node["referencedDecl"]["name"]], "int")
+            case ["ImplicitCastExpr" | "CStyleCastExpr", x]:
+                return self.cast(node, x)
+            case ["InitListExpr", *inner]:
+                names = self.unit.members(type_of(node))
+                if len(inner) != len(names):
+                    raise Refused("unknown: an initializer with other members")
+                return dict(zip(names, self.values(*inner)))
+            case ["ConditionalOperator", test, one, other]:
+                return self.value(one if self.truth(test) else other)
+            case ["BinaryOperator", left, right] if node["opcode"] in ("&&", "||"):
+                is_met = self.truth(left)
+                is_met = is_met if is_met == (node["opcode"] == "||") else self.truth(right)
+                return self.number(is_met, "int")
+            case ["BinaryOperator", left, right] if node["opcode"] == "=":
+                return self.assign(left, partial(self.value, right))
+            case ["BinaryOperator", left, right]:
+                x, y = self.values(left, right)
+                return self.operation(node["opcode"], x, y, type_of(left), type_of(right))
+            case ["CompoundAssignOperator", left, right]:
+                return self.assign(left, lambda: self.combined(node, left, right))
+            case ["UnaryOperator", x]:
+                return self.unary(node, x)
+            case ["CallExpr", callee, *arguments]:
+                return self.call(name_of(callee), self.values(*arguments))
+        raise Refused(f"unknown: {node['kind']}")
 
-    def IntegerLiteral(self, node: Node) -> Value:
-        return int(node["value"])
-
-    def StringLiteral(self, node: Node) -> Value:
-        text = json.loads(node["value"])
-        if not text.isascii() or not node["value"].startswith('"'):
-            raise Refused("unknown: a text that is not ASCII")
-        return Pointer(Region("a text", len(text) + 1, text=text.encode() or b"\0"))
-
-    def ImplicitValueInitExpr(self, node: Node) -> Value:
-        self.unit.width(type_of(node))
-        return 0
-
-    def DeclRefExpr(self, node: Node) -> Value:
-        if node["referencedDecl"]["kind"] != "EnumConstantDecl":
-            raise Refused(f"unknown: the name {node['referencedDecl'].get('name')}")
-        return self.unit.constants[node["referencedDecl"]["name"]]
-
-    def ImplicitCastExpr(self, node: Node, inner: Node) -> Value:
-        kind, new = node["castKind"], type_of(node)
-        if kind == "LValueToRValue":
-            return self.value(inner) if inner["kind"] == "CompoundLiteralExpr" else self.load(self.place(inner))
-        if kind == "ArrayToPointerDecay" and inner["kind"] in ("StringLiteral", "ParenExpr"):
-            return self.value(inner)
-        if kind == "IntegralCast":
-            return self.converted(self.value(inner), type_of(inner), new)
-        if kind == "NoOp" or kind == "BitCast" and new == "void *" or kind == "ToVoid":
-            return self.value(inner)
+    def cast(self, node: Node, inner: Node) -> Value:
+        kind, new, is_implicit = node["castKind"], type_of(node), node["kind"] == "ImplicitCastExpr"
+        match kind:
+            case "LValueToRValue":
+                return self.value(inner) if inner["kind"] == "CompoundLiteralExpr" else self.load(self.place(inner))
+            case "IntegralCast":
+                return self.converted(self.value(inner), type_of(inner), new)
+            case "NoOp" if is_implicit or "*" not in new:
+                return self.value(inner)
+            case "BitCast" if is_implicit and new == "void *" and type_of(inner) in ("uint8_t *", "char *"):
+                return self.value(inner)
+            case "ArrayToPointerDecay" if inner["kind"] == "StringLiteral":
+                return self.value(inner)
         raise Refused(f"unknown: the cast {kind} to {new}")
-
-    CStyleCastExpr = ImplicitCastExpr
-
-    def InitListExpr(self, node: Node, *inner: Node) -> Value:
-        names = self.unit.fields(type_of(node))
-        if len(inner) != len(names):
-            raise Refused("unknown: an initializer with other members")
-        return dict(zip(names, self.each(*(lambda x=x: self.value(x) for x in inner))))
-
-    def MemberExpr(self, node: Node, inner: Node) -> Value:
-        """Of a result, which is no object."""
-        return self.value(inner)[node["name"]]
-
-    def ConditionalOperator(self, _: Node, test: Node, one: Node, other: Node) -> Value:
-        return self.value(one if self.truth(test) else other)
-
-    def BinaryOperator(self, node: Node, left: Node, right: Node) -> Value:
-        name, kind = node["opcode"], type_of(left)
-        if name in ("&&", "||"):
-            first = self.truth(left)
-            return first if first == (name == "||") else self.truth(right)
-        if name == "=":
-            return self.assign(left, lambda: self.value(right))
-        x, y = self.each(lambda: self.value(left), lambda: self.value(right))
-        if isinstance(x, (Pointer, Place)) or isinstance(y, (Pointer, Place)):
-            return self.of_pointers(name, x, y, type_of(right))
-        is_shift = name in ("<<", ">>")
-        return self.shifted(name, x, y, kind, type_of(right)) if is_shift else self.binary(name, x, y, kind)
-
-    def of_pointers(self, name: str, x: Value, y: Value, kind: str) -> Value:
-        if isinstance(x, Pointer) and name == "-" and isinstance(y, int):
-            return self.moved(x, -y)
-        if isinstance(x, Pointer) and name == "+" and not isinstance(y, (Pointer, Place)):
-            return self.moved(x, self.index(y, kind))
-        raise Refused(f"unknown: {name} of pointers")
-
-    def index(self, x: Value, kind: str) -> Value:
-        x = self.number(x, kind)
-        if not isinstance(x, int) and self.unit.is_signed(kind):
-            self.must(x >= 0, "unknown: an index that may be negative")
-        return x
 
     def assign(self, left: Node, value: Callable[[], Value]) -> Value:
         start = len(self.log)
@@ -151,75 +185,54 @@ class Run(Arithmetic):
         self.store(place, x)
         return x
 
-    def CompoundAssignOperator(self, node: Node, left: Node, right: Node) -> Value:
-        name, kind, of = node["opcode"][:-1], type_of(left), type_of({"type": node["computeLHSType"]})
+    def combined(self, node: Node, left: Node, right: Node) -> Value:
+        """What a compound assignment assigns."""
+        kind, of = type_of(left), type_of({"type": node["computeLHSType"]})
+        x, y = self.each(lambda: self.load(self.place(left)), lambda: self.value(right))
+        if isinstance(x, Pointer):
+            return self.operation(node["opcode"][:-1], x, y, kind, type_of(right))
+        x = self.operation(node["opcode"][:-1], self.converted(x, kind, of), y, of, type_of(right))
+        return self.converted(x, of, kind)
 
-        def combined() -> Value:
-            old, y = self.each(lambda: self.load(self.place(left)), lambda: self.value(right))
-            if isinstance(old, (Pointer, Place)):
-                return self.of_pointers(name, old, y, type_of(right))
-            x, is_shift = self.converted(old, kind, of), name in ("<<", ">>")
-            x = self.shifted(name, x, y, of, type_of(right)) if is_shift else self.binary(name, x, y, of)
-            return self.converted(x, of, kind)
-
-        return self.assign(left, combined)
-
-    def UnaryOperator(self, node: Node, inner: Node) -> Value:
-        name, kind = node["opcode"], type_of(node)
-        if name == "&":
-            return self.element(inner, False) if inner["kind"] == "ArraySubscriptExpr" else self.place(inner)
-        if name == "!":
-            return not self.truth(inner)
-        if name in ("-", "~"):
-            return self.binary("-", 0 if name == "-" else -1, self.value(inner), kind)
-        if name in ("++", "--"):
-            place = self.place(inner)
-            old = self.load(place)
-            is_pointer = isinstance(old, (Pointer, Place))
-            new = self.of_pointers(name[0], old, 1, "int") if is_pointer else self.binary(name[0], old, 1, kind)
-            self.store(place, new)
-            return old if node.get("isPostfix") else new
-        raise Refused(f"unknown: the operator {name}")
-
-    def CallExpr(self, node: Node, callee: Node, *arguments: Node) -> Value:
-        while callee["kind"] in ("ImplicitCastExpr", "ParenExpr"):
-            callee = callee["inner"][0]
-        if callee["kind"] != "DeclRefExpr" or callee["referencedDecl"]["kind"] != "FunctionDecl":
-            raise Refused("unknown: a call of a pointer")
-        if callee["type"]["qualType"].endswith("()"):
-            raise Refused("unknown: a call without a prototype")
-        given = self.each(*(lambda x=x: self.value(x) for x in arguments))
-        self.line = node["line"]
-        return self.call(callee["referencedDecl"]["name"], given)
-
-    # ---- places
+    def unary(self, node: Node, inner: Node) -> Value:
+        kind = type_of(node)
+        match node["opcode"]:
+            case "&":
+                place = self.place(inner)
+                if isinstance(place, Place):
+                    return place
+            case "!":
+                return self.number(not self.truth(inner), "int")
+            case "-":
+                return self.binary("-", self.number(0, kind), self.value(inner), kind)
+            case "++":
+                place = self.place(inner)
+                old = self.load(place)
+                one = self.number(1, "int" if isinstance(old, Pointer) else kind)
+                self.store(place, new := self.operation("+", old, one, kind, "int"))
+                return old if node["isPostfix"] else new
+        raise Refused(f"unknown: the operator {node['opcode']}")
 
     def place(self, node: Node) -> Value:
         """The object that an expression names."""
-        self.at(node)
-        kind, inner, _ = node["kind"], node.get("inner", []), type_of(node)
-        if kind == "ParenExpr":
-            return self.place(inner[0])
-        if kind == "DeclRefExpr":
-            if node["referencedDecl"]["id"] not in self.scope:
-                raise Refused(f"unknown: {node['referencedDecl'].get('name')}, which is no parameter or local variable")
-            return Place(self.scope[node["referencedDecl"]["id"]])
-        if kind == "MemberExpr":
-            base = self.value(inner[0]) if node["isArrow"] else self.place(inner[0])
-            if isinstance(base, Place) and base.member is None:
-                return Place(base.variable, node["name"])
-            if isinstance(base, Pointer) and base.member is None:
-                return Pointer(base.region, base.offset, node["name"])
-        if kind == "UnaryOperator" and node["opcode"] == "*":
-            return self.value(inner[0])
-        if kind == "ArraySubscriptExpr":
-            return self.element(node, is_access=True)
-        raise Refused(f"unknown: the place {kind}")
-
-    def element(self, node: Node, is_access: bool) -> Value:
-        base, index = node["inner"]
-        pointer, x = self.each(lambda: self.value(base), lambda: self.value(index))
-        return self.moved(pointer, self.index(x, type_of(index)), is_access)
+        self.step(node["line"])
+        type_of(node)
+        match parts(node):
+            case ["ParenExpr", x]:
+                return self.place(x)
+            case ["DeclRefExpr", *_] if (name := node["referencedDecl"].get("name")) in self.scope:
+                return Place(self.scope[name])
+            case ["MemberExpr", x] if not node["isArrow"]:
+                base = self.place(x)
+                if isinstance(base, Place) and base.member is None:
+                    return Place(base.variable, node["name"])
+            case ["UnaryOperator", x] if node["opcode"] == "*":
+                base = self.value(x)
+                return base if isinstance(base, Place) else self.moved(base, 0, is_access=True)
+            case ["ArraySubscriptExpr", array, index]:
+                pointer, x = self.values(array, index)
+                return self.moved(pointer, self.index(x, type_of(index)), is_access=True)
+        raise Refused(f"unknown: the place {node['kind']} {node.get('referencedDecl', node).get('name', '')}")
 
     # ---- statements
 
@@ -233,118 +246,116 @@ class Run(Arithmetic):
         self.calls.append(name)
         for node, x in zip(parameters, arguments, strict=True):
             self.declare(node, x)
+        result = None
         try:
             self.statement(body)
-            result = None
         except Return as end:
             result = end.args[0]
-        for variable in self.scope.values():
-            variable.exists = False
-        if result is None and not self.unit.functions[name]["type"]["qualType"].startswith("void ("):
-            raise Refused(f"uninitialized: the result of {name}")
+        if isinstance(result, Place) or result is None and self.unit.result(name) != "void":
+            raise Refused(f"uninitialized: the result of {name}, or the address of its variable")
         self.scope = outer
         self.calls.pop()
         return result
 
     def declare(self, node: Node, x: Value) -> None:
         name = node.get("name", "")
-        if name in self.unit.functions or any(v.name == name and v.exists for v in self.scope.values()):
+        if name in self.unit.functions or name in self.scope:
             raise Refused(f"unknown: {name}, which is the name of something else too")
-        self.scope[node["id"]] = Variable(name, x, type_of(node), is_const(node))
-
-    @contextmanager
-    def block(self) -> Iterator[None]:
-        """The variables of a block end with it."""
-        before = dict(self.scope)
-        try:
-            yield
-        finally:
-            for key, variable in self.scope.items():
-                variable.exists = variable.exists and before.get(key) is variable
-            self.scope = before
+        self.scope[name] = Variable(name, type_of(node), x)
 
     def statement(self, node: Node) -> None:
-        method = getattr(self, f"do_{node['kind']}", None)
-        if method:
-            self.at(node)
-            method(node, *node.get("inner", []))
-        else:
-            self.value(node)
+        self.step(node["line"])
+        match parts(node):
+            case ["CompoundStmt", *inner]:
+                self.block(inner)
+            case ["DeclStmt", *inner]:
+                for each in inner:
+                    self.variable(each)
+            case ["ReturnStmt", *inner]:
+                raise Return(self.value(inner[0]) if inner else None)
+            case ["IfStmt", test, then, *otherwise]:
+                for each in [then] if self.truth(test) else otherwise:
+                    self.statement(each)
+            case ["WhileStmt", test, body]:
+                self.loop(test, body, None)
+            case ["DoStmt", body, test]:
+                if self.turn(body):
+                    self.loop(test, body, None)
+            case ["ForStmt", start, _, test, step, body]:
+                before = dict(self.scope)
+                if start:
+                    self.statement(start)
+                self.loop(test, body, step)
+                self.scope = before
+            case ["BreakStmt", *_]:
+                raise Break
+            case ["ContinueStmt", *_]:
+                raise Continue
+            case ["SwitchStmt", test, body]:
+                self.switch(self.value(test), body)
+            case _:
+                self.value(node)
 
-    def do_CompoundStmt(self, _: Node, *inner: Node) -> None:
-        with self.block():
-            for each in inner:
+    def block(self, statements: list[Node]) -> None:
+        before = dict(self.scope)
+        try:
+            for each in statements:
                 self.statement(each)
+        finally:
+            self.scope = before
 
-    def do_NullStmt(self, _: Node) -> None:
-        ...
+    def variable(self, node: Node) -> None:
+        parts = [x for x in node.get("inner", []) if x["kind"] != "FullComment"]
+        if node["kind"] != "VarDecl" or "storageClass" in node or "tls" in node or len(parts) != ("init" in node):
+            raise Refused(f"unknown: static, or a declaration of another kind: {node.get('name')}")
+        kind = type_of(node)
+        x = dict.fromkeys(self.unit.members(kind)) if kind in self.unit.records else None
+        if not x and not kind.endswith("*"):
+            self.unit.width(kind)
+        self.declare(node, x)
+        if parts:
+            self.store(Place(self.scope[node["name"]]), self.value(parts[0]))
 
-    def do_DeclStmt(self, _: Node, *inner: Node) -> None:
-        for each in inner:
-            parts = [x for x in each.get("inner", []) if x["kind"] != "FullComment"]
-            if each["kind"] != "VarDecl" or "storageClass" in each or "tls" in each or len(parts) != ("init" in each):
-                raise Refused(f"unknown: static, or a declaration of another kind: {each.get('name')}")
-            kind = type_of(each)
-            empty = dict.fromkeys(self.unit.fields(kind)) if kind in self.unit.records else None
-            if not empty and not kind.endswith("*"):
-                self.unit.width(kind)
-            self.declare(each, self.value(parts[0]) if parts else empty)
+    def loop(self, test: Node, body: Node, step: Node) -> None:
+        while (not test or self.truth(test)) and self.turn(body):
+            if step:
+                self.value(step)
 
-    def do_ReturnStmt(self, _: Node, *inner: Node) -> None:
-        raise Return(self.value(inner[0]) if inner else None)
+    def turn(self, body: Node) -> bool:
+        """Whether a loop goes on after its body."""
+        try:
+            self.statement(body)
+        except Continue:
+            pass
+        except Break:
+            return False
+        return True
 
-    def do_IfStmt(self, _: Node, test: Node, *ways: Node) -> None:
-        if self.truth(test):
-            self.statement(ways[0])
-        elif len(ways) > 1:
-            self.statement(ways[1])
-
-    def do_WhileStmt(self, node: Node, test: Node, body: Node) -> None:
-        self.loop(node, test, None, body)
-
-    def do_ForStmt(self, node: Node, start: Node, _: Node, test: Node, step: Node, body: Node) -> None:
-        with self.block():
-            if start:
-                self.statement(start)
-            self.loop(node, test, step, body)
-
-    def loop(self, node: Node, test: Node, step: Node, body: Node) -> None:
-        with suppress(Break):
-            turns = 0
-            while not test or self.truth(test):
-                turns += 1
-                if turns > MOST_TURNS:
-                    self.line = node["line"]
-                    raise Refused(f"no end: a loop of more than {MOST_TURNS} turns")
-                self.turn(step, body)
-
-    def turn(self, step: Node, body: Node) -> None:
-        self.statement(body)
-        if step:
-            self.statement(step)
-
-    def do_BreakStmt(self, _: Node) -> None:
-        raise Break
-
-    def do_SwitchStmt(self, _: Node, test: Node, body: Node) -> None:
-        """From the statement with the label on, or else from the default's."""
-        kind, x = type_of(test), self.value(test)
-        statements: list[Node] = []
-        labels: list[tuple[Node, int]] = []
-        start = None
+    def switch(self, x: Value, body: Node) -> None:
+        """Each label has a statement that returns."""
+        otherwise = None
         for each in body["inner"]:
-            while each["kind"] in ("CaseStmt", "DefaultStmt"):
-                *label, each = each["inner"]
-                labels += [(x, len(statements)) for x in label]
-                start = start if label else len(statements)
-            statements.append(each)
-        found = re.findall('"kind": "(CaseStmt|DefaultStmt)"', json.dumps(body))
-        if len(found) != len(labels) + (start is not None):
-            raise Refused("unknown: a label inside of a statement, or a range of cases")
-        for node, at in labels:
-            if self.decide(self.binary("==", x, self.value(node), kind)):
-                start = at
-                break
-        with suppress(Break), self.block():
-            for each in statements[start:] if start is not None else []:
-                self.statement(each)
+            *label, then = each["inner"]
+            if each["kind"] not in ("CaseStmt", "DefaultStmt") or then["kind"] != "ReturnStmt":
+                raise Refused("unknown: a label without a statement that returns")
+            if not label:
+                otherwise = then
+            elif self.decide(x == self.value(label[0])):
+                return self.statement(then)
+        if otherwise:
+            self.statement(otherwise)
+
+
+def parts(node: Node) -> list[Any]:
+    return [node["kind"], *node.get("inner", [])]
+
+
+def name_of(callee: Node) -> str:
+    """The name of a function that is called."""
+    while callee["kind"] in ("ImplicitCastExpr", "ParenExpr"):
+        callee = callee["inner"][0]
+    if callee["kind"] != "DeclRefExpr" or callee["referencedDecl"]["kind"] != "FunctionDecl":
+        raise Refused("unknown: a call of a pointer")
+    if callee["type"]["qualType"].endswith("()"):
+        raise Refused("unknown: a call without a prototype")
+    return str(callee["referencedDecl"]["name"])

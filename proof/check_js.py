@@ -1,51 +1,46 @@
 #!/usr/bin/python3
 """Shows that format.js, which decodes, encodes and compares in JavaScript, does for all inputs what definitions.py says.
 
-    check_js.py [FUNCTION]..   checks these functions, or all
-    check_js.py --wrong        shows that each edit in wrong_js.py is refused, for the reason there
+    check_js.py [FUNCTION]..           checks these functions, or all
+    check_js.py --wrong [FUNCTION]..   shows that each edit in wrong_js.py is refused
 """
 import re
 import sys
-import time
 from collections.abc import Callable
 from dataclasses import dataclass, field
 from functools import partial
-from multiprocessing import Pool
 from pathlib import Path
 from typing import Any
 
 import definitions
 import z3
-from definitions import FIRST, OK, SECOND, Case, both_hold, first, is_code
-from js import Program, Return, Run, Scope, Variable, names_of
-from js_values import SAFE, WIDTH, Bytes, Number, Text, Value, known, related, symbol
-from path import Refused, paths
+from command import command
+from definitions import FIRST, OK, SECOND, Front, Result, is_code, varint_of
+from js import Node, Program, Run, Scope
+from js_values import SAFE, WIDTH, Array, Number, Text, Value, known, symbol
+from path import Refused, Return, miswritten, report, run_paths
 from wrong_js import EDITS
 
-FORMAT = Path(__file__).resolve().parents[1] / "bindings/js/format.js"
-STATUSES = tuple(re.findall(r"^  '(\w+)',$", (FORMAT.parent / "statuses.js").read_text("utf-8"), re.M))
+FOLDER = Path(__file__).resolve().parents[1] / "bindings/js"
+STATUSES = tuple(re.findall(r"^  '(\w+)',$", (FOLDER / "statuses.js").read_text("utf-8"), re.M))
 INDEX = 2**52  # no array has as many bytes
-CODE_MAX = 2**63 - 1
-
 
 # ---- arguments: bit vectors of 64 bits for the definitions, and the same numbers for JavaScript
-RANGES: list[Any] = []
+MOST = {"at": INDEX, "length": INDEX, "left": INDEX, "right": INDEX, "limit": 255, "size": 255, "room": 9}
 
 
-def argument(name: str, most: int, type: str = "number") -> tuple[Any, Number]:
-    x = z3.BitVec(name, 64)
-    RANGES.append(z3.ULE(x, most))
-    return x, symbol(x, most, type)
+def bits(name: str) -> Any:
+    return z3.BitVec(name, 64)
 
 
-(AT, at), (LENGTH, length), (LIMIT, limit) = argument("at", INDEX), argument("length", INDEX), argument("limit", 255)
-(CODE, code), (OTHER, other) = argument("code", 2**64 - 1, "wide"), argument("other", 2**64 - 1, "wide")
-(LEFT, left), (RIGHT, right) = argument("left", INDEX), argument("right", INDEX)
-(SIZE, size), (ROOM, room) = argument("size", 255), argument("room", 9)
-END = Number(at.x + length.x, 0, INDEX)
-RANGES.append(z3.ULE(AT + LENGTH, INDEX))
-INPUT, WHOLE = Bytes("bytes", length, at), Bytes("bytes", length)  # from an index on, and from the first one
-DIGEST, ONE, TWO = Bytes("digest", size), Bytes("one", left), Bytes("two", right)
+def number(name: str) -> Number:
+    return symbol(bits(name), "number" if name in MOST else "wide")
+
+
+RANGES = [z3.ULE(bits(name), most) for name, most in MOST.items()] + [z3.ULE(bits("at") + bits("length"), INDEX)]
+END = Number(number("at").x + number("length").x)
+INPUT, WHOLE = Array("bytes", number("length"), number("at")), Array("bytes", number("length"))
+DIGEST, LEFT, RIGHT = Array("digest", number("size")), Array("one", number("left")), Array("two", number("right"))
 
 # ---- results: what may be wrong, each with the condition under which it is
 Wrong = dict[str, Any]
@@ -59,123 +54,109 @@ def another(found: Value, wanted: Any) -> Any:
     """Whether a result is another number. A bigint is only what is not exact as a number."""
     if not isinstance(found, Number) or found.type == "quotient":
         return True
-    is_big = found.x > SAFE if found.type == "wide" else found.type == "bigint"
+    is_big = found.x > SAFE if found.type == "wide" else z3.BoolVal(found.type == "bigint")
     return z3.Or(found.x != wanted, (found.x > SAFE) != is_big)
 
 
-def status(found: Value, wanted: Any) -> Wrong:
+def status(found: Value, wanted: Result, _: Any) -> Wrong:
     if isinstance(found, Text):
-        return {"status": found.place != wanted}
-    return {"status": found not in STATUSES or wanted != STATUSES.index(found)}
+        return {"status": found.place != wanted.members["status"]}
+    is_known = found in STATUSES
+    return {"status": wanted.members["status"] != STATUSES.index(found) if is_known else True}
 
 
-def decoded(found: Value, leaf: Case, given: list[Value]) -> Wrong:
+def decoded(found: Value, wanted: Result, given: list[Value]) -> Wrong:
     """Of a varint, of the two before a digest, or of a multihash, which ends with its digest."""
-    wanted, origin = leaf.result, given[0].origin.x
-    size = wide(wanted.get("digest_length", wanted.get("size", 0)))
-    numbers = (
-        {"value": wide(wanted["value"])} if "value" in wanted else {"code": wide(wanted.get("code", 0)), "size": size}
-    )
-    numbers["next"] = origin + wide(wanted["taken"])
+    members, origin = wanted.members, given[0].origin.x
+    size = wide(members.get("digest_length", members.get("size", 0)))
+    numbers = {"code": wide(members.get("code", 0)), "size": size}
+    if "value" in members:
+        numbers = {"value": wide(members["value"])}
+    numbers["next"] = origin + wide(members["taken"])
     if not isinstance(found, dict) or found.keys() != {"status", *numbers}:
         return {"the fields": True}
-    wrong = status(found["status"], wanted["status"]) | {name: another(found[name], x) for name, x in numbers.items()}
-    start = numbers["next"] - size
-    return wrong | (
-        {"the digest": start != origin + wide(wanted["digest_offset"])} if "digest_offset" in wanted else {}
-    )
+    wrong = {name: another(found[name], x) for name, x in numbers.items()}
+    if "digest_offset" in members:
+        wrong["the digest"] = numbers["next"] - size != origin + wide(members["digest_offset"])
+    return status(found["status"], wanted, given) | wrong
 
 
-def written(array: Bytes, head: list[Any]) -> Wrong:
-    if array.written.keys() != {*range(len(head))}:
-        return {"the places written": True}
-    return {f"byte {i}": array.written[i].x != wide(byte) for i, byte in enumerate(head)}
+def length_of(found: Value, wanted: Result, _: Any) -> Wrong:
+    return {"length": another(found, len(wanted.head) + wide(wanted.digest))}
 
 
-def length_of(found: Value, leaf: Case, _: Any) -> Wrong:
-    return {"length": another(found, len(leaf.head) + wide(leaf.digest))}
-
-
-def encoding(found: Value, leaf: Case, given: Any) -> Wrong:
+def encoding(found: Value, wanted: Result, given: Any) -> Wrong:
     """Of a new array: the bytes of the head, the digest, and nothing else."""
-    if not isinstance(found, Bytes) or found.role != "new":
+    if not isinstance(found, Array) or found.role != "new":
         return {"the array": True}
-    is_copied = found.copied == [(len(leaf.head), DIGEST.name)]
-    return {"digest": not is_copied} | length_of(found.count, leaf, given) | written(found, leaf.head)
+    return length_of(found.count, wanted, given) | miswritten(found.written, found.copied, wanted)
 
 
-def varint_end(found: Value, leaf: Case, given: list[Value]) -> Wrong:
-    return {"next": another(found, at.x + len(leaf.head))} | written(given[1], leaf.head)
+def varint_end(found: Value, wanted: Result, given: list[Value]) -> Wrong:
+    wrong = miswritten(given[1].written, given[1].copied, wanted)
+    return {"next": another(found, number("at").x + len(wanted.head))} | wrong
 
 
-def order(found: Value, leaf: Case, _: Any) -> Wrong:
-    return {"order": another(found, z3.BitVecVal(leaf.result[""], WIDTH))}
+def order(found: Value, wanted: Result, _: Any) -> Wrong:
+    return {"order": another(found, z3.BitVecVal(wanted.members[""], WIDTH))}
 
 
-# ---- summaries: what a call returns of a function that was shown
-def same(run: Run, *pairs: tuple[Value, Value]) -> None:
+# ---- what a call returns of a function that was shown
+def must_be(run: Run, is_same: Any) -> None:
     """Refuses a call for which a function was not shown."""
-    for a, b in pairs:
-        is_same = a is b if isinstance(b, Bytes) else related("===", run.number(a), b)
-        run.must(is_same, "unknown: other arguments of a function that is called")
+    run.must(is_same, "unknown: other arguments of a function that is called")
 
 
 def read_varint(run: Run, bytes: Value, index: Value, end: Value) -> Value:
     """The first varint of an input, or the one after it."""
-    origin = bytes.origin if bytes is WHOLE else at
-    found = FIRST if related("===", run.number(index), origin) is True else SECOND
-    place = origin if found is FIRST else run.binary("+", origin, symbol(FIRST.end, 9))
-    same(run, (bytes, WHOLE if bytes is WHOLE else INPUT), (index, place), (end, run.binary("+", origin, length)))
-    run.must(True if found is FIRST else FIRST.status == OK, "unknown: a varint after none")
-    next = run.binary("+", origin, symbol(found.end, 18))
-    return {"status": Text(found.status, STATUSES), "value": symbol(found.value, CODE_MAX, "wide"), "next": next}
+    must_be(run, bytes is INPUT or bytes is WHOLE)
+    origin, index, end = bytes.origin.x, run.number(index, "number").x, run.number(end, "number").x
+    found, start = (FIRST, origin) if z3.is_true(z3.simplify(index == origin)) else (SECOND, origin + wide(FIRST.end))
+    must_be(run, z3.And(index == start, end == origin + number("length").x))
+    must_be(run, found is FIRST or FIRST.status == OK)
+    next = Number(z3.simplify(origin + wide(found.end)))
+    return {"status": Text(found.status, STATUSES), "value": symbol(found.number, "wide"), "next": next}
 
 
 def compare_bytes(run: Run, one: Value, two: Value, count: Value) -> Value:
-    same(run, (one, ONE), (two, TWO), (count, left), (count, right))
+    length = run.number(count, "number").x
+    must_be(run, one is LEFT and two is RIGHT)
+    must_be(run, z3.And(length == number("left").x, length == number("right").x))
     digests = z3.BitVec("the order of left_digest and right_digest", 32)  # has this name in the definition
-    sign = z3.If(z3.Or(LEFT == 0, digests == 0), wide(0), z3.If(digests < 0, wide(0) - 1, wide(1)))
-    return Number(sign, -1, 1)
+    sign = z3.If(z3.Or(length == 0, digests == 0), wide(0), z3.If(digests < 0, wide(0) - 1, wide(1)))
+    return Number(sign)
 
 
-def turn(run: Run, name: str, given: list[Value]) -> Value:
-    """By induction over the loop that a function starts with: its turn at the index `at`. What the function returns there,
-    or 2 if the next turn follows."""
-    function = run.program.functions[name]
-    loop, *rest = function["body"]["body"] if function["body"]["type"] == "BlockStatement" else [function["body"]]
-    if loop["type"] != "ForStatement" or None in (loop["init"], loop["test"], loop["update"]):
-        raise Refused("not shown: another loop")
-    outer = Scope({names_of(each)[0]: Variable(x, True) for each, x in zip(function["params"], given)})
-    inner = outer.new_child()
-    run.statement(loop["init"], inner)
-    index = [*inner.maps[0].values()]
-    if [each.value for each in index] != [known(0)]:
-        raise Refused("not shown: a loop that starts with something else than an index of 0")
-    index[0].value = at
-    try:
-        if run.truth(run.value(loop["test"], inner)):
-            run.statement(loop["body"], inner)
-            run.value(loop["update"], inner)
-            run.must(related("===", index[0].value, run.binary("+", at, known(1))), "not shown: another turn")
-            return known(2)
-        for each in rest:
-            run.statement(each, outer)
-    except Return as end:
-        return end.args[0]
-    return None
+class Turn(Run):
+    """By induction over the loop of a function: its turn at the index `at`, of a variable `index`. The function returns 2 if the
+    next turn follows."""
+
+    is_in_turn = False
+
+    def loop(self, test: Node, update: Node, body: Node, scope: Scope) -> None:
+        index = scope.get("index")
+        if self.is_in_turn or index is None or index.value.known != 0:
+            raise Refused("not shown: another loop")
+        self.is_in_turn, index.value = True, number("at")
+        before = {name: variable.value for name, variable in scope.items()}
+        if self.truth(self.value(test, scope)):
+            self.statement(body, scope)
+            self.value(update, scope)
+            others = [scope[name].value is x for name, x in before.items() if name != "index"]
+            self.must(z3.And(all(others), index.value.x == number("at").x + 1), "not shown: another turn")
+            raise Return(known(2))
 
 
 # ---- the functions of format.js
 @dataclass
 class Check:
-    """Compares what a function returns for these arguments, of which each path has new ones, with a case."""
+    """Compares what a function returns for these arguments, of which each path has new ones, with a definition."""
 
-    case: Case
-    wrong: Callable[[Value, Case, list[Value]], Wrong]
+    definition: Any
+    wrong: Callable[[Value, Result, list[Value]], Wrong]
     arguments: Callable[[], list[Value]]
     when: list[Any] = field(default_factory=list)
-    summaries: dict[str, Callable[..., Value]] = field(default_factory=dict)
-    run: Callable[[Run, str, list[Value]], Value] = Run.call
+    run: type[Run] = Run
 
 
 NAMES = """readVarint readHead readMultihash decodeMultihash readScale encodingStatus varintLength writeVarint encodedLength
@@ -183,96 +164,79 @@ NAMES = """readVarint readHead readMultihash decodeMultihash readScale encodingS
 
 
 def check_of(name: str) -> Check:
-    def valid(case: Case, wrong: Any, *given: Value) -> Check:
-        return Check(case, wrong, lambda: [*given], [is_code(CODE)])
-
-    def decoding(case: Case, *given: Value) -> Check:
-        return Check(case, decoded, lambda: [*given], summaries={"readVarint": read_varint})
-
-    def varint_case(status: Value, taken: Value, x: Value = 0) -> Case:
-        return Case({"status": status, "value": x, "taken": taken})
-
-    varint = definitions.varint_of(CODE, lambda head: Case(head=head))
-    pair = definitions.encoding(CODE, SIZE, lambda head: Case(head=head, digest=SIZE))
+    at, length, code, size = bits("at"), bits("length"), bits("code"), bits("size")
+    place = number("at")
+    varint = varint_of(code, lambda head: Result({}, head))
+    pair = definitions.encoding(code, size, lambda head: Result({}, head, size))
     match name:
         case "readVarint":
-            then = lambda x, taken: varint_case(OK, taken, x)
-            return Check(definitions.varint("bytes", 0, LENGTH, varint_case, then), decoded, lambda: [INPUT, at, END])
+            wrong = lambda found, wanted, given: decoded(found, Result({"value": 0, **wanted.members}), given)
+            return Check(definitions.get_varint(length), wrong, lambda: [INPUT, place, END])
         case "readHead":
-            return decoding(definitions.head(LENGTH), INPUT, at, END)
+            return Check(definitions.head(length), decoded, lambda: [INPUT, place, END])
         case "readMultihash":
-            return decoding(definitions.read_limit(LENGTH, LIMIT), INPUT, at, END, limit)
+            definition = definitions.read_limit(length, bits("limit"))
+            return Check(definition, decoded, lambda: [INPUT, place, END, number("limit")])
         case "decodeMultihash":
-            return decoding(definitions.from_bytes(LENGTH), WHOLE, length)
+            return Check(definitions.from_bytes(length), decoded, lambda: [WHOLE, number("length")])
         case "readScale":
-            return decoding(definitions.scale_decode(LENGTH), WHOLE, length)
+            return Check(definitions.scale_decode(length), decoded, lambda: [WHOLE, number("length")])
         case "encodingStatus":
-            statuses = definitions.fitting(CODE, OTHER, Case({"status": OK}))
-            return Check(statuses, lambda x, leaf, _: status(x, leaf.result["status"]), lambda: [code, other])
+            statuses = definitions.fitting(code, bits("other"), Result({"status": OK}))
+            return Check(statuses, status, lambda: [number("code"), number("other")])
         case "varintLength":
-            return valid(varint, length_of, code)
+            return Check(varint, length_of, lambda: [number("code")], [is_code(code)])
         case "writeVarint":
-            fits = z3.Or([z3.And(z3.UGE(ROOM, i), z3.ULT(CODE, 1 << 7 * i)) for i in range(1, 10)])
-            return Check(varint, varint_end, lambda: [code, Bytes("out", room, at, "output"), at], [fits])
+            room = [z3.And(z3.UGE(bits("room"), i), z3.ULT(code, 1 << 7 * i)) for i in range(1, 10)]
+            given = lambda: [number("code"), Array("out", number("room"), place, "output"), place]
+            return Check(varint, varint_end, given, [is_code(code), z3.Or(room)])
         case "encodedLength":
-            return valid(pair, length_of, code, size)
+            return Check(pair, length_of, lambda: [number("code"), number("size")], [is_code(code)])
         case "encodeMultihash":
-            return valid(pair, encoding, code, DIGEST, size)
+            return Check(pair, encoding, lambda: [number("code"), DIGEST, number("size")], [is_code(code)])
         case "encodeScale":
-            return valid(definitions.scale_encode(CODE, SIZE, 264), encoding, code, DIGEST, size)
+            scale = definitions.scale_encode(code, size, 264)
+            return Check(scale, encoding, lambda: [number("code"), DIGEST, number("size")], [is_code(code)])
         case "compareMultihashes":
-            orders, given = definitions.compare(CODE, LEFT, OTHER, RIGHT), [code, ONE, left, other, TWO, right]
-            return Check(orders, order, lambda: given, summaries={"compareBytes": compare_bytes})
+            orders = definitions.compare(code, bits("left"), bits("other"), bits("right"))
+            given = lambda: [number("code"), LEFT, number("left"), number("other"), RIGHT, number("right")]
+            return Check(orders, order, given)
         case "compareBytes":
-            arrays = [Bytes(x, Number(left.x - at.x, 0, INDEX), at) for x in ("one", "two")]  # from the turn's index on
-            one, two = (z3.BitVec(f"{each.name}[0]", 8) for each in arrays)
-            less, more = (z3.ULT(one, two), Case({"": -1})), (z3.UGT(one, two), Case({"": 1}))
-            turns = first((AT == LEFT, Case({"": 0})), less, more, otherwise=Case({"": 2}))
-            return Check(turns, order, lambda: [*arrays, left], [z3.ULE(AT, LEFT)], run=turn)
+            rest = Number(number("left").x - place.x)
+            one, two = (z3.BitVec(f"{name}[0]", 8) for name in ("one", "two"))  # from the turn's index on
+            turns = [(at == bits("left"), Result({"": 0})), (z3.ULT(one, two), Result({"": -1}))]
+            turns += [(z3.UGT(one, two), Result({"": 1})), (True, Result({"": 2}))]
+            given = lambda: [Array("one", rest, place), Array("two", rest, place), number("left")]
+            return Check(turns, order, given, [z3.ULE(at, bits("left"))], Turn)
     raise Refused("unknown: a function without a definition")
 
 
-def result(name: str, text: str = FORMAT.read_text("utf-8"), effort: int = 0) -> str:
-    """Checks a function of a text of format.js. With an effort z3 gives up after so many steps."""
-    began, count, run = time.process_time(), 0, None
-    try:
-        program, check, solver = Program(FORMAT, text), check_of(name), z3.SolverFor("QF_BV")
-        if program.exports != {*NAMES}:
-            raise Refused(f"unknown: no definition, or no function: {' '.join(program.exports ^ {*NAMES})}")
-        program.summaries = check.summaries
-        solver.add(*RANGES, *check.when, both_hold(*check.case.front) if check.case.front else True)
-        for run in paths(solver, partial(Run, program, solver)):
-            solver.set("rlimit", effort)
-            count, given = count + 1, check.arguments()
-            found = check.run(run, name, given)
-            kind = "not shown" if check.run is turn else "wrong result"
-            run.compare(check.case, lambda leaf: check.wrong(found, leaf, given), kind)
-    except Refused as why:
-        line = f" (line {run.line})" if run else ""
-        return f"{name}: REFUSED: {' '.join(str(why).split())}{line}"
-    return f"{name}: all inputs, {count} paths, {time.process_time() - began:.1f} s"
+def run(name: str) -> int:
+    """Checks a function. Returns the number of its paths."""
+    program, check, solver = Program(FOLDER / "format.js"), check_of(name), z3.SolverFor("QF_BV")
+    if program.exports != {*NAMES}:
+        raise Refused(f"unknown: no definition, or no function: {' '.join(program.exports ^ {*NAMES})}")
+    solver.add(*RANGES, *check.when)
+    rows = check.definition
+    if isinstance(rows, Front):
+        solver.add(rows.holds())
+        rows = rows.rows
+
+    def compare(path: Run) -> None:
+        path.summaries = {"readVarint": read_varint, "compareBytes": compare_bytes}
+        path.summaries.pop(name, None)
+        given = check.arguments()
+        found = path.call(name, given)
+        kind = "not shown" if check.run is Turn else "wrong result"
+        path.compare(rows, lambda wanted: check.wrong(found, wanted, given), kind)
+
+    return run_paths(solver, partial(check.run, program, solver), compare)
 
 
-def verdict(edit: tuple[str, str, str, str]) -> str:
-    """What the check says of an edit, after OK if it refuses that for its reason. Without an edit z3 gives up."""
-    name, old, new, reason = edit
-    text = FORMAT.read_text("utf-8")
-    if old and text.count(old) != 1:
-        return f"{name}: format.js does not have this once: {old}"
-    found = result(name, text.replace(old, new)) if old else result(name, effort=1)
-    is_right = found.startswith(f"{name}: REFUSED: {reason}")
-    return f"{'OK: ' * is_right}{found[:200]}\n    for {' '.join(new.split())} instead of {' '.join(old.split())}"
-
-
-def main() -> int:
-    is_wrong = sys.argv[1:] == ["--wrong"]
-    failed = 0
-    with Pool() as pool:
-        for line in pool.imap(verdict, EDITS) if is_wrong else pool.imap(result, sys.argv[1:] or NAMES):
-            print(line, flush=True)
-            failed |= not line.startswith("OK") if is_wrong else "REFUSED" in line
-    return failed
+def result(name: str) -> str:
+    return report(name, lambda: run(name))
 
 
 if __name__ == "__main__":
-    sys.exit(main())
+    files = ["bindings/c/include/multihash.h", *(f"bindings/js/{x}.js" for x in ("format", "limits", "statuses"))]
+    sys.exit(command("check_js.py", files, {"format.js": result}, lambda: NAMES, EDITS))

@@ -5,7 +5,7 @@ import re
 from collections.abc import Callable
 from dataclasses import dataclass, field
 from pathlib import Path
-from typing import Any
+from typing import Any, NamedTuple
 
 import z3
 
@@ -14,33 +14,23 @@ HEADER = (Path(__file__).parents[1] / "bindings/c/include/multihash.h").read_tex
 OK, INSUFFICIENT, OVERFLOW, NOT_MINIMAL, INVALID_SIZE, INVALID_CODE, UNEXPECTED_EOF, NO_ROOM = range(8)
 
 
+@dataclass
+class Result:
+    """The members of what a function returns, of which those without a name here are 0. A number has the member "". The
+    function writes `head` and that many bytes of the digest to the start of `out`."""
+
+    members: dict[str, Value]
+    head: list[Value] = field(default_factory=list)
+    digest: Value = 0
+
+
+# The first row whose condition holds decides: it has a Result, or further rows.
+Rows = list[tuple[Any, Any]]
+
+
 def widened(x: Value) -> Any:
     """A number as a bit vector of 64 bits, with zeros above its own."""
     return z3.BitVecVal(x, 64) if isinstance(x, int) else z3.ZeroExt(64 - x.size(), x)
-
-
-@dataclass
-class Case:
-    """What holds if all of `when` does: one of `parts`, if there are any. Otherwise the function returns `result`, in
-    which a field without a name is 0, and writes `head` and that many bytes of the digest to the start of `out`."""
-
-    result: dict[str, Value] = field(default_factory=dict)
-    parts: list["Case"] = field(default_factory=list)
-    head: list[Value] = field(default_factory=list)
-    digest: Value = 0
-    when: list[Any] = field(default_factory=list)
-    front: Any = None  # the name of the input of which FIRST and SECOND are, and how many bytes of it are there
-
-    def if_all(self, *when: Any) -> "Case":
-        self.when = [*when, *self.when]
-        return self
-
-
-def first(*rows: tuple[Any, Case], otherwise: Case) -> Case:
-    """The first row whose condition holds decides."""
-    none = [z3.Not(when) for when, _ in rows]
-    cases = [case.if_all(*none[:i], when) for i, (when, case) in enumerate(rows)]
-    return Case(parts=cases + [otherwise.if_all(*none)])
 
 
 # Limits
@@ -53,263 +43,239 @@ def is_too_long(size: Any, limit: Value = 255) -> Any:
 
 
 # Varints
-def digit(byte: Any) -> Any:
-    return z3.Extract(6, 0, byte)
-
-
-def continuation(digit: Any) -> Any:
-    """A byte: a digit plus 128."""
-    return z3.Concat(z3.BitVecVal(1, 1), digit)
-
-
-def last(digit: Any) -> Any:
-    """A byte: a digit."""
-    return z3.Concat(z3.BitVecVal(0, 1), digit)
-
-
-def number(digits: list[Any]) -> Any:
-    """The number with these digits of base 128, least significant first."""
-    return widened(z3.Concat(*reversed(digits)) if len(digits) > 1 else digits[0])
-
-
-def varint_of(number: Any, then: Callable[[list[Any]], Case]) -> Case:
-    """The varint of a number below 2^63: each number of bytes is a case."""
-    cases = []
+def varint_of(number: Any, then: Callable[[list[Any]], Any]) -> Rows:
+    """The bytes of the varint of a number below 2^63: digits of base 128, least significant first, plus 128 but for the
+    last one. There are as few as the number allows."""
+    rows = []
     for length in range(1, 10):
         digits = [z3.Extract(7 * i + 6, 7 * i, number) for i in range(length)]
-        case = then([continuation(d) for d in digits[:-1]] + [last(digits[-1])])
-        cases.append(
-            case.if_all(z3.ULT(number, 1 << 7 * length), z3.UGE(number, 1 << 7 * (length - 1) if length > 1 else 0))
-        )
-    return Case(parts=cases)
+        marked = [z3.Concat(z3.BitVecVal(i < length - 1, 1), digit) for i, digit in enumerate(digits)]
+        rows.append((z3.ULT(number, 1 << 7 * length), then(marked)))
+    return rows
 
 
 # The result of reading. Of a malformed varint come the status, and the bytes up to and including the one that decides.
-Malformed = Callable[[Value, Value], Case]
+Malformed = Callable[[Value, Value], Any]
 
 
-def varint(name: str, at: int, length: Any, malformed: Malformed, then: Callable[[Any, int], Case]) -> Case:
-    """What `length` bytes of an input have at a place: a varint, its number and its end, or a malformed one."""
-    cases: list[Case] = []
-    before: list[Any] = []
+def varint(name: str, at: int, length: Any, malformed: Malformed, then: Callable[[Any, int], Any]) -> Rows:
+    """What an input of `length` bytes has at an index: a varint, its number and its end, or a malformed one."""
+    rows: Rows = []
     digits: list[Any] = []
-    for place in range(at, at + 9):
-        byte = z3.BitVec(f"{name}[{place}]", 8)
-        # ends before a varint, or after one to eight continuation bytes of it
-        cases.append(malformed(INSUFFICIENT, place).if_all(*before, length == place))
-        before.append(z3.UGT(length, place))
-        digits.append(digit(byte))
-        if place > at:
-            # has a zero byte after one to eight continuation bytes of a varint
-            cases.append(malformed(NOT_MINIMAL, place + 1).if_all(*before, byte == 0))
-            before.append(byte != 0)
-        cases.append(then(number(digits), place + 1).if_all(*before, byte == last(digit(byte))))
-        before.append(byte == continuation(digit(byte)))
-    # has a byte of 128 or more after eight continuation bytes of a varint
-    return Case(parts=cases + [malformed(OVERFLOW, at + 9).if_all(*before)])
-
-
-def stopped(status: Value, taken: Value) -> Case:
-    return Case({"status": status, "taken": taken})
+    for end in range(at + 1, at + 10):
+        byte = z3.BitVec(f"{name}[{end - 1}]", 8)
+        digits.append(z3.Extract(6, 0, byte))
+        number = z3.Concat(z3.BitVecVal(0, 1), *reversed(digits))
+        rows.append((length == end - 1, malformed(INSUFFICIENT, end - 1)))
+        if len(digits) > 1:
+            rows.append((byte == 0, malformed(NOT_MINIMAL, end)))
+        rows.append((z3.ULT(byte, 128), then(widened(number), end)))
+    return [*rows, (True, malformed(OVERFLOW, at + 9))]
 
 
 class Varint:
-    """What `varint` says of the bytes from a place on, as symbols."""
+    """What an input has at an index, as symbols."""
 
     def __init__(self, name: str):
         self.status, self.end = z3.BitVec(f"{name}.status", 8), z3.BitVec(f"{name}.end", 8)
-        self.value = z3.BitVec(f"{name}.value", 64)
+        self.number = z3.BitVec(f"{name}.number", 64)
 
     def holds(self, name: str, at: int, length: Any) -> Any:
-        def case(status: Value, end: Value, value: Any = 0) -> Case:
-            return Case({"": z3.And(self.status == status, self.end == end, self.value == value)})
+        """That the symbols are what `varint` says."""
 
-        cases = varint(name, at, length, case, lambda value, end: case(OK, end, value)).parts
-        return z3.And([z3.Implies(z3.And(case.when), case.result[""]) for case in cases])
+        def holds(status: Value, end: Value, number: Value = 0) -> Any:
+            return z3.And(self.status == status, self.end == end, self.number == number)
+
+        formula: Any = z3.BoolVal(False)
+        for when, then in reversed(varint(name, at, length, holds, lambda number, end: holds(OK, end, number))):
+            formula = z3.If(when, then, formula)
+        return formula
 
 
 FIRST, SECOND = Varint("first"), Varint("second")
 
 
-def both_hold(name: str, length: Any) -> Any:
-    """That FIRST is what the first `length` bytes of an input start with, and SECOND what follows it."""
-    follows = [z3.And(FIRST.status == OK, FIRST.end == at) for at in range(1, 10)]
-    second = [z3.Implies(follows[at - 1], SECOND.holds(name, at, length)) for at in range(1, 10)]
-    return z3.And(FIRST.holds(name, 0, length), *second)
+class Front(NamedTuple):
+    """Rows about FIRST and SECOND: the varints at the start of an input, of which the first `length` bytes are there."""
+
+    rows: Rows
+    name: str
+    length: Any
+
+    def holds(self) -> Any:
+        """That FIRST is at the start of the input, and SECOND follows it."""
+        follows = [z3.And(FIRST.status == OK, FIRST.end == at) for at in range(1, 10)]
+        second = [z3.Implies(follows[at - 1], SECOND.holds(self.name, at, self.length)) for at in range(1, 10)]
+        return z3.And(FIRST.holds(self.name, 0, self.length), *second)
 
 
-def front(name: str, length: Any, malformed: Malformed, then: Callable[[Any, Any, Any], Case]) -> Case:
-    """The two varints at the front, and their end; the first malformed varint decides."""
+def front(name: str, length: Any, malformed: Malformed, then: Callable[[Any, Any, Any], Any]) -> Front:
+    """The two numbers at the front, and their end; the first malformed varint decides."""
     errors = [(each.status != OK, malformed(each.status, each.end)) for each in (FIRST, SECOND)]
-    return Case(parts=[first(*errors, otherwise=then(FIRST.value, SECOND.value, SECOND.end))], front=(name, length))
+    return Front([*errors, (True, then(FIRST.number, SECOND.number, SECOND.end))], name, length)
 
 
-def front_varint(length: Any) -> Case:
+def stopped(status: Value, taken: Value) -> Result:
+    return Result({"status": status, "taken": taken})
+
+
+def get_varint(length: Any) -> Rows:
     """The varint at the start of an input, and how many bytes decide."""
-    return varint("bytes", 0, length, stopped, lambda x, end: Case({"status": OK, "value": x, "taken": end}))
+    return varint("bytes", 0, length, stopped, lambda x, end: Result({"status": OK, "value": x, "taken": end}))
 
 
-def read_varint(bytes_length: Any) -> Case:
-    def malformed(status: Value, _: Value) -> Case:
-        return Case({"status": status})
+def read_varint(bytes_length: Any) -> Rows:
+    def malformed(status: Value, _: Value) -> Result:
+        return Result({"status": status})
 
-    return varint("bytes", 0, bytes_length, malformed, lambda x, end: Case({"status": OK, "value": x, "length": end}))
+    return varint("bytes", 0, bytes_length, malformed, lambda x, end: Result({"status": OK, "value": x, "length": end}))
 
 
-def head(bytes_length: Any) -> Case:
-    def both(code: Any, size: Any, end: Any) -> Case:
-        return Case({"status": OK, "code": code, "digest_length": size, "taken": end})
+def head(bytes_length: Any) -> Front:
+    def both(code: Any, size: Any, end: Any) -> Result:
+        return Result({"status": OK, "code": code, "digest_length": size, "taken": end})
 
     return front("bytes", bytes_length, stopped, both)
 
 
-def read_limit(bytes_length: Any, limit: Value) -> Case:
-    def fits(code: Any, size: Any, end: Any) -> Case:
+def read_limit(bytes_length: Any, limit: Value) -> Front:
+    def fits(code: Any, size: Any, end: Any) -> Rows:
         after = widened(end)
         pair = {"code": code, "digest_offset": end, "digest_length": size, "taken": after + size}
-        return first(
-            (is_too_long(size, limit), Case({"status": INVALID_SIZE, "size": size, "taken": end})),
+        return [
+            (is_too_long(size, limit), Result({"status": INVALID_SIZE, "size": size, "taken": end})),
             (z3.ULT(widened(bytes_length) - after, size), stopped(UNEXPECTED_EOF, end)),
-            otherwise=Case({"status": OK, **pair}),
-        )
+            (True, Result({"status": OK, **pair})),
+        ]
 
     return front("bytes", bytes_length, stopped, fits)
 
 
-def read(bytes_length: Any) -> Case:
+def read(bytes_length: Any) -> Front:
     return read_limit(bytes_length, 255)
 
 
-def whole(name: str, length: Any, whole_length: Any) -> Case:
+def whole(name: str, length: Any, whole_length: Any) -> Front:
     """The verdict on an input of `whole_length` bytes, of which the first `length` are there."""
 
-    def malformed(status: Value, _: Value) -> Case:
+    def malformed(status: Value, _: Value) -> Result:
         return stopped(status, whole_length)
 
-    def fits(code: Any, size: Any, end: Any) -> Case:
+    def fits(code: Any, size: Any, end: Any) -> Rows:
         left = widened(whole_length) - widened(end)
         pair = {"code": code, "digest_offset": end, "digest_length": size}
-        return first(
-            (is_too_long(size), Case({"status": INVALID_SIZE, "size": size, "taken": whole_length})),
+        return [
+            (is_too_long(size), Result({"status": INVALID_SIZE, "size": size, "taken": whole_length})),
             (z3.ULT(left, size), stopped(UNEXPECTED_EOF, whole_length)),
-            (z3.UGT(left, size), Case({"status": INVALID_SIZE, "size": left - size, "taken": whole_length})),
-            otherwise=Case({"status": OK, **pair, "taken": whole_length}),
-        )
+            (z3.UGT(left, size), Result({"status": INVALID_SIZE, "size": left - size, "taken": whole_length})),
+            (True, Result({"status": OK, **pair, "taken": whole_length})),
+        ]
 
     return front(name, length, malformed, fits)
 
 
-def from_bytes(bytes_length: Any) -> Case:
+def from_bytes(bytes_length: Any) -> Front:
     return whole("bytes", bytes_length, bytes_length)
 
 
-def from_prefix(prefix_length: Any, whole_length: Any) -> Case:
+def from_prefix(prefix_length: Any, whole_length: Any) -> Front:
     is_less = z3.ULT(prefix_length, whole_length)
     return whole("prefix", z3.If(is_less, prefix_length, whole_length), whole_length)
 
 
 # The encoding
-def written(room: Any, head: list[Any], digest: Any) -> Case:
+def written(room: Any, head: list[Any], digest: Any) -> Rows:
     """These bytes and that many of the digest, if there is room for them."""
     length = len(head) + widened(digest)
-    return first(
-        (z3.UGT(length, widened(room)), Case({"status": NO_ROOM, "length": length})),
-        otherwise=Case({"status": OK, "length": length}, head=head, digest=digest),
-    )
+    return [
+        (z3.UGT(length, widened(room)), Result({"status": NO_ROOM, "length": length})),
+        (True, Result({"status": OK, "length": length}, head, digest)),
+    ]
 
 
-def fitting(code: Any, digest_length: Any, pair: Case) -> Case:
+def fitting(code: Any, digest_length: Any, pair: Any) -> Rows:
     """The errors of the functions that encode, and what holds without one."""
-    return first(
-        (z3.UGT(digest_length, 255), Case({"status": INVALID_SIZE, "size": digest_length})),
-        (z3.Not(is_code(code)), Case({"status": INVALID_CODE})),
-        otherwise=pair,
-    )
+    return [
+        (z3.UGT(digest_length, 255), Result({"status": INVALID_SIZE, "size": digest_length})),
+        (z3.Not(is_code(code)), Result({"status": INVALID_CODE})),
+        (True, pair),
+    ]
 
 
-def write_varint(value: Any, out_length: Any) -> Case:
-    return first(
-        (z3.Not(is_code(value)), Case({"status": OVERFLOW})),
-        otherwise=varint_of(value, lambda head: written(out_length, head, 0)),
-    )
+def write_varint(value: Any, out_length: Any) -> Rows:
+    varints = varint_of(value, lambda head: written(out_length, head, 0))
+    return [(z3.Not(is_code(value)), Result({"status": OVERFLOW})), (True, varints)]
 
 
-def encoding(code: Any, size: Any, then: Callable[[list[Any]], Case]) -> Case:
-    return varint_of(code, lambda front: varint_of(widened(size), lambda end: then(front + end)))
+def encoding(code: Any, size: Any, then: Callable[[list[Any]], Any]) -> Rows:
+    return varint_of(code, lambda first: varint_of(widened(size), lambda second: then(first + second)))
 
 
-def encode(code: Any, digest_length: Any, out_length: Any) -> Case:
+def encode(code: Any, digest_length: Any, out_length: Any) -> Rows:
     pair = encoding(code, digest_length, lambda head: written(out_length, head, digest_length))
     return fitting(code, digest_length, pair)
 
 
-def encoded_len(code: Any, digest_length: Any) -> Case:
-    def counted(head: list[Any]) -> Case:
-        return Case({"status": OK, "length": len(head) + widened(digest_length)})
+def encoded_len(code: Any, digest_length: Any) -> Rows:
+    def counted(head: list[Any]) -> Result:
+        return Result({"status": OK, "length": len(head) + widened(digest_length)})
 
     return fitting(code, digest_length, encoding(code, digest_length, counted))
 
 
 # SCALE
-def scale_decode(bytes_length: Any) -> Case:
+def scale_decode(bytes_length: Any) -> Rows:
     length, source = widened(bytes_length), [z3.BitVec(f"bytes[{i}]", 8) for i in range(9)]
     code, size = z3.Concat(*reversed(source[:8])), widened(source[8])
-    pair = {"code": code, "digest_offset": 9, "digest_length": size, "taken": 9 + size}
-    return first(
+    return [
         (z3.ULT(length, 8), stopped(UNEXPECTED_EOF, 0)),
-        (z3.Not(is_code(code)), Case({"status": INVALID_CODE, "code": code, "taken": 8})),
+        (z3.Not(is_code(code)), Result({"status": INVALID_CODE, "code": code, "taken": 8})),
         (length == 8, stopped(UNEXPECTED_EOF, 8)),
         (z3.ULT(length - 9, size), stopped(UNEXPECTED_EOF, 9)),
-        otherwise=Case({"status": OK, **pair}),
-    )
+        (True, Result({"status": OK, "code": code, "digest_offset": 9, "digest_length": size, "taken": 9 + size})),
+    ]
 
 
-def scale_encode(code: Any, digest_length: Any, out_length: Any) -> Case:
+def scale_encode(code: Any, digest_length: Any, out_length: Any) -> Rows:
     head = [z3.Extract(8 * i + 7, 8 * i, code) for i in range(8)] + [z3.Extract(7, 0, digest_length)]
     return fitting(code, digest_length, written(out_length, head, digest_length))
 
 
 # Equality and order
-def compare(left_code: Any, left_digest_length: Any, right_code: Any, right_digest_length: Any) -> Case:
+def compare(left_code: Any, left_digest_length: Any, right_code: Any, right_digest_length: Any) -> Rows:
     digests = z3.BitVec("the order of left_digest and right_digest", 32)  # by the first byte that differs
-    equal = first(
-        (left_digest_length == 0, Case({"": 0})),
-        (digests < 0, Case({"": -1})),
-        (digests == 0, Case({"": 0})),
-        otherwise=Case({"": 1}),
-    )
-    same = [left_code == right_code, left_digest_length == right_digest_length]
-    return Case(
-        parts=[
-            Case({"": -1}).if_all(z3.ULT(left_code, right_code)),
-            Case({"": 1}).if_all(z3.UGT(left_code, right_code)),
-            Case({"": -1}).if_all(same[0], z3.ULT(left_digest_length, right_digest_length)),
-            Case({"": 1}).if_all(same[0], z3.UGT(left_digest_length, right_digest_length)),
-            equal.if_all(*same),
-        ]
-    )
+    less, equal, greater = (Result({"": order}) for order in (-1, 0, 1))
+    return [
+        (z3.ULT(left_code, right_code), less),
+        (z3.UGT(left_code, right_code), greater),
+        (z3.ULT(left_digest_length, right_digest_length), less),
+        (z3.UGT(left_digest_length, right_digest_length), greater),
+        (z3.Or(left_digest_length == 0, digests == 0), equal),
+        (digests < 0, less),
+        (True, greater),
+    ]
 
 
 # The header alone
-def version() -> Case:
-    return Case({"": int(re.findall(r"#define MULTIHASH_VERSION_NUMBER (\d+)", HEADER)[0])})
+def version() -> Rows:
+    return [(True, Result({"": int(re.findall(r"#define MULTIHASH_VERSION_NUMBER (\d+)", HEADER)[0])}))]
 
 
-def texts(status: Any, then: Callable[[bytes], Case]) -> Case:
+def texts(status: Any, then: Callable[[bytes], Any]) -> Rows:
     """The text of each status, which the header alone defines."""
     found = re.findall(r'(?:case MULTIHASH_\w+|default):\s*return "(.*?)";', HEADER)
     *rows, other = [then(text.encode()) for text in found]
-    return first(*((status == i, row) for i, row in enumerate(rows)), otherwise=other)
+    return [*((status == i, row) for i, row in enumerate(rows)), (True, other)]
 
 
-def status_text(status: Any) -> Case:
-    return texts(status, lambda text: Case({"": text}))
+def status_text(status: Any) -> Rows:
+    return texts(status, lambda text: Result({"": text}))
 
 
-def put_status_text(status: Any, out_length: Any) -> Case:
-    return texts(status, lambda text: written(out_length, list(text), 0))
+def put_status_text(status: Any, out_length: Any) -> Rows:
+    return texts(status, lambda text: written(out_length, [z3.BitVecVal(byte, 8) for byte in text], 0))
 
 
-def is_incomplete(status: Any) -> Case:
+def is_incomplete(status: Any) -> Rows:
     ends = z3.Or(status == INSUFFICIENT, status == UNEXPECTED_EOF)
-    return first((ends, Case({"": 1})), otherwise=Case({"": 0}))
+    return [(ends, Result({"": 1})), (True, Result({"": 0}))]

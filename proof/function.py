@@ -1,149 +1,119 @@
 """Compares a function of multihash.h with its definition, at the end of each path."""
-from collections.abc import Callable
+from functools import partial
 from typing import Any
 
 import definitions
 import z3
 from c import Run
-from definitions import FIRST, OK, SECOND, Case, widened
-from memory import Place, Pointer, Region, Value, Variable, Write
-from path import Refused, paths
-from tree import Node, Unit, type_of
+from definitions import FIRST, OK, SECOND, Front, Result, widened
+from memory import Place, Pointer, Region, Value, Variable
+from path import Refused, miswritten, run_paths
+from tree import Unit, type_of
 
-SUMMARY = "get_varint"  # a function whose result is shown once: get_varint(bytes, length, &number, &count)
+# Static functions of this type read a varint: of `bytes` with a length, the number and how many bytes it has. Each is
+# shown once. Where another function calls one it returns FIRST or SECOND.
+READER = "multihash_status (const uint8_t *, size_t, uint64_t *, size_t *)"
+
+
+def readers_of(unit: Unit) -> list[str]:
+    return [name for name, node in unit.functions.items() if node["type"]["qualType"] == READER]
 
 
 class Check:
-    """A function of multihash.h, by the name after `multihash_`, or SUMMARY."""
+    """A function, by its name or by what follows `multihash_` in it."""
+
+    kind = "wrong result"
 
     def __init__(self, unit: Unit, name: str):
-        self.unit, self.name = unit, name if name == SUMMARY else f"multihash_{name}"
+        self.unit, self.name = unit, name if name in unit.functions else f"multihash_{name}"
         if self.name not in unit.functions:
             raise Refused(f"unknown: the source has no {self.name}")
-        self.parameters, _ = unit.function(self.name)
-        self.result = unit.functions[self.name]["type"]["qualType"].split("(")[0].strip()
-        names = [node["name"] for node in self.parameters]
-        for node, following in zip(self.parameters, [*names[1:], ""]):
-            if is_pointer(node) and following != f"{node['name']}_length" and name != SUMMARY:
-                raise Refused(f"unknown: {node['name']} without its length after it")
-        numbers = [node for node in self.parameters if not is_pointer(node)]
-        self.given = {node["name"]: z3.BitVec(node["name"], unit.width(type_of(node))) for node in numbers}
+        self.is_reader = self.name in readers_of(unit)
+        self.types = {node["name"]: type_of(node) for node in unit.function(self.name)[0]}
+        numbers = {name: kind for name, kind in self.types.items() if not kind.endswith("*")}
+        self.given = {name: z3.BitVec(name, unit.width(kind)) for name, kind in numbers.items()}
+        self.start: Any = z3.BitVecVal(0, unit.word)  # where FIRST is
         self.solver = z3.SolverFor("QF_BV")
-        self.paths = 0
 
-    def case(self) -> Case:
-        if self.name == SUMMARY:
-            return definitions.front_varint(*self.given.values())
-        definition: Callable[..., Case] | None = getattr(definitions, self.name.removeprefix("multihash_"), None)
-        if not definition:
+    def definition(self) -> Any:
+        name = "get_varint" if self.is_reader else self.name.removeprefix("multihash_")
+        if not hasattr(definitions, name):
             raise Refused("unknown: definitions.py does not have this function")
-        return definition(*self.given.values())
+        return getattr(definitions, name)(*self.given.values())
 
     def arguments(self) -> dict[str, Value]:
         """The arguments by their names, anew for each path."""
-        arguments: dict[str, Value] = dict(self.given)
-        for node in filter(is_pointer, self.parameters):
-            name, kind = node["name"], node["type"]["qualType"]
-            if self.name == SUMMARY and "const" not in kind:
-                arguments[name] = Place(Variable(name, None, type_of(node).removesuffix(" *")))
+        arguments: dict[str, Value] = {}
+        for name, kind in self.types.items():
+            length = self.given.get("length" if self.is_reader else f"{name}_length")
+            if name in self.given:
+                arguments[name] = self.given[name]
+            elif self.is_reader and name != "bytes":
+                arguments[name] = Place(Variable(name, kind.removesuffix(" *")))
+            elif length is not None:
+                arguments[name] = Pointer(
+                    Region(name, length, is_output=name == "out"), z3.BitVecVal(0, self.unit.word)
+                )
             else:
-                length = self.given[f"{name}_length" if self.name != SUMMARY else "length"]
-                arguments[name] = Pointer(Region(name, length, name == "out", "uint8_t" in kind))
-        return {node["name"]: arguments[node["name"]] for node in self.parameters}
+                raise Refused(f"unknown: {name} without its length")
+        return arguments
 
-    def run(self) -> None:
-        case = self.case()
-        if case.front:
-            self.solver.add(definitions.both_hold(*case.front))
-        for path in paths(self.solver, lambda prefix, model: Run(self.unit, self.solver, prefix, model)):
-            self.paths += 1
-            try:
-                self.path(path, case)
-            except Refused as why:
-                raise Refused(f"{why} (line {path.line})") from why
+    def run(self) -> int:
+        definition = self.definition()
+        if isinstance(definition, Front):
+            self.solver.add(definition.holds())
+        return run_paths(self.solver, self.new_path, lambda path: self.compare(path, definition))
 
-    def path(self, path: Run, case: Case) -> None:
-        arguments = self.arguments()
-        if case.front:
-            path.summaries[SUMMARY] = lambda *given: self.get_varint(path, case.front, 0, *given)
-        result = path.call(self.name, list(arguments.values()))
-        path.compare(case, lambda leaf: self.wrong(path, result, arguments, leaf))
+    def new_path(self, prefix: list[bool], model: Any) -> Run:
+        return Run(self.unit, self.solver, prefix, model)
 
-    def get_varint(
-        self, path: Run, front: Any, start: Value, bytes_: Value, length: Value, number: Value, count: Value
-    ) -> Value:
-        """What SUMMARY does: FIRST is of the bytes at `start`, of which `front` has the name and their number."""
-        if not isinstance(bytes_, Pointer) or bytes_.region.name != front[0]:
+    def compare(self, path: Run, definition: Any) -> None:
+        """Runs a path to its end, and compares what is there."""
+        rows, path.arguments = definition, self.arguments()
+        if isinstance(definition, Front):
+            rows = definition.rows
+            for reader in readers_of(self.unit):
+                path.summaries[reader] = partial(self.varint, path, definition)
+        result = path.call(self.name, list(path.arguments.values()))
+        path.compare(rows, lambda wanted: self.wrong(path, result, wanted), self.kind)
+
+    def varint(self, path: Run, front: Front, bytes_: Value, length: Value, number: Value, count: Value) -> Value:
+        """What a call of a function for varints does."""
+        if not isinstance(bytes_, Pointer) or bytes_.region.name != front.name:
             raise Refused("unknown: the varint of something else")
-        at = z3.simplify(path.size(bytes_.offset) - path.size(start))
+        at = z3.simplify(bytes_.offset - self.start)
         is_first = z3.is_bv_value(at) and at.as_long() == 0
         varint, before = (FIRST, path.size(0)) if is_first else (SECOND, path.size(FIRST.end))
-        if not is_first:
-            path.must(FIRST.status == OK, "unknown: a varint after none")
-            path.must(at == before, "unknown: the varint at another place")
-        path.must(path.size(length) == path.size(front[1]) - before, "unknown: the varint of another number of bytes")
-        path.store(number, varint.value if path.decide(varint.status == OK) else None)
+        path.must(is_first or FIRST.status == OK, "unknown: a varint after none")
+        is_next = z3.And(at == before, length == path.size(front.length) - before)
+        path.must(is_next, "unknown: the varint of other bytes")
+        path.store(number, varint.number if path.decide(varint.status == OK) else None)
         path.store(count, path.size(varint.end) - before)
-        return path.converted(varint.status, "unsigned char", "unsigned int")
+        return z3.ZeroExt(24, varint.status)
 
-    def wrong(self, path: Run, result: Value, arguments: dict[str, Value], case: Case) -> dict[str, Any]:
+    def wrong(self, path: Run, result: Value, wanted: Result) -> dict[str, Any]:
         """What may be wrong at the end of a path, and when."""
-        if self.name == SUMMARY:
-            number, count = (x.variable for x in arguments.values() if isinstance(x, Place))
-            found = {"status": (result, self.result), "taken": (path.load(Place(count)), count.kind)}
-            if case.result["status"] == OK:
-                found["value"] = (path.load(Place(number)), number.kind)
-            return {n: differs(path, *found[n], wanted) for n, wanted in case.result.items()}
-        if isinstance(result, dict):
-            wrong = self.members(path, result, self.result, case.result)
-        elif isinstance(result, Pointer):
-            wrong = {"text": result.region.text != case.result[""] or result.offset != 0}
-        else:
-            wrong = {"number": differs(path, result, self.result, case.result[""])}
-        return wrong | (misplaced(path, arguments["out"].region, case) if "out" in arguments else {})
-
-    def members(self, path: Run, found: Value, record: str, wanted: dict[str, Value]) -> dict[str, Any]:
-        """Which members of a structure are not as they should be, and when."""
-        kinds = self.unit.fields(record)
-        if wanted.keys() - kinds.keys():
-            raise Refused(f"unknown: a definition of more than {record} has")
-        if None in found.values():
-            raise Refused(f"uninitialized: a member of {record}")
-        return {name: differs(path, x, kinds[name], wanted.get(name, 0)) for name, x in found.items()}
+        found = result if isinstance(result, dict) else {"": result}
+        if self.is_reader:
+            number, count = (x.variable.value for x in path.arguments.values() if isinstance(x, Place))
+            found = {"status": result, "taken": count}
+            if wanted.members["status"] == OK:
+                found["value"] = number
+        wrong = different(found, wanted.members)
+        if "out" in path.arguments:
+            out = path.arguments["out"].region
+            wrong |= miswritten(out.written, out.copied, wanted)
+        return wrong
 
 
-def is_pointer(node: Node) -> bool:
-    return type_of(node).endswith("*")
+def different(found: dict[str, Value], wanted: dict[str, Value]) -> dict[str, Any]:
+    """Which members are not as they should be, and when. Those that are not wanted are 0."""
+    if wanted.keys() - found.keys() or None in found.values():
+        raise Refused("uninitialized: a member of the result, or it has other members than its definition")
+    return {name: differs(x, wanted.get(name, 0)) for name, x in found.items()}
 
 
-def differs(path: Run, x: Value, kind: str, wanted: Value) -> Any:
-    """When a number is another one."""
-    vector = path.vector(x, kind)
-    return vector != wanted if isinstance(wanted, int) and wanted < 0 else widened(vector) != widened(wanted)
-
-
-def misplaced(path: Run, out: Region, case: Case) -> dict[str, Any]:
-    """When `out` has other bytes than those of the case. Writes do not overlap, so it is enough that each is one of
-    these, and that there are as many."""
-    wrong = [z3.BoolVal(False)]
-    count: Any = z3.BitVecVal(0, 64)
-    for write in out.writes:
-        count += widened(path.size(write.count))
-        wrong.append(is_misplaced(path, write, case))
-    return {"bytes of out": z3.Or(wrong), "the number of bytes in out": count != len(case.head) + widened(case.digest)}
-
-
-def is_misplaced(path: Run, write: Write, case: Case) -> Any:
-    at, head = write.offset, case.head
-    if isinstance(write.source, Pointer):  # a copy
-        start, end = (widened(path.size(x)) for x in (write.source.offset, write.count))
-        is_digest = z3.BoolVal(write.source.region.name == "digest")
-        in_place = widened(path.size(at)) == len(head) + start
-        return z3.Not(z3.And(is_digest, in_place, z3.ULE(start + end, widened(case.digest))))
-    if not isinstance(at, int):
-        raise Refused("unknown: a write at an index that is not known")
-    byte = path.vector(write.source, "unsigned char")
-    if at < len(head):
-        return byte != (z3.BitVecVal(head[at], 8) if isinstance(head[at], int) else head[at])
-    copied = z3.BitVec(f"digest[{at - len(head)}]", 8)
-    return z3.Or(byte != copied, z3.UGE(z3.BitVecVal(at - len(head), 64), widened(case.digest)))
+def differs(x: Value, wanted: Value) -> Any:
+    if isinstance(x, Pointer):
+        return x.region.text != wanted + b"\0" or x.offset != 0
+    return x != wanted if isinstance(wanted, int) else widened(x) != widened(wanted)

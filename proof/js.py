@@ -6,13 +6,13 @@ import subprocess
 from collections import ChainMap
 from collections.abc import Callable, Iterator
 from dataclasses import dataclass, replace
-from functools import cache, partial
+from functools import partial
 from pathlib import Path as File
 from typing import Any
 
 import z3
-from js_values import WIDTH, Bytes, Number, Operators, Value, known, related, symbol
-from path import Refused
+from js_values import Array, Number, Operators, Value, known, related, symbol
+from path import Refused, Return
 
 Node = dict[str, Any]  # of acorn's tree
 GLOBALS = frozenset(["BigInt", "Math", "Number", "Uint8Array"])
@@ -29,50 +29,46 @@ class Variable:
 Scope = ChainMap[str, Variable]  # the variables of a block, and of those around it
 
 
-class Return(Exception):
-    """The end of a function: its argument is what that returns."""
-
-
 class Run(Operators):
-    """A path through functions of a program."""
+    """A path through functions of a program. For a function of `summaries` a call returns what that does."""
 
-    def __init__(self, program: "Program", solver: Any, prefix: list[bool], model: Any = None):
+    def __init__(self, program: "Program", solver: Any, prefix: list[bool], model: Any):
         super().__init__(solver, prefix, model)
-        self.program, self.depth, self.line = program, 0, 0
+        self.program, self.depth = program, 0
+        self.summaries: dict[str, Callable[..., Value]] = {}
 
     # ---- arrays
     def place(self, array: Value, index: Value) -> int:
         """The place of an index in an array, which has to be there."""
-        place = z3.simplify(self.number(index, "number").x - array.origin.x) if isinstance(array, Bytes) else None
-        if not z3.is_bv_value(place):
-            raise Refused(f"unknown: the element {place} of {array}")
-        at = known(place.as_signed_long())
-        self.must(at.low >= 0, f"outside {array.name}")
-        self.must(related("<", at, array.count), f"outside {array.name}")
-        return at.low
+        x = self.number(index, "number").x
+        place = Number(z3.simplify(x - array.origin.x)).known if isinstance(array, Array) else None
+        if place is None:
+            raise Refused(f"unknown: an element of {array}")
+        self.must(z3.And(place >= 0, related("<", known(place), array.count)), f"outside {array.name}")
+        return place
 
     def load(self, array: Value, index: Value) -> Number:
         place = self.place(array, index)
         if array.role != "input":
             raise Refused(f"unknown: {array.name} is read")
-        return symbol(z3.BitVec(f"{array.name}[{place}]", 8), 255)
+        return symbol(z3.BitVec(f"{array.name}[{place}]", 8))
 
     def store(self, array: Value, index: Value, x: Value) -> Value:
         place, byte = self.place(array, index), self.number(x, "number")
         if array.role == "input":
             raise Refused(f"unknown: {array.name} is written")
         self.must(z3.And(byte.x >= 0, byte.x <= 255), "not exact: a byte")
-        array.written[place] = byte
+        array.written[place] = z3.Extract(7, 0, byte.x)
         return byte
 
     def copy(self, target: Value, source: Value, index: Value) -> None:
         """The method `set` of a new array, which is that of Uint8Array, for all bytes of an input."""
-        roles = [each.role for each in (target, source) if isinstance(each, Bytes)]
-        at = self.number(index, "number")
-        if roles != ["new", "input"] or not at.is_known or at.low < 0:
+        roles = [each.role for each in (target, source) if isinstance(each, Array)]
+        at = self.number(index, "number").known
+        if roles != ["new", "input"] or at is None or at < 0:
             raise Refused(f"unknown: set of {source} at {index}")
-        self.must(source.count.x + at.low <= target.count.x, f"outside {target.name}")
-        target.copied.append((at.low, source.name))
+        self.must(source.count.x + at <= target.count.x, f"outside {target.name}")
+        target.copied.append((at, source.name, z3.Extract(63, 0, source.count.x)))
 
     # ---- calls
     def call_of(self, callee: Node, arguments: list[Value], scope: Scope) -> Value:
@@ -83,10 +79,9 @@ class Run(Operators):
                 return self.built_in(name, arguments)
             case {"computed": False, "object": {"name": owner}, "property": {"name": name}} if owner in GLOBALS:
                 return self.built_in(f"{owner}.{name}", arguments)
-            case {"computed": False, "object": {"name": _} as owner, "property": {"name": "set"}} if len(
-                arguments
-            ) == 2:
-                return self.copy(self.value(owner, scope), *arguments)
+            case {"computed": False, "object": {"name": _} as owner, "property": {"name": "set"}}:
+                if len(arguments) == 2:
+                    return self.copy(self.value(owner, scope), *arguments)
         raise Refused("unknown: a call of something else")
 
     def built_in(self, name: str, arguments: list[Value]) -> Value:
@@ -94,32 +89,32 @@ class Run(Operators):
             case "BigInt", [x]:
                 return replace(self.number(x), type="bigint")
             case "Number", [x]:
-                x = self.number(x)
-                return self.made(x.x, x.low, x.high, "number")
+                return self.made(self.number(x).x, "number")
             case "Math.floor", [x]:
                 return replace(self.number(x, "quotient", "number"), type="number")
-            case "Math.min" | "Math.max", [a, b]:
+            case "Math.min", [a, b]:
                 a, b = self.number(a, "number"), self.number(b, "number")
-                return a if self.decide(related("<=" if name == "Math.min" else ">=", a, b)) else b
-            case "BigInt.asUintN", [Number(is_known=True, type="number") as bits, x] if 0 <= bits.high < WIDTH:
-                return self.binary("&", self.number(x, "bigint"), known(2**bits.high - 1, "bigint"))
-            case "new Uint8Array", [Number(type="number") as count] if count.low >= 0 and count.high <= MOST_BYTES:
-                return Bytes("a new array", count, role="new")
+                return a if self.decide(related("<=", a, b)) else b
+            case "BigInt.asUintN", [Number(known=int(bits), type="number"), x] if 0 <= bits < 64:
+                return self.binary("&", self.number(x, "bigint"), known(2**bits - 1, "bigint"))
+            case "new Uint8Array", [Number(type="number") as count]:
+                self.must(z3.And(count.x >= 0, count.x <= MOST_BYTES), "unknown: new Uint8Array of so many bytes")
+                return Array("a new array", count, role="new")
         raise Refused(f"unknown: {name} of {arguments}")
 
     def call(self, name: str, arguments: list[Value]) -> Value:
         """What a function of the program returns."""
         function, scope = self.program.functions[name], Scope()
         parameters, body = function["params"], function["body"]
-        if name in self.program.summaries and len(arguments) == len(parameters):
-            return self.program.summaries[name](self, *arguments)
+        if len(arguments) != len(parameters):
+            raise Refused(f"unknown: a call of {name}")
+        if name in self.summaries:
+            return self.summaries[name](self, *arguments)
         self.depth += 1
-        if self.depth > MOST_DEPTH or len(arguments) > len(parameters):
-            raise Refused(f"no end: {MOST_DEPTH} calls deep" if self.depth > MOST_DEPTH else f"unknown: call of {name}")
-        for at, parameter in enumerate(parameters):
-            default = parameter.get("right")
-            x = arguments[at] if at < len(arguments) else default and self.value(default, scope)
-            self.declare(parameter.get("left", parameter), x, scope, is_const=False)
+        if self.depth > MOST_DEPTH:
+            raise Refused(f"no end: {MOST_DEPTH} calls deep")
+        for parameter, x in zip(parameters, arguments):
+            self.declare(parameter, x, scope, is_const=False)
         result = None
         try:
             if body["type"] == "BlockStatement":
@@ -133,13 +128,12 @@ class Run(Operators):
 
     # ---- expressions
     def value(self, node: Node, scope: Scope) -> Value:
-        self.step()
-        self.line = node["loc"]["start"]["line"]
+        self.step(node["loc"]["start"]["line"])
         of = partial(self.value, scope=scope)
         match node:
-            case {"type": "Literal", "value": bool() | str() as x}:
+            case {"type": "Literal", "value": str(x)}:
                 return x
-            case {"type": "Literal", "value": int(x)}:
+            case {"type": "Literal", "value": int(x)} if not isinstance(x, bool):
                 return known(x)
             case {"type": "Identifier", "name": name} if name in scope:
                 return scope[name].value
@@ -197,7 +191,7 @@ class Run(Operators):
         return before, after
 
     def statement(self, node: Node, scope: Scope) -> None:
-        self.line = node["loc"]["start"]["line"]
+        self.step(node["loc"]["start"]["line"])
         match node:
             case {"type": "BlockStatement", "body": body}:
                 inner = scope.new_child()
@@ -211,18 +205,20 @@ class Run(Operators):
             case {"type": "VariableDeclaration", "kind": kind, "declarations": declarations}:
                 for each in declarations:
                     self.declare(each["id"], each["init"] and self.value(each["init"], scope), scope, kind == "const")
-            case {"type": "WhileStatement" | "ForStatement", "test": {} as test, "body": body}:
+            case {"type": "ForStatement", "init": init, "test": {} as test, "update": {} as update, "body": body}:
                 inner = scope.new_child()
-                if node.get("init"):
-                    self.statement(node["init"], inner)
-                while self.truth(self.value(test, inner)):
-                    self.statement(body, inner)
-                    if node.get("update"):
-                        self.value(node["update"], inner)
+                if init:
+                    self.statement(init, inner)
+                self.loop(test, update, body, inner)
             case {"type": "ExpressionStatement", "expression": x}:
                 self.value(x, scope)
             case _:
                 raise Refused(f"unknown: {node['type']}")
+
+    def loop(self, test: Node, update: Node, body: Node, scope: Scope) -> None:
+        while self.truth(self.value(test, scope)):
+            self.statement(body, scope)
+            self.value(update, scope)
 
 
 def member(x: Value, name: str) -> Value:
@@ -244,8 +240,6 @@ def names_of(pattern: Node) -> list[str]:
     match pattern:
         case {"type": "Identifier", "name": name}:
             return [name]
-        case {"type": "AssignmentPattern", "left": {"name": name}, "right": {"type": "Literal"}}:
-            return [name]
         case {"type": "ObjectPattern", "properties": properties}:
             return [name for each in properties for name in names_of(each.get("value", each))]
     raise unknown(pattern, f"the declaration {pattern['type']}")
@@ -264,33 +258,26 @@ def unknown(node: Node, what: str) -> Refused:
     return Refused(f"unknown: {what} (line {node['loc']['start']['line']})")
 
 
-@cache
-def tree_of(text: str) -> list[Node]:
-    if found := re.search(r"[@#]__\w*", text):
-        raise Refused(f"unknown: {found[0]}, by which a bundler leaves out calls")
-    command = ["acorn", "--ecma2022", "--module", "--locations", "--compact"]
-    done = subprocess.run(command, input=text, capture_output=True, text=True)
-    if done.returncode:
-        raise Refused(f"unknown: what acorn does not read: {done.stderr[:200]}")
-    body: list[Node] = json.loads(done.stdout)["body"]
-    return body
-
-
 KINDS = """Identifier Literal ObjectExpression Property UnaryExpression BinaryExpression LogicalExpression NewExpression
     ConditionalExpression MemberExpression CallExpression AssignmentExpression UpdateExpression BlockStatement ReturnStatement
-    IfStatement VariableDeclaration VariableDeclarator WhileStatement ForStatement ExpressionStatement ObjectPattern
-    AssignmentPattern""".split()
+    IfStatement VariableDeclaration VariableDeclarator ForStatement ExpressionStatement ObjectPattern""".split()
 
 
 class Program:
-    """The functions and constants of a module. For a function of `summaries` a call returns what that does."""
+    """The functions and constants of a module."""
 
-    def __init__(self, path: File, text: str | None = None):
+    def __init__(self, path: File):
         self.functions: dict[str, Node] = {}
         self.constants: dict[str, Value] = {}
-        self.summaries: dict[str, Callable[..., Value]] = {}
         self.exports: set[str] = set()
-        for node in tree_of(path.read_text("utf-8") if text is None else text):
+        text = path.read_text("utf-8")
+        if found := re.search(r"[@#]__\w*", text):
+            raise Refused(f"unknown: {found[0]}, by which a bundler leaves out calls")
+        command = ["acorn", "--ecma2022", "--module", "--locations", "--compact"]
+        done = subprocess.run(command, input=text, capture_output=True, text=True)
+        if done.returncode:
+            raise Refused(f"unknown: what acorn does not read: {done.stderr[:200]}")
+        for node in json.loads(done.stdout)["body"]:
             before = {*self.functions}
             is_export = node["type"] == "ExportNamedDeclaration"
             self.top(node["declaration"] or node if is_export else node, path.parent)
@@ -300,33 +287,30 @@ class Program:
 
     def top(self, node: Node, folder: File) -> None:
         """Reads a statement of the module: a function, or constants that cannot change."""
-        found: list[tuple[Node, Value]] = []
         match node:
             case {"type": "FunctionDeclaration", "id": name}:
-                found = [(name, node)]
+                self.add(name, node)
             case {"type": "VariableDeclaration", "kind": "const", "declarations": declarations}:
-                found = [(each["id"], self.constant(each["init"])) for each in declarations]
+                for each in declarations:
+                    is_function = each["init"]["type"] == "ArrowFunctionExpression"
+                    self.add(each["id"], each["init"] if is_function else self.constant(each["init"]))
             case {"type": "ImportDeclaration", "source": {"value": "./limits.js"}, "specifiers": names}:
                 limits = Program(folder / "limits.js").constants
-                found = [(each["local"], limits.get(each.get("imported", {}).get("name"))) for each in names]
+                for each in names:
+                    self.add(each["local"], limits.get(each.get("imported", {}).get("name")))
             case _:
                 raise unknown(node, f"{node.get('kind', node['type'])} outside of functions")
-        for name, x in found:
-            is_function = isinstance(x, dict) and "params" in x and not x["async"] and not x["generator"]
-            if (
-                name["type"] != "Identifier"
-                or name["name"] in GLOBALS
-                or not is_function
-                and not isinstance(x, (Number, str))
-            ):
-                raise unknown(node, f"the constant {name.get('name')}")
-            (self.functions if is_function else self.constants)[name["name"]] = x
 
     def constant(self, node: Node) -> Value:
-        try:
-            return node if node["type"] == "ArrowFunctionExpression" else Run(self, None, []).value(node, Scope())
-        except Refused as why:
-            raise Refused(f"{why} (line {node['loc']['start']['line']})") from None
+        return Run(self, z3.Solver(), [], None).value(node, Scope())
+
+    def add(self, pattern: Node, x: Value) -> None:
+        name, is_function = pattern.get("name"), isinstance(x, dict) and "params" in x
+        if is_function and (x["async"] or x["generator"]) or not is_function and not isinstance(x, (Number, str)):
+            raise unknown(pattern, f"the constant {name}")
+        if name is None or name in GLOBALS:
+            raise unknown(pattern, f"the constant {name}")
+        (self.functions if is_function else self.constants)[name] = x
 
     def look(self, function: Node) -> None:
         """Refuses what nothing in a function may be, even what is not run, and a name that is declared twice: each name is

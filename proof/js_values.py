@@ -1,50 +1,52 @@
 """What a variable of JavaScript may have, and the operators: on whole numbers that are exact, and nothing else."""
 import operator
-from dataclasses import dataclass, field, replace
-from functools import cache
+from dataclasses import dataclass, field
 from typing import Any
 
 import z3
-from path import Path, Refused
+from path import Path, Refused, formula
 
-WIDTH = 72  # of bit vectors: all numbers are below 2^66, so that no operation wraps
+WIDTH = 72  # of bit vectors: all numbers are below 2^66, so that no sum wraps
 SAFE = 2**53 - 1  # numbers up to here are exact
 BIG = 2**66 - 1  # a bound of this program: a bigint has none
 INT = 2**31 - 1
 
-Value = Any  # a Number, a bool or a condition of z3, a str or a Text, a Bytes, or a dict: an object
+Value = Any  # a Number, a bool or a condition of z3, a str or a Text, an Array, or a dict: an object
 
 
 @dataclass(frozen=True)
 class Number:
-    """A whole number: a bit vector, and bounds that hold on each path. Its type is number or bigint; or wide, a bigint if it
-    is above SAFE and otherwise a number; or quotient, a number of which this is the floor."""
+    """A whole number: a bit vector. Its type is number or bigint; or wide, a bigint if it is above SAFE and otherwise a number;
+    or quotient, a number of which this is the floor."""
 
     x: Any
-    low: int
-    high: int
     type: str = "number"
-    zeros: int = 0  # the number of lowest bits that are zero
 
     @property
-    def is_known(self) -> bool:
-        return self.low == self.high
+    def known(self) -> int | None:
+        return self.x.as_signed_long() if z3.is_bv_value(self.x) else None
 
     @property
-    def is_power(self) -> bool:
-        return self.is_known and self.low.bit_count() == 1 and self.low > 0
+    def exponent(self) -> int | None:
+        """Of a power of 2, if it is known to be one."""
+        x = self.known or 0
+        return x.bit_length() - 1 if x > 0 and x.bit_count() == 1 else None
+
+    @property
+    def most(self) -> int:
+        """Up to here a number of the type is exact."""
+        return BIG if self.type == "bigint" else SAFE
 
 
-@cache
-def known(value: int, type: str = "number") -> Number:
-    if abs(value) > BIG or type == "number" and int(float(value)) != value:
-        raise Refused(f"not exact: {value}")
-    return Number(z3.BitVecVal(value, WIDTH), value, value, type)
+def known(x: int, type: str = "number") -> Number:
+    if abs(x) > BIG or type == "number" and int(float(x)) != x:
+        raise Refused(f"not exact: {x}")
+    return Number(z3.BitVecVal(x, WIDTH), type)
 
 
-def symbol(x: Any, high: int, type: str = "number") -> Number:
-    """The number of a bit vector of any width, which is at most `high`."""
-    return Number(z3.ZeroExt(WIDTH - x.size(), x), 0, high, type)
+def symbol(x: Any, type: str = "number") -> Number:
+    """The number of a bit vector of any width."""
+    return Number(z3.ZeroExt(WIDTH - x.size(), x), type)
 
 
 @dataclass(frozen=True)
@@ -56,48 +58,41 @@ class Text:
 
 
 @dataclass(eq=False)
-class Bytes:
-    """A Uint8Array, of which `count` bytes are there from the index `origin` on. These have the places 0, 1, ..: in the
-    names of an input's bytes, and in what is written to an output or a new array: numbers, and all of an input."""
+class Array:
+    """A Uint8Array, of which `count` bytes are there from the index `origin` on. These have the places 0, 1, ..: in the names of
+    an input's bytes, and in what is written to an output or a new array: bytes, and all of an input."""
 
     name: str
     count: Number
     origin: Number = known(0)
     role: str = "input"
-    written: dict[int, Number] = field(default_factory=dict)
-    copied: list[tuple[int, str]] = field(default_factory=list)
+    written: dict[int, Any] = field(default_factory=dict)
+    copied: list[tuple[int, str, Any]] = field(default_factory=list)
 
 
 RELATIONS = {"<": operator.lt, "<=": operator.le, ">": operator.gt, ">=": operator.ge, "===": operator.eq}
 
 
 def related(name: str, a: Number, b: Number) -> Any:
-    """Whether two numbers have a relation: their difference shows it, since nothing wraps."""
-    relation, low, high = RELATIONS[name], a.low - b.high, a.high - b.low
-    if (low == high or low > 0 or high < 0) if name == "===" else relation(low, 0) == relation(high, 0):
-        return relation(low, 0)
-    difference = z3.simplify(a.x - b.x)
-    return relation(difference.as_signed_long() if z3.is_bv_value(difference) else difference, 0)
+    """Whether two numbers have a relation: their difference shows it, since nothing wraps, and is often simpler."""
+    return RELATIONS[name](z3.simplify(a.x - b.x), 0)
 
 
 class Operators(Path):
     """A path on which values are computed."""
 
-    def made(self, x: Any, low: int, high: int, type: str, zeros: int = 0) -> Number:
-        """A result with these bounds, which has to be exact."""
-        x = z3.simplify(x)
-        if z3.is_bv_value(x):
-            return known(x.as_signed_long(), type)
-        most = BIG if type == "bigint" else SAFE
-        if low < -most or high > most:
-            self.must(z3.And(x >= -most, x <= most), "not exact")
-        return Number(x, max(low, -most), min(high, most), type, zeros)
+    def made(self, x: Any, type: str) -> Number:
+        """A result, which has to be exact."""
+        result = Number(z3.simplify(x), type)
+        if result.known is not None:
+            return known(result.known, type)
+        self.must(z3.And(x >= -result.most, x <= result.most), "not exact")
+        return result
 
     def number(self, x: Value, *types: str) -> Number:
         """A number of one of these types, or of any. Of a wide one it is decided what it is."""
         if isinstance(x, Number) and x.type == "wide":
-            is_big = self.decide(related(">", x, known(SAFE)))
-            x = Number(x.x, SAFE + 1, x.high, "bigint") if is_big else Number(x.x, x.low, min(x.high, SAFE))
+            x = Number(x.x, "bigint" if self.decide(x.x > SAFE) else "number")
         if not isinstance(x, Number) or x.type not in (types or ("number", "bigint")):
             raise Refused(f"unknown: {getattr(x, 'type', x)} as a {' or '.join(types) or 'number'}")
         return x
@@ -112,7 +107,7 @@ class Operators(Path):
         match a, b:
             case Number(), Number():
                 a, b = (a, b) if a.type == b.type == "wide" else (self.number(a), self.number(b))
-                return a.type == b.type and related("===", a, b)
+                return related("===", a, b) if a.type == b.type else False
             case Text(), str():
                 return a.place == a.texts.index(b) if b in a.texts else False
             case str(), str():
@@ -120,53 +115,47 @@ class Operators(Path):
         raise Refused(f"unknown: === of {a} and {b}")
 
     def binary(self, name: str, a: Value, b: Value) -> Value:
-        if name == "===":
-            return self.equal(a, b)
-        if name == "!==":
-            return not self.truth(self.equal(a, b))
+        if name in ("===", "!=="):
+            equal = formula(self.equal(a, b))
+            return equal if name == "===" else z3.Not(equal)
         if name in RELATIONS and isinstance(a, Number) and isinstance(b, Number) and "quotient" not in (a.type, b.type):
             return related(name, a, b)
         a, b = self.number(a), self.number(b)
-        if a.type == b.type and name == "-":
-            return self.made(a.x - b.x, a.low - b.high, a.high - b.low, a.type)
-        if a.type == b.type and min(a.low, b.low) >= 0:
-            return self.combined(name, a, b, a.type, a.type == "bigint")
+        if a.type == b.type and name in ("+", "-"):
+            return self.made(a.x + b.x if name == "+" else a.x - b.x, a.type)
+        self.must(z3.And(a.x >= 0, b.x >= 0), f"unknown: {name} of a negative number")
+        if a.type == b.type and (result := self.combined(name, a, b, a.type == "bigint")):
+            return result
         raise Refused(f"unknown: {name} of {a} and {b}")
 
-    def combined(self, name: str, a: Number, b: Number, type: str, is_big: bool) -> Number:
-        """An operation on two numbers of a type, of which none is negative. Operators on bits see 32 of a number's, the
-        highest one as a sign."""
-        least, most, power = min(a.high, b.high), max(a.high, b.high), b.high.bit_length() - 1
+    def combined(self, name: str, a: Number, b: Number, is_big: bool) -> Number | None:
+        """An operation on two numbers of a type, of which none is negative, if it is one that this program knows. Operators on
+        bits see 32 of a number's."""
         match name:
-            case "+":
-                has_no_bit_in_common = b.high < 1 << a.zeros or a.high < 1 << b.zeros  # then the formula is simpler
-                x = a.x | b.x if has_no_bit_in_common else a.x + b.x
-                return self.made(x, a.low + b.low, a.high + b.high, type)
-            case "*" if a.is_known and b.is_known:
-                return known(a.high * b.high, type)
-            case "*" if b.is_power:
-                return self.shifted(a, power)
-            case "*" if a.is_power:
-                return self.shifted(b, a.high.bit_length() - 1)
-            case "**" if a.is_known and a.high == 2 and b.is_known and b.high < WIDTH:
-                return known(2**b.high, type)
-            case "%" if b.is_power:
-                return self.made(a.x & (b.high - 1), 0, min(a.high, b.high - 1), type)
-            case "/" if b.is_power and not is_big:
-                return replace(self.made(z3.LShR(a.x, power), a.low >> power, a.high >> power, type), type="quotient")
-            case "&" if is_big or least <= INT:
-                return self.made(a.x & b.x, 0, least, type)
-            case "|" if is_big or most <= INT:
-                return self.made(a.x | b.x, 0, (1 << most.bit_length()) - 1, type)
-            case "<<" if b.is_known and (is_big or b.high < 32 and a.high << b.high <= INT):
-                return self.shifted(a, b.high)
-            case ">>" | ">>>" if b.is_known and (
-                name == ">>" if is_big else b.high < 32 and a.high < 2 ** (31 if name == ">>" else 32)
-            ):
-                return self.made(z3.LShR(a.x, b.high), a.low >> b.high, a.high >> b.high, type)
-        raise Refused(f"unknown: {name} of {a} and {b}")
+            case "*" if b.exponent is not None:
+                return self.shifted(a, b.exponent)
+            case "*" if a.exponent is not None:
+                return self.shifted(b, a.exponent)
+            case "**" if a.known == 2 and b.known is not None and b.known < WIDTH:
+                return known(2**b.known, a.type)
+            case "%" if b.exponent is not None:
+                return Number(z3.simplify(a.x & (b.x - 1)), a.type)
+            case "/" if b.exponent is not None and not is_big:
+                return Number(z3.simplify(z3.LShR(a.x, b.exponent)), "quotient")
+            case "&" if is_big or any(each.known is not None and each.known <= INT for each in (a, b)):
+                return Number(z3.simplify(a.x & b.x), a.type)
+            case "<<" if is_big and b.known is not None:
+                return self.shifted(a, b.known)
+            case ">>" if is_big and b.known is not None:
+                return Number(z3.simplify(z3.LShR(a.x, b.x)), a.type)
+            case ">>>" if not is_big and b.known is not None and b.known < 32:
+                self.must(a.x < 2**32, "unknown: >>> of a number of more than 32 bits")
+                return Number(z3.simplify(z3.LShR(a.x, b.x)))
+        return None
 
     def shifted(self, a: Number, bits: int) -> Number:
-        if bits > WIDTH or a.high << bits > BIG:
-            raise Refused(f"not exact: {a} times 2^{bits}")
-        return self.made(a.x << bits, a.low << bits, a.high << bits, a.type, bits)
+        """A number times a power of 2."""
+        if a.known is not None:
+            return known(a.known << bits, a.type)
+        self.must(a.x <= a.most >> bits, "not exact")
+        return Number(z3.simplify(a.x << bits), a.type)

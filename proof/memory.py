@@ -1,23 +1,21 @@
-"""What a pointer of C can point to: a variable, or the elements of an argument or of a text. Each access is shown to be
-inside of its object, which exists and has a value there."""
+"""What a pointer of C can point to: a variable of a caller, or the elements of an argument or of a text. Each access is
+shown to be inside of its object, and to read what has a value."""
 from dataclasses import dataclass, field
 from typing import Any
 
 import z3
 from path import Path, Refused
 
-Value = Any  # a number, a bool, a bit vector, a pointer, or the members of a structure by their names
+Value = Any  # a bit vector of the width of its type, a pointer, or the members of a structure by their names
 
 
 @dataclass(eq=False)
 class Variable:
-    """A variable while its block runs. What has no value yet is None."""
+    """What has no value yet is None."""
 
     name: str
+    kind: str
     value: Value = None
-    kind: str = ""
-    is_const: bool = False
-    exists: bool = True
 
 
 @dataclass(frozen=True)
@@ -34,34 +32,22 @@ class Place:
 
 @dataclass(eq=False)
 class Region:
-    """What an argument points to, or a text: bytes, or `length` elements. If there are none, the pointer may be null."""
+    """What an argument points to, or a text: `length` elements. If there are none, the pointer may be null."""
 
     name: str
-    length: Value
+    length: Any
     is_output: bool = False
-    has_bytes: bool = True
     text: bytes = b""
-    reach: int = 0  # that many elements are known to be there
-    writes: list["Write"] = field(default_factory=list)
+    written: dict[Any, Value] = field(default_factory=dict)  # elements by their indices
+    copied: list[tuple[int, str, Any]] = field(default_factory=list)  # to which index, from which input, how many
 
 
 @dataclass(frozen=True)
 class Pointer:
-    """The address of an element, or of the end, or of a member of an element."""
+    """The address of an element, or of the end."""
 
     region: Region
-    offset: Value = 0
-    member: str | None = None
-
-
-@dataclass(frozen=True)
-class Write:
-    """That `count` elements were written: with a value, or as a copy of what is at a pointer."""
-
-    offset: Value
-    count: Value
-    source: Value
-    member: str | None = None
+    offset: Any
 
 
 class Memory(Path):
@@ -73,127 +59,76 @@ class Memory(Path):
         self.log: list[tuple[Place, bool]] = []
 
     def size(self, x: Value) -> Any:
-        """A size or an offset as a bit vector."""
-        if (x.bit_length() if isinstance(x, int) else x.size()) > self.word:
-            raise Refused("unknown: an offset with more bits than a size")
-        return z3.BitVecVal(x, self.word) if isinstance(x, int) else z3.ZeroExt(self.word - x.size(), x)
-
-    # ---- pointers
-
-    def must_reach(self, region: Region, end: Value, what: str) -> None:
-        """That a region has as many elements as that, and is not empty, since then its pointer may be null."""
-        if isinstance(end, int):
-            end = max(end, 1)
-            if end <= region.reach:
-                return
-        self.must(z3.And(z3.ULE(self.size(end), self.size(region.length)), self.size(region.length) != 0), what)
-        if isinstance(end, int):
-            region.reach = end
+        """A number, which is not negative, as a size."""
+        if isinstance(x, int):
+            return z3.BitVecVal(x, self.word)
+        if x.size() > self.word:
+            raise Refused("unknown: an index with more bits than a size")
+        return z3.ZeroExt(self.word - x.size(), x)
 
     def moved(self, pointer: Value, by: Value, is_access: bool = False) -> Pointer:
-        """A pointer and an index: inside, or also at the end if nothing is accessed there. An index is not signed."""
-        if not isinstance(pointer, Pointer) or pointer.member:
+        """A pointer and an index: inside, or also at the end if nothing is accessed there. A null pointer is not moved."""
+        if not isinstance(pointer, Pointer):
             raise Refused("unknown: arithmetic with a pointer to a variable")
-        region, offset, what = pointer.region, pointer.offset, f"outside {pointer.region.name}"
-        if isinstance(by, int) and isinstance(offset, int):
-            if offset + by < 0:
-                raise Refused(what)
-            self.must_reach(region, offset + by + is_access, what)
-            return Pointer(region, offset + by)
-        rest = self.size(region.length) - self.size(offset)
-        self.must(z3.And(z3.ULE(self.size(by), rest), self.size(region.length) != 0), what)
-        if is_access:
-            self.must(self.size(by) != rest, what)
-        moved = z3.simplify(self.size(offset) + self.size(by))
-        return Pointer(region, moved.as_long() if z3.is_bv_value(moved) else moved)
+        region, by = pointer.region, self.size(by)
+        rest = region.length - pointer.offset
+        is_inside = z3.ULT(by, rest) if is_access else z3.ULE(by, rest)
+        self.must(z3.And(is_inside, region.length != 0), f"outside {region.name}")
+        return Pointer(region, z3.simplify(pointer.offset + by))
 
-    # ---- accesses
+    # ---- accesses, to places that `moved` has shown to be there
 
     def load(self, at: Value) -> Value:
         if isinstance(at, Place):
-            return self.of_variable(at)
-        if not isinstance(at, Pointer):
-            raise Refused("unknown: a read of no object")
-        region, offset = at.region, at.offset
-        self.moved(Pointer(region, offset), 0, is_access=True)
-        if region.text and isinstance(offset, int):
-            return region.text[offset] if offset < len(region.text) else 0
-        if region.is_output or region.text:
-            raise Refused(f"reads {region.name}, or a text at an index that is not known")
-        return self.byte(region, offset)
+            self.log.append((at, False))
+            x = at.variable.value
+            x = x[at.member] if at.member and x else x
+            if x is None:
+                raise Refused(f"uninitialized: {at.variable.name}{'.' + at.member if at.member else ''}")
+            return x
+        if at.region.text and z3.is_bv_value(at.offset):
+            return z3.BitVecVal(at.region.text[at.offset.as_long()], 8)
+        if at.region.is_output or at.region.text:
+            raise Refused(f"reads {at.region.name}, or a text at an index that is not known")
+        return self.byte(at.region, at.offset)
 
-    def byte(self, region: Region, at: Value) -> Any:
+    def byte(self, region: Region, offset: Any) -> Any:
         """The byte of an input: a symbol."""
-        return z3.BitVec(f"{region.name}[{at if isinstance(at, int) else at.sexpr()}]", 8)
-
-    def of_variable(self, place: Place) -> Value:
-        variable, member = place.variable, place.member
-        self.log.append((place, False))
-        if not variable.exists:
-            raise Refused(f"reads {variable.name} after its end")
-        x = variable.value if member is None or variable.value is None else variable.value[member]
-        if x is None:
-            raise Refused(f"uninitialized: {variable.name}{'.' + member if member else ''}")
-        return x
+        return z3.BitVec(f"{region.name}[{offset.sexpr() if not z3.is_bv_value(offset) else offset.as_long()}]", 8)
 
     def store(self, at: Value, x: Value) -> None:
+        if isinstance(x, Place):
+            raise Refused("unknown: the address of a variable in another one")
         if isinstance(at, Place):
             self.log.append((at, True))
-            variable = at.variable
-            if not variable.exists or variable.is_const:
-                raise Refused(f"writes {variable.name}, which is constant or has ended")
-            variable.value = {**variable.value, at.member: x} if at.member else x
+            at.variable.value = {**at.variable.value, at.member: x} if at.member else x
             return
-        if not isinstance(at, Pointer) or not at.region.is_output:
-            raise Refused("writes an input" if isinstance(at, Pointer) else "unknown: a write to no object")
-        self.moved(Pointer(at.region, at.offset), 0, is_access=True)
-        for member, value in x.items() if isinstance(x, dict) else [(at.member, x)]:
-            self.add(at.region, Write(at.offset, 1, value, member))
-
-    def add(self, region: Region, new: Write) -> None:
-        """A write, to elements that were not written before: so the order of writes does not matter."""
-        for old in region.writes:
-            if old.member != new.member and old.member and new.member:
-                continue
-            ends = [(a.offset, a.count, b.offset) for a, b in ((old, new), (new, old))]
-            if all(isinstance(x, int) for x in ends[0] + ends[1]):
-                apart: Any = any(at + count <= other for at, count, other in ends)
-            else:
-                apart = z3.Or([z3.ULE(self.size(a) + self.size(n), self.size(b)) for a, n, b in ends])
-            self.must(apart, f"unknown: writes {region.name} twice")
-        region.writes.append(new)
+        index = at.offset.as_long() if z3.is_bv_value(at.offset) else at.offset
+        if not at.region.is_output or index in at.region.written:
+            raise Refused("writes an input" if not at.region.is_output else f"unknown: writes {at.region.name} twice")
+        at.region.written[index] = x
 
     # ---- the functions of string.h
 
     def memcpy(self, to: Value, source: Value, count: Value) -> Value:
         for pointer in (to, source):
-            if not isinstance(pointer, Pointer) or not pointer.region.has_bytes:
-                raise Refused("unknown: memcpy of other than bytes")
-            self.spans(pointer, count)
-        if not to.region.is_output or source.region.is_output:
-            raise Refused("unknown: memcpy to an input, or from out")
-        if source.region.text and isinstance(count, int):
-            for i in range(count):
-                self.add(to.region, Write(to.offset + i, 1, self.load(self.moved(source, i))))
+            self.moved(pointer, count)
+        if not to.region.is_output or source.region.is_output or not z3.is_bv_value(to.offset):
+            raise Refused("unknown: memcpy to an input, from out, or to an index that is not known")
+        if source.region.text and z3.is_bv_value(count):
+            for i in range(count.as_long()):
+                self.store(self.moved(to, i), self.load(self.moved(source, i)))
+        elif z3.is_bv_value(source.offset) and source.offset.as_long() == 0:
+            to.region.copied.append((to.offset.as_long(), source.region.name, count))
         else:
-            self.add(to.region, Write(to.offset, count, source))
+            raise Refused("unknown: memcpy from an index")
         return to
 
     def memcmp(self, left: Value, right: Value, count: Value) -> Value:
         """The order of two whole inputs: a symbol, as in the definition."""
         for pointer in (left, right):
-            if (
-                not isinstance(pointer, Pointer)
-                or pointer.offset != 0
-                or pointer.region.is_output
-                or pointer.region.text
-            ):
+            self.moved(pointer, count)
+            if pointer.region.is_output or pointer.region.text:
                 raise Refused("unknown: memcmp of other than inputs")
-            self.spans(pointer, count)
-            self.must(self.size(pointer.region.length) == self.size(count), "unknown: memcmp of a part")
+            self.must(z3.And(pointer.offset == 0, pointer.region.length == count), "unknown: memcmp of a part")
         return z3.BitVec(f"the order of {left.region.name} and {right.region.name}", 32)
-
-    def spans(self, pointer: Pointer, count: Value) -> None:
-        """That a pointer is valid, and that so many elements follow."""
-        self.moved(pointer, 0)
-        self.moved(pointer, count)

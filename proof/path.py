@@ -1,16 +1,29 @@
 """One path through a program whose arguments are symbols of the solver z3: what was decided on it, and what has to hold
 there. A condition is a bool, or a formula of z3."""
-from collections.abc import Callable, Iterator
+import time
+from collections.abc import Callable
 from typing import Any, TypeVar
 
 import z3
-from definitions import Case
+from definitions import Result, Rows, widened
 
-MOST_STEPS = 50_000
+MOST_STEPS = 5_000
 
 
 class Refused(Exception):
     """The code does something wrong, or something that the check does not know. The kind comes first, up to a colon."""
+
+
+class Return(Exception):
+    """The end of a function: its argument is what that returns."""
+
+
+def input_of(solver: Any, *conditions: Any) -> Any:
+    """An input that meets the conditions, also those that the solver has, or None if there is none."""
+    answer = solver.check(*conditions)
+    if answer == z3.unknown:
+        raise Refused(f"unknown: z3 does not know: {solver.reason_unknown()}")
+    return solver.model() if answer == z3.sat else None
 
 
 class Path:
@@ -19,124 +32,122 @@ class Path:
 
     def __init__(self, solver: Any, prefix: list[bool], model: Any):
         self.solver, self.prefix = solver, prefix
-        self.model = model  # an input that takes the path so far, or None if none is known
+        self.model = model  # an input that takes the path so far
         self.decisions: list[bool] = []
         self.open: list[tuple[list[bool], Any]] = []
-        self.facts: dict[Any, bool] = {}  # conditions that hold, or do not, on this path
-        self.steps = 0
-
-    def input_of(self, *conditions: Any) -> Any:
-        """An input that takes the path and meets the conditions, or None if there is none."""
-        answer = self.solver.check(*conditions)
-        if answer == z3.unknown:
-            raise Refused(f"unknown: z3 does not know: {self.solver.reason_unknown()}")
-        return self.solver.model() if answer == z3.sat else None
+        self.steps = self.line = 0
 
     def must(self, condition: Any, what: str) -> None:
         """Refuses the program if an input that takes the path does not meet the condition."""
-        condition = simple(condition)
-        if self.known(condition):
-            return
-        if len(self.decisions) >= len(self.prefix):  # else the path that opened this one has asked
-            wrong = self.input_of() if condition is False else self.input_of(z3.Not(condition))
+        condition = z3.simplify(formula(condition))
+        if not z3.is_true(condition) and len(self.decisions) >= len(self.prefix):  # else another path has asked
+            wrong = input_of(self.solver, z3.Not(condition))
             if wrong is not None:
                 raise Refused(f"{what}: for {text_of(wrong)}")
-        self.learn(condition)
 
     def decide(self, condition: Any) -> bool:
         """Which way the path goes. If an input goes the other way, another path does so."""
-        condition = simple(condition)
-        known = self.known(condition)
-        if known is not None:
-            return known
+        condition = z3.simplify(formula(condition))
+        if z3.is_true(condition) or z3.is_false(condition):
+            return bool(z3.is_true(condition))
         at = len(self.decisions)
-        if at < len(self.prefix):
-            way = self.prefix[at]
-        else:
-            self.model = self.model or self.input_of()
-            way = z3.is_true(self.model.eval(condition, True))
-            other = self.input_of(z3.Not(condition) if way else condition)
-            if other is not None:
-                self.open.append(([*self.decisions, not way], other))
+        way = self.prefix[at] if at < len(self.prefix) else is_met(condition, self.model)
+        goes, other_way = (condition, z3.Not(condition)) if way else (z3.Not(condition), condition)
+        other = input_of(self.solver, other_way) if at >= len(self.prefix) else None
+        if other is not None:
+            self.open.append(([*self.decisions, not way], other))
         self.decisions.append(way)
-        self.learn(condition if way else z3.Not(condition))
-        self.solver.add(condition if way else z3.Not(condition))
+        self.solver.add(goes)
         return way
 
-    def known(self, condition: Any) -> bool | None:
-        """Whether a condition holds on the path, if that was decided or shown before."""
-        if isinstance(condition, bool):
-            return condition
-        if z3.is_not(condition):
-            inner = self.known(condition.arg(0))
-            return None if inner is None else not inner
-        return self.facts.get(condition)
-
-    def learn(self, condition: Any) -> None:
-        is_negated = z3.is_not(condition)
-        self.facts[condition.arg(0) if is_negated else condition] = not is_negated
-
-    def step(self) -> None:
+    def step(self, line: int) -> None:
+        self.line = line
         self.steps += 1
         if self.steps > MOST_STEPS:
             raise Refused(f"no end: a path of more than {MOST_STEPS} steps")
 
-    def compare(self, case: Case, wrong: Callable[[Case], dict[str, Any]], what: str = "wrong result") -> None:
-        """Compares the end of the path with a definition. For each case that an input of the path has, `wrong` says what
+    def compare(self, rows: Rows, wrong: Callable[[Result], dict[str, Any]], what: str = "wrong result") -> None:
+        """Compares the end of the path with a definition. For each row that an input of the path has, `wrong` says what
         may be wrong there: a name, and the condition under which it is."""
-        model = self.model or self.input_of()
+        model = self.model
         while model is not None:
-            when, leaf = leaf_of(case, model)
-            conditions = {name: z3.BoolVal(x) if isinstance(x, bool) else x for name, x in wrong(leaf).items()}
-            found = self.input_of(*when, z3.Or(list(conditions.values())))
+            when, result = row_of(rows, model)
+            conditions = {name: formula(condition) for name, condition in wrong(result).items()}
+            found = input_of(self.solver, *when, z3.Or(list(conditions.values())))
             if found is not None:
                 names = [name for name, condition in conditions.items() if is_met(condition, found)]
                 raise Refused(f"{what}: {', '.join(names)} for {text_of(found)}")
             self.solver.add(z3.Not(z3.And(when)))
-            model = self.input_of()
+            model = input_of(self.solver)
 
 
 SomePath = TypeVar("SomePath", bound=Path)
 
 
-def paths(solver: Any, start: Callable[[list[bool], Any], SomePath]) -> Iterator[SomePath]:
-    """Each path, which `start` makes of a prefix and a model. Until the next one is asked for, the solver has its
-    conditions."""
-    if solver.check() != z3.sat:
+def run_paths(solver: Any, start: Callable[[list[bool], Any], SomePath], run: Callable[[SomePath], None]) -> int:
+    """Runs each path, which `start` makes of a prefix and an input. Returns their number."""
+    model = input_of(solver)
+    if model is None:
         raise Refused("unknown: no input meets the conditions of a call")
-    waiting: list[tuple[list[bool], Any]] = [([], solver.model())]
+    waiting: list[tuple[list[bool], Any]] = [([], model)]
+    count = 0
     while waiting:
         solver.push()
         path = start(*waiting.pop())
-        yield path
-        waiting += path.open
+        try:
+            run(path)
+        except Refused as why:
+            raise Refused(f"{why} (line {path.line})") from why
         solver.pop()
+        waiting += path.open
+        count += 1
+    return count
 
 
-def simple(condition: Any) -> Any:
-    """A condition in a simple form: a bool if it does not depend on the input."""
-    if isinstance(condition, bool):
-        return condition
-    condition = z3.simplify(condition)
-    return z3.is_true(condition) if z3.is_true(condition) or z3.is_false(condition) else condition
+def report(name: str, check: Callable[[], int]) -> str:
+    """A line that says whether a check refuses a function."""
+    began = time.process_time()
+    try:
+        count = check()
+    except Refused as why:
+        return f"{name}: REFUSED: {' '.join(str(why).split())}"
+    return f"{name}: all inputs, {count} paths, {time.process_time() - began:.1f} s"
+
+
+def formula(condition: Any) -> Any:
+    return z3.BoolVal(condition) if isinstance(condition, bool) else condition
 
 
 def is_met(condition: Any, model: Any) -> bool:
-    return condition if isinstance(condition, bool) else bool(z3.is_true(model.eval(condition, True)))
+    return bool(z3.is_true(model.eval(condition, True)))
 
 
-def leaf_of(case: Case, model: Any) -> tuple[list[Any], Case]:
-    """The case of an input, with its conditions."""
-    when = list(case.when)
-    while case.parts:
-        for part in case.parts:
-            if all(is_met(condition, model) for condition in part.when):
+def row_of(rows: Any, model: Any) -> tuple[list[Any], Result]:
+    """What a definition says of an input, with the conditions under which it does."""
+    when: list[Any] = []
+    while not isinstance(rows, Result):
+        for condition, then in rows:
+            condition = formula(condition)
+            if is_met(condition, model):
                 break
+            when.append(z3.Not(condition))
         else:
-            raise Refused(f"unknown: the definition has no case for {text_of(model)}")
-        case = part
-        when += case.when
-    return when, case
+            raise Refused(f"unknown: the definition has no row for {text_of(model)}")
+        when.append(condition)
+        rows = then
+    return when, rows
+
+
+def miswritten(written: dict[Any, Any], copied: list[tuple[int, str, Any]], result: Result) -> dict[str, Any]:
+    """When a function wrote something else than a result says. `written` has bytes by their indices, `copied` the index to
+    which an input was copied, its name, and how many of its bytes."""
+    if written.keys() != {*range(len(result.head))}:
+        return {"the indices written": True}
+    wrong = {f"byte {i}": written[i] != byte for i, byte in enumerate(result.head)}
+    count: Any = 0
+    for at, name, count in copied:
+        wrong["digest"] = at != len(result.head) or name != "digest" or len(copied) > 1
+    return wrong | {"number of digest bytes": widened(count) != widened(result.digest)}
 
 
 def text_of(model: Any) -> str:

@@ -1,26 +1,30 @@
 """Shows multihash_read_many for any number of items, by induction over its loop.
 
-Before a turn `count` items were written and `taken` bytes consumed, without an error. The first turn suggests how each
-variable depends on these: it stays, or grows with one of them, or has any value. Then it is shown that a turn from any
-such state ends the function with the result of the definition, or writes the next item and comes to such a state with
-more bytes consumed. So what was suggested is not trusted."""
-from collections.abc import Iterator
-from contextlib import suppress
+The invariant says what the variables are before a turn, after `count` items were written and `taken` bytes consumed, without
+an error. It is shown for the first turn. Then one turn from any such state ends the function with the result of the
+definition, or writes the next item and keeps the invariant with more bytes consumed."""
 from typing import Any
 
 import definitions
 import z3
-from c import Break, Run
-from function import SUMMARY, Check
-from definitions import OK, SECOND, Case, first, widened
-from memory import Pointer, Region, Value
-from path import Refused, paths
+from c import Run
+from definitions import OK, Front, Result, widened
+from function import Check, different, differs
+from memory import Place, Region, Value
+from path import Refused
 from tree import Node, Unit
 
-Name = tuple[str, str | None]  # a variable, by the id of its declaration, and a member of it
-State = dict[Name, Value]
-FORMS = [(0, 0), (1, 0), (0, 1), (-1, 0), (0, -1)]
-NOT_SHOWN = "not shown: read_many"
+
+def invariant(count: Any, taken: Any) -> dict[str, Any]:
+    """Variables of the function, and members of them. Its arguments do not change. Other variables have no value."""
+    status, size = z3.BitVecVal(OK, 32), z3.BitVecVal(0, 64)
+    return {"count": count, "consumed": taken, "result.status": status, "result.size": size}
+
+
+def violated(state: dict[str, Value], arguments: dict[str, Value], count: Any, taken: Any) -> dict[str, Any]:
+    """What of the invariant a state does not meet, and when."""
+    wrong = {name: differs(state[name], x) for name, x in invariant(count, taken).items()}
+    return wrong | {name: z3.BoolVal(state[name] is not x) for name, x in arguments.items()}
 
 
 class Arrived(Exception):
@@ -28,185 +32,91 @@ class Arrived(Exception):
 
 
 class Turn(Run):
-    """A path from the start to the loop, or, from a state there, through one turn of it."""
+    """A path from the start to the loop, and from any state there through one turn of it."""
 
-    state: State | None = None
-    taken: Value = 0
-    has_arrived = False
-    regions: dict[str, Region] = {}  # what the arguments point to
-    kinds: dict[Name, str] = {}  # the types of the variables of the loop
+    count: Any = None
+    taken: Any = None
+    is_in_turn = False
 
-    def loop(self, node: Node, test: Node, step: Node, body: Node) -> None:
+    def place_of(self, name: str) -> Place:
+        name, _, member = name.partition(".")
+        if name not in self.scope:
+            raise Refused(f"not shown: read_many: the invariant has the variable {name}")
+        return Place(self.scope[name], member or None)
+
+    def state(self) -> dict[str, Value]:
+        """What the variables of the invariant have, and the arguments."""
+        return {name: self.load(self.place_of(name)) for name in [*invariant(0, 0), *self.arguments]}
+
+    def loop(self, test: Node, body: Node, step: Node) -> None:
         if self.calls != ["multihash_read_many"]:
-            super().loop(node, test, step, body)
-            return
-        if self.has_arrived:
-            raise Refused(f"{NOT_SHOWN}: it has a second loop")
-        self.has_arrived = True
-        with suppress(Break):
-            if self.state is not None:
-                self.start_from(self.state)
-                if test and not self.truth(test):
-                    return
-                self.turn(step, body)
-            raise Arrived(self.here())
+            return super().loop(test, body, step)
+        if self.is_in_turn:
+            raise Refused("not shown: read_many: it has a second loop")
+        wrong = violated(self.state(), self.arguments, 0, 0)
+        self.must(z3.Not(z3.Or(list(wrong.values()))), "not shown: read_many: the invariant before the first turn")
+        self.is_in_turn = True
+        for variable in self.scope.values():
+            if variable.name not in self.arguments:
+                variable.value = dict.fromkeys(variable.value) if isinstance(variable.value, dict) else None
+        for name, x in invariant(self.count, self.taken).items():
+            self.store(self.place_of(name), x)
+        if (not test or self.truth(test)) and self.turn(body):
+            if step:
+                self.value(step)
+            raise Arrived(self.state())
 
-    def byte(self, region: Region, at: Value) -> Any:
+    def byte(self, region: Region, offset: Any) -> Any:
         """A byte of what is left has the name that it has in `read`."""
-        after = z3.simplify(self.size(at) - self.size(self.taken))
-        return super().byte(region, after.as_long() if z3.is_bv_value(after) else after)
-
-    def here(self) -> State:
-        state: State = {}
-        for key, variable in self.scope.items():
-            x = variable.value
-            state |= {(key, name): each for name, each in x.items()} if isinstance(x, dict) else {(key, None): x}
-        types = {key: variable.kind for key, variable in self.scope.items()}
-        self.kinds = {(k, name): self.unit.fields(types[k])[name] if name else types[k] for k, name in state}
-        return state
-
-    def start_from(self, state: State) -> None:
-        """Gives each variable its value in a state, or any."""
-        for key, member in self.here():
-            kind = self.kinds[key, member]
-            x = state[key, member] if (key, member) in state else z3.BitVec(f"{key} {member}", self.unit.width(kind))
-            if isinstance(x, Pointer):
-                x = Pointer(self.regions[x.region.name], x.offset)
-            old = self.scope[key].value
-            self.scope[key].value = {**old, member: x} if member else x
-
-    def different(self, name: Name, one: Value, other: Value) -> Any:
-        """When a variable has not the one value but the other."""
-        if isinstance(one, Pointer) and isinstance(other, Pointer):
-            same = one.region.name == other.region.name and one.member is other.member is None
-            return z3.Or(z3.BoolVal(not same), self.size(one.offset) != self.size(other.offset))
-        if one is None or other is None:
-            return z3.BoolVal(other is not None)
-        return self.vector(one, self.kinds[name]) != self.vector(other, self.kinds[name])
+        return super().byte(region, z3.simplify(offset - self.taken))
 
 
 class ReadMany(Check):
-    """`count` and `taken` are those before a turn. A variable that does not change has the growth (0, 0), one that
-    grows with each item (1, 0), with each byte consumed (0, 1), and one that may have any value has none."""
+    """`count` and `taken` are those before a turn; `room` and `rest` are what is left."""
+
+    kind = "not shown: read_many"
+    path_type = Turn
 
     def __init__(self, unit: Unit):
         super().__init__(unit, "read_many")
-        self.rest, self.room, *self.before = (z3.BitVec(x, unit.word) for x in ("rest", "room", "count", "taken"))
-        self.at(0, 0)
-        self.start: State = {}
-        self.kinds: dict[Name, str] = {}
-        self.growth: dict[Name, tuple[int, int]] = {}
+        self.rest, self.room, self.count, self.start = (
+            z3.BitVec(x, unit.word) for x in ("rest", "room", "count", "taken")
+        )
+        self.given |= {"bytes_length": self.start + self.rest, "out_length": self.count + self.room}
+        self.solver.add(z3.ULE(self.start, self.given["bytes_length"]), z3.ULE(self.count, self.given["out_length"]))
 
-    def at(self, count: Value, taken: Value) -> None:
-        """What is before a turn, and so the arguments: what is before it, and what is left."""
-        self.count, self.taken = count, taken
-        self.given |= {"bytes_length": z3.simplify(taken + self.rest), "out_length": z3.simplify(count + self.room)}
-        self.solver.add(z3.ULE(taken, self.given["bytes_length"]), z3.ULE(count, self.given["out_length"]))
-
-    def run(self) -> None:
-        self.arrive()
-        for path, there, out in self.turns(self.start):
-            if out.writes and not self.growth:
-                self.suggest(path, there)
-        self.at(*self.before)
-        self.arrive()
-        if not self.growth:
-            raise Refused(f"{NOT_SHOWN}: no first turn writes an item")
-        before = 0
-        while len(self.growth) != before:
-            before = len(self.growth)
-            for path, there, out in self.turns(self.state(self.count, self.taken)):
-                self.forget(path, there)
-                path.compare(self.case(), lambda leaf: self.went_on(path, out, leaf), NOT_SHOWN)
-
-    def arrive(self) -> None:
-        """What the variables are before the first turn."""
-        self.start = {}
-        for path, there, out in self.turns(None):
-            self.start, self.kinds = self.start or there, path.kinds
-            again = [path.different(name, x, there.get(name)) for name, x in self.start.items()]
-            path.must(z3.Not(z3.Or(again)) if not out.writes else False, f"{NOT_SHOWN}: it comes to its loop otherwise")
-
-    def case(self) -> Case:
+    def definition(self) -> Front:
         """What a turn does: nothing if nothing is left, else what `read` says of the bytes that are left."""
-        nothing_left, read = z3.Or(self.room == 0, self.rest == 0), definitions.read(self.rest)
-        return Case(parts=[first((nothing_left, Case({"status": OK})), otherwise=read)], front=read.front)
+        read = definitions.read(self.rest)
+        nothing_left = z3.Or(self.room == 0, self.rest == 0)
+        return read._replace(rows=[(nothing_left, Result({"status": OK})), (True, read.rows)])
 
-    def turns(self, state: State | None) -> Iterator[tuple[Turn, State, Region]]:
-        """Runs each path from the start, or from a state: those that end at the loop, with the state there, and `out`.
-        What ends the function is compared with its definition."""
-        case = self.case()
-        self.solver.push()
-        self.solver.add(definitions.both_hold(*case.front))
-        for path in paths(self.solver, lambda prefix, model: Turn(self.unit, self.solver, prefix, model)):
-            self.paths += 1
-            path.state, path.taken = state, self.taken
-            try:
-                try:
-                    arguments = self.arguments()
-                    path.regions = {name: x.region for name, x in arguments.items() if isinstance(x, Pointer)}
-                    path.summaries[SUMMARY] = lambda *given: self.get_varint(path, case.front, self.taken, *given)
-                    result = path.call(self.name, list(arguments.values()))
-                    if path.has_arrived or isinstance(self.count, int):  # what ends before the loop is shown once
-                        path.compare(case, lambda leaf: self.ended(path, result, path.regions["out"], leaf), NOT_SHOWN)
-                except Arrived as arrived:
-                    yield path, arrived.args[0], path.regions["out"]
-            except Refused as why:
-                raise Refused(f"{why} (line {path.line})") from why
-        self.solver.pop()
+    def new_path(self, prefix: list[bool], model: Any) -> Turn:
+        path = Turn(self.unit, self.solver, prefix, model)
+        path.count, path.taken = self.count, self.start
+        return path
 
-    def suggest(self, path: Turn, there: State) -> None:
-        """How the first turn changes each variable."""
-        for name in self.start:
-            for form in FORMS:
-                if self.can_grow(name, form) and self.is_shown(path, there, name, form):
-                    self.growth[name] = form
-                    break
+    def compare(self, path: Run, definition: Any) -> None:
+        try:
+            super().compare(path, definition)
+        except Arrived as arrived:
+            state = arrived.args[0]
+            path.compare(definition.rows, lambda wanted: self.went_on(path, state, wanted), self.kind)
 
-    def forget(self, path: Turn, there: State) -> None:
-        """What a turn does not keep of that."""
-        for name, form in [*self.growth.items()]:
-            if not self.is_shown(path, there, name, form):
-                del self.growth[name]
+    def wrong(self, path: Any, result: Value, wanted: Result) -> dict[str, Any]:
+        """What may be wrong where the function ends: in its result, or in an item of the last turn."""
+        if not path.is_in_turn or "code" in wanted.members:
+            return {"an item that is left out, or an end before the loop": True}
+        return super().wrong(path, result, Result({**wanted.members, "count": self.count, "taken": self.start}))
 
-    def is_shown(self, path: Turn, there: State, name: Name, form: tuple[int, int]) -> bool:
-        """Whether a variable has grown so at the end of a turn."""
-        bytes_ = z3.Extract(path.word - 1, 0, widened(SECOND.end) + SECOND.value)
-        after = self.grown(name, form, self.count + 1, self.taken + bytes_)
-        return path.input_of(path.different(name, there[name], after)) is None
-
-    def can_grow(self, name: Name, form: tuple[int, int]) -> bool:
-        x, kind = self.start[name], self.kinds[name]
-        is_size = isinstance(x, Pointer) or kind in self.unit.numbers and self.unit.width(kind) == self.unit.word
-        return form == (0, 0) or x is not None and is_size
-
-    def grown(self, name: Name, form: tuple[int, int], count: Value, taken: Value) -> Value:
-        """What a variable is after so many items and bytes."""
-        x, by = self.start[name], form[0] * count + form[1] * taken
-        if form == (0, 0):
-            return x
-        return Pointer(x.region, x.offset + by) if isinstance(x, Pointer) else x + by
-
-    def state(self, count: Value, taken: Value) -> State:
-        """The variables after so many items and bytes, but for those that may have any value."""
-        state = {name: None for name, x in self.start.items() if x is None}
-        return state | {name: self.grown(name, form, count, taken) for name, form in self.growth.items()}
-
-    def ended(self, path: Turn, result: Value, out: Region, case: Case) -> dict[str, Any]:
-        """What may be wrong where the function ends."""
-        batch = {"size": 0, **case.result, "count": self.count, "taken": self.taken}
-        if "code" in batch:
-            return {"an item that is left out": True}
-        return {"out": bool(out.writes)} | self.members(path, result, self.result, batch)
-
-    def went_on(self, path: Turn, out: Region, case: Case) -> dict[str, Any]:
+    def went_on(self, path: Any, state: dict[str, Value], wanted: Result) -> dict[str, Any]:
         """What may be wrong where a turn ends at the loop."""
-        found, item = {write.member: write.source for write in out.writes}, case.result
-        if "code" not in item or found.keys() != self.unit.fields("multihash_item").keys():
+        items, read = path.arguments["out"].region.written, wanted.members
+        if "code" not in read or len(items) != 1:
             return {"a turn without an item": True}
-        offset = widened(self.taken) + widened(item["digest_offset"])
-        item = {"code": item["code"], "digest_offset": offset, "digest_length": item["digest_length"]}
-        wrong = self.members(path, found, "multihash_item", item)
-        wrong["index"] = z3.Or([path.size(write.offset) != self.count for write in out.writes])
-        wrong["taken"] = z3.UGT(widened(case.result["taken"]), widened(self.rest))
-        return wrong
+        [(index, found)] = items.items()
+        item = {name: read[name] for name in ("code", "digest_offset", "digest_length")}
+        item["digest_offset"] = widened(self.start) + widened(read["digest_offset"])
+        taken = widened(self.start) + widened(read["taken"])
+        wrong = different(found, item) | violated(state, path.arguments, self.count + 1, taken)
+        return wrong | {"index": index != self.count, "end": z3.UGT(widened(read["taken"]), widened(self.rest))}

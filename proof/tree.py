@@ -39,16 +39,11 @@ def type_of(node: Node) -> str:
     kind = node["type"].get("desugaredQualType", node["type"]["qualType"])
     if re.search(r"volatile|_Atomic|[\[(]", kind + node["type"]["qualType"]):
         raise Refused(f"unknown: the type {kind}: an array, a function, volatile")
-    return " ".join(re.sub(r"\b(const|struct|restrict)\b", "", kind).split())
-
-
-def is_const(node: Node) -> bool:
-    kind: str = node["type"]["qualType"]
-    return kind.endswith("const") if "*" in kind else "const" in kind.split()
+    return " ".join(re.sub(r"\b(const|struct)\b", "", kind).split())
 
 
 class Unit:
-    """The functions, structures and constants of a source file in a folder, for a machine with sizes of so many bits."""
+    """The functions, structures and constants of a source file, for a machine with sizes of so many bits."""
 
     def __init__(self, source: File, include: File, target: str, word: int):
         for file in (source, include / "multihash.h"):
@@ -61,43 +56,43 @@ class Unit:
         run = subprocess.run(command, stdout=-1, stderr=-1, text=True)
         if run.returncode:
             raise Refused(f"unknown: Clang says {' '.join(re.findall('error: .*', run.stderr))[:300]}")
-        tree = json.loads(run.stdout)
         self.word = word
         # the types of numbers: how many bits each has, and whether it has negative ones
         self.numbers = {"char": (8, True), "int": (32, True), "long": (word, True), "long long": (64, True)}
         self.numbers |= {f"unsigned {kind}": (width, False) for kind, (width, _) in self.numbers.items()}
-        self.functions: dict[str, Node] = {}
+        self.functions: dict[str, Node] = {}  # those with a body
         self.constants: dict[str, int] = {}
         self.records: dict[str, Node] = {}
         self.declared: list[str] = []  # the functions of multihash.h, in its order
+        tree = json.loads(run.stdout)
         add_lines(tree, [0])
         for node in tree["inner"]:
             self.declare(node)
 
     def declare(self, node: Node) -> None:
-        kind, inner = node["kind"], node.get("inner", [])
+        kind, name, inner = node["kind"], node.get("name", ""), node.get("inner", [])
         if kind == "FunctionDecl":
-            if node["name"].startswith("multihash_") and node["name"] not in self.declared:
-                self.declared.append(node["name"])
+            if name.startswith("multihash_") and name not in self.declared:
+                self.declared.append(name)
             if any(x["kind"] == "CompoundStmt" for x in inner):
-                self.functions[node["name"]] = node
-                is_api = node["name"] in self.declared and not node.get("inline")
-                if node["name"] in ("memcpy", "memcmp") or node.get("storageClass") != "static" and not is_api:
-                    raise Refused(f"unknown: {node['name']}, which other files may define too")
+                self.functions[name] = node
+                is_api = name in self.declared and not node.get("inline")
+                if name in ("memcpy", "memcmp") or node.get("storageClass") != "static" and not is_api:
+                    raise Refused(f"unknown: {name}, which other files may define too")
         elif kind == "EnumDecl":
-            value = -1
             for each in inner:
                 values = [int(x["value"]) for x in each.get("inner", []) if "value" in x]
-                value = values[0] if values else value + 1
-                self.constants[each["name"]] = value
+                if not values:
+                    raise Refused(f"unknown: the value of {each['name']}")
+                self.constants[each["name"]] = values[0]
         elif kind == "RecordDecl":
-            self.records[node.get("name", "")] = node
+            self.records[name] = node
         elif kind == "TypedefDecl":
             of = node["type"].get("desugaredQualType", node["type"]["qualType"])
             if of in self.numbers:
-                self.numbers[node["name"]] = self.numbers[of]
+                self.numbers[name] = self.numbers[of]
         elif kind != "EmptyDecl":
-            raise Refused(f"unknown: {kind} {node.get('name', '')} in file scope (line {node['line']})")
+            raise Refused(f"unknown: {kind} {name} in file scope (line {node['line']})")
 
     def width(self, kind: str) -> int:
         """The number of bits of a type of numbers."""
@@ -108,7 +103,7 @@ class Unit:
     def is_signed(self, kind: str) -> bool:
         return self.width(kind) > 0 and self.numbers[kind][1]
 
-    def fields(self, kind: str) -> dict[str, str]:
+    def members(self, kind: str) -> dict[str, str]:
         """The members of a structure with their types."""
         record = self.records.get(kind)
         if not record or record["tagUsed"] != "struct":
@@ -120,11 +115,14 @@ class Unit:
 
     def function(self, name: str) -> tuple[list[Node], Node]:
         """The parameters and the body."""
-        node = self.functions[name]
-        *parameters, body = [x for x in node["inner"] if x["kind"] != "FullComment"]
-        if {x["kind"] for x in parameters} - {"ParmVarDecl"} or node.get("variadic"):
+        *parameters, body = [x for x in self.functions[name]["inner"] if x["kind"] != "FullComment"]
+        if {x["kind"] for x in parameters} - {"ParmVarDecl"} or self.functions[name].get("variadic"):
             raise Refused(f"unknown: {name} has an attribute, or any number of arguments")
         return parameters, body
+
+    def result(self, name: str) -> str:
+        """The type of what a function returns."""
+        return str(self.functions[name]["type"]["qualType"]).split("(")[0].strip()
 
 
 def add_lines(node: Node, last: list[int]) -> None:

@@ -1,5 +1,5 @@
-"""Wrong edits of format.js: the function whose check has to refuse each, the text, what replaces it, and how the reason
-starts for which it is refused."""
+"""Edits that are wrong: the function whose check has to refuse each, the text, what is put in its place, and how the reason
+starts. All but the last are of format.js."""
 
 VARINT = "export function readVarint(bytes, at, end) {"
 FAILED = "({ status, code: 0, size: 0, next })"
@@ -29,8 +29,8 @@ EDITS = [
     ("encodedLength", LENGTHS, "varintLength(code) + 1", "wrong result: length"),
     ("encodeMultihash", "new Uint8Array(encodedLength(code, size))", "new Uint8Array(300)", "wrong result: length"),
     ("encodeScale", "writeWord(highPart(code, 32), bytes, 4)", "writeWord(0, bytes, 4)", "wrong result: byte"),
-    ("encodeScale", "bytes[8] = size;", "", "wrong result: the places written"),
-    ("encodeScale", "bytes.set(digest, 9);", "", "wrong result: digest"),
+    ("encodeScale", "bytes[8] = size;", "", "wrong result: the indices written"),
+    ("encodeScale", "bytes.set(digest, 9);", "", "wrong result: number of digest bytes"),
     ("compareMultihashes", "leftSize < rightSize ? -1", "leftSize > rightSize ? -1", "wrong result: order"),
     # by induction a turn of the loop is seen to be wrong, not arrays for which the result is
     ("compareBytes", "left[index] < right[index] ? -1 : 1", "left[index] < right[index] ? 1 : -1", "not shown"),
@@ -84,6 +84,6 @@ EDITS = [
     ("encodedLength", LENGTHS, f"{LENGTHS} + ((Number) => Number - size)(size)", "unknown: ArrowFunction"),
     ("varintLength", "limit *= 128) length++", "limit *= 1) length++", "no end"),
     ("varintLength", "  let length = 1;", "  let length = value > 77 ? varintLength(value) : 1;", "no end"),
-    # no edit, but a solver that gives up
-    ("readHead", "", "", "unknown: z3"),
+    # a solver that gives up
+    ("readHead", "solver.add(*RANGES", 'solver.set("rlimit", 1)\n    solver.add(*RANGES', "unknown: z3"),
 ]
