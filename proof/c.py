@@ -129,7 +129,7 @@ class Run(Memory):
                 return self.value(x)
             case ["IntegerLiteral", *_]:
                 return self.number(int(node["value"]), type_of(node))
-            case ["StringLiteral", *_]:
+            case ["StringLiteral", *_] if node["value"].startswith('"'):
                 text = json.loads(node["value"]).encode("ascii") + b"\0"
                 return Pointer(Region("a text", self.size(len(text)), text=text), self.size(0))
             case ["ImplicitValueInitExpr", *_]:
@@ -332,16 +332,16 @@ class Run(Memory):
         return True
 
     def switch(self, x: Value, body: Node) -> None:
-        """Each label has a statement that returns."""
         otherwise = None
-        for each in body["inner"]:
-            *label, then = each["inner"]
-            if each["kind"] not in ("CaseStmt", "DefaultStmt") or then["kind"] != "ReturnStmt":
-                raise Refused("unknown: a label without a statement that returns")
-            if not label:
-                otherwise = then
-            elif self.decide(x == self.value(label[0])):
-                return self.statement(then)
+        for each in body.get("inner", []):
+            match parts(each):
+                case ["CaseStmt", label, {"kind": "ReturnStmt"} as then]:
+                    if self.decide(x == self.value(label)):
+                        return self.statement(then)
+                case ["DefaultStmt", {"kind": "ReturnStmt"} as then]:
+                    otherwise = then
+                case _:
+                    raise Refused("unknown: a statement in a switch that is no label with a return")
         if otherwise:
             self.statement(otherwise)
 

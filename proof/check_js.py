@@ -7,7 +7,7 @@
 import re
 import sys
 from collections.abc import Callable
-from dataclasses import dataclass, field
+from dataclasses import dataclass
 from functools import partial
 from pathlib import Path
 from typing import Any
@@ -15,18 +15,18 @@ from typing import Any
 import definitions
 import z3
 from command import command
-from definitions import FIRST, OK, SECOND, Front, Result, is_code, varint_of
+from definitions import FIRST, OK, SECOND, Result, Rows, is_code
 from js import Node, Program, Run, Scope
-from js_values import SAFE, WIDTH, Array, Number, Text, Value, known, symbol
-from path import Refused, Return, miswritten, report, run_paths
+from js_values import SAFE, WIDTH, Array, Number, Value, known, symbol
+from path import Refused, Return, Wrong, check, miswritten, report
 from wrong_js import EDITS
 
 FOLDER = Path(__file__).resolve().parents[1] / "bindings/js"
 STATUSES = tuple(re.findall(r"^  '(\w+)',$", (FOLDER / "statuses.js").read_text("utf-8"), re.M))
-INDEX = 2**52  # no array has as many bytes
-
 # ---- arguments: bit vectors of 64 bits for the definitions, and the same numbers for JavaScript
-MOST = {"at": INDEX, "length": INDEX, "left": INDEX, "right": INDEX, "limit": 255, "size": 255, "room": 9}
+INDEX = 2**52  # no array has as many bytes
+NUMBERS = {"at": INDEX, "length": INDEX, "limit": 255, "code": 2**64 - 1, "other": 2**64 - 1}
+NUMBERS |= {"left": INDEX, "right": INDEX, "size": 255, "room": 9}  # what each is at most
 
 
 def bits(name: str) -> Any:
@@ -34,18 +34,18 @@ def bits(name: str) -> Any:
 
 
 def number(name: str) -> Number:
-    return symbol(bits(name), "number" if name in MOST else "wide")
+    return symbol(bits(name), "wide" if NUMBERS[name] > SAFE else "number")
 
 
-RANGES = [z3.ULE(bits(name), most) for name, most in MOST.items()] + [z3.ULE(bits("at") + bits("length"), INDEX)]
-END = Number(number("at").x + number("length").x)
+RANGES = [z3.ULE(bits(name), most) for name, most in NUMBERS.items()]
+RANGES.append(z3.ULE(bits("at") + bits("length"), INDEX))
 INPUT, WHOLE = Array("bytes", number("length"), number("at")), Array("bytes", number("length"))
-DIGEST, LEFT, RIGHT = Array("digest", number("size")), Array("one", number("left")), Array("two", number("right"))
+DIGEST, LEFT, RIGHT = (
+    Array(*x) for x in (("digest", number("size")), ("one", number("left")), ("two", number("right")))
+)
+
 
 # ---- results: what may be wrong, each with the condition under which it is
-Wrong = dict[str, Any]
-
-
 def wide(x: Value) -> Any:
     return z3.BitVecVal(x, WIDTH) if isinstance(x, int) else z3.ZeroExt(WIDTH - x.size(), x)
 
@@ -58,14 +58,11 @@ def another(found: Value, wanted: Any) -> Any:
     return z3.Or(found.x != wanted, (found.x > SAFE) != is_big)
 
 
-def status(found: Value, wanted: Result, _: Any) -> Wrong:
-    if isinstance(found, Text):
-        return {"status": found.place != wanted.members["status"]}
-    is_known = found in STATUSES
-    return {"status": wanted.members["status"] != STATUSES.index(found) if is_known else True}
+def status(found: Value, wanted: Result, _: Any) -> dict[str, Any]:
+    return {"status": wanted.members["status"] != STATUSES.index(found) if found in STATUSES else True}
 
 
-def decoded(found: Value, wanted: Result, given: list[Value]) -> Wrong:
+def decoded(found: Value, wanted: Result, given: list[Value]) -> dict[str, Any]:
     """Of a varint, of the two before a digest, or of a multihash, which ends with its digest."""
     members, origin = wanted.members, given[0].origin.x
     size = wide(members.get("digest_length", members.get("size", 0)))
@@ -81,23 +78,27 @@ def decoded(found: Value, wanted: Result, given: list[Value]) -> Wrong:
     return status(found["status"], wanted, given) | wrong
 
 
-def length_of(found: Value, wanted: Result, _: Any) -> Wrong:
+def varint_read(found: Value, wanted: Result, given: list[Value]) -> dict[str, Any]:
+    return decoded(found, Result({"value": 0, **wanted.members}), given)
+
+
+def length_of(found: Value, wanted: Result, _: Any) -> dict[str, Any]:
     return {"length": another(found, len(wanted.head) + wide(wanted.digest))}
 
 
-def encoding(found: Value, wanted: Result, given: Any) -> Wrong:
+def encoding(found: Value, wanted: Result, given: Any) -> dict[str, Any]:
     """Of a new array: the bytes of the head, the digest, and nothing else."""
     if not isinstance(found, Array) or found.role != "new":
         return {"the array": True}
     return length_of(found.count, wanted, given) | miswritten(found.written, found.copied, wanted)
 
 
-def varint_end(found: Value, wanted: Result, given: list[Value]) -> Wrong:
+def varint_end(found: Value, wanted: Result, given: list[Value]) -> dict[str, Any]:
     wrong = miswritten(given[1].written, given[1].copied, wanted)
     return {"next": another(found, number("at").x + len(wanted.head))} | wrong
 
 
-def order(found: Value, wanted: Result, _: Any) -> Wrong:
+def order(found: Value, wanted: Result, _: Any) -> dict[str, Any]:
     return {"order": another(found, z3.BitVecVal(wanted.members[""], WIDTH))}
 
 
@@ -114,8 +115,9 @@ def read_varint(run: Run, bytes: Value, index: Value, end: Value) -> Value:
     found, start = (FIRST, origin) if z3.is_true(z3.simplify(index == origin)) else (SECOND, origin + wide(FIRST.end))
     must_be(run, z3.And(index == start, end == origin + number("length").x))
     must_be(run, found is FIRST or FIRST.status == OK)
+    status = [name for number, name in enumerate(STATUSES) if run.decide(found.status == number)]
     next = Number(z3.simplify(origin + wide(found.end)))
-    return {"status": Text(found.status, STATUSES), "value": symbol(found.number, "wide"), "next": next}
+    return {"status": "".join(status), "value": symbol(found.number, "wide"), "next": next}
 
 
 def compare_bytes(run: Run, one: Value, two: Value, count: Value) -> Value:
@@ -149,94 +151,84 @@ class Turn(Run):
 
 # ---- the functions of format.js
 @dataclass
-class Check:
-    """Compares what a function returns for these arguments, of which each path has new ones, with a definition."""
+class Function:
+    """What a function returns for these arguments, of which each path has new ones, is what a definition says of numbers."""
 
-    definition: Any
-    wrong: Callable[[Value, Result, list[Value]], Wrong]
+    definition: Callable[..., Any]
+    numbers: str
+    wrong: Callable[[Value, Result, list[Value]], dict[str, Any]]
     arguments: Callable[[], list[Value]]
-    when: list[Any] = field(default_factory=list)
-    run: type[Run] = Run
+    when: Any = True
+    path_type: type[Run] = Run
 
 
-NAMES = """readVarint readHead readMultihash decodeMultihash readScale encodingStatus varintLength writeVarint encodedLength
-    encodeMultihash encodeScale compareMultihashes compareBytes""".split()
+def varint(code: Any) -> Rows:
+    return definitions.varint_of(code, lambda head: Result({}, head))
 
 
-def check_of(name: str) -> Check:
-    at, length, code, size = bits("at"), bits("length"), bits("code"), bits("size")
-    place = number("at")
-    varint = varint_of(code, lambda head: Result({}, head))
-    pair = definitions.encoding(code, size, lambda head: Result({}, head, size))
-    match name:
-        case "readVarint":
-            wrong = lambda found, wanted, given: decoded(found, Result({"value": 0, **wanted.members}), given)
-            return Check(definitions.get_varint(length), wrong, lambda: [INPUT, place, END])
-        case "readHead":
-            return Check(definitions.head(length), decoded, lambda: [INPUT, place, END])
-        case "readMultihash":
-            definition = definitions.read_limit(length, bits("limit"))
-            return Check(definition, decoded, lambda: [INPUT, place, END, number("limit")])
-        case "decodeMultihash":
-            return Check(definitions.from_bytes(length), decoded, lambda: [WHOLE, number("length")])
-        case "readScale":
-            return Check(definitions.scale_decode(length), decoded, lambda: [WHOLE, number("length")])
-        case "encodingStatus":
-            statuses = definitions.fitting(code, bits("other"), Result({"status": OK}))
-            return Check(statuses, status, lambda: [number("code"), number("other")])
-        case "varintLength":
-            return Check(varint, length_of, lambda: [number("code")], [is_code(code)])
-        case "writeVarint":
-            room = [z3.And(z3.UGE(bits("room"), i), z3.ULT(code, 1 << 7 * i)) for i in range(1, 10)]
-            given = lambda: [number("code"), Array("out", number("room"), place, "output"), place]
-            return Check(varint, varint_end, given, [is_code(code), z3.Or(room)])
-        case "encodedLength":
-            return Check(pair, length_of, lambda: [number("code"), number("size")], [is_code(code)])
-        case "encodeMultihash":
-            return Check(pair, encoding, lambda: [number("code"), DIGEST, number("size")], [is_code(code)])
-        case "encodeScale":
-            scale = definitions.scale_encode(code, size, 264)
-            return Check(scale, encoding, lambda: [number("code"), DIGEST, number("size")], [is_code(code)])
-        case "compareMultihashes":
-            orders = definitions.compare(code, bits("left"), bits("other"), bits("right"))
-            given = lambda: [number("code"), LEFT, number("left"), number("other"), RIGHT, number("right")]
-            return Check(orders, order, given)
-        case "compareBytes":
-            rest = Number(number("left").x - place.x)
-            one, two = (z3.BitVec(f"{name}[0]", 8) for name in ("one", "two"))  # from the turn's index on
-            turns = [(at == bits("left"), Result({"": 0})), (z3.ULT(one, two), Result({"": -1}))]
-            turns += [(z3.UGT(one, two), Result({"": 1})), (True, Result({"": 2}))]
-            given = lambda: [Array("one", rest, place), Array("two", rest, place), number("left")]
-            return Check(turns, order, given, [z3.ULE(at, bits("left"))], Turn)
-    raise Refused("unknown: a function without a definition")
+def pair(code: Any, size: Any) -> Rows:
+    return definitions.encoding(code, size, lambda head: Result({}, head, size))
 
 
-def run(name: str) -> int:
-    """Checks a function. Returns the number of its paths."""
-    program, check, solver = Program(FOLDER / "format.js"), check_of(name), z3.SolverFor("QF_BV")
-    if program.exports != {*NAMES}:
-        raise Refused(f"unknown: no definition, or no function: {' '.join(program.exports ^ {*NAMES})}")
-    solver.add(*RANGES, *check.when)
-    rows = check.definition
-    if isinstance(rows, Front):
-        solver.add(rows.holds())
-        rows = rows.rows
+def turn(at: Any, left: Any) -> Rows:
+    """What a turn of compareBytes returns, by the bytes at its index."""
+    one, two = z3.BitVec("one[0]", 8), z3.BitVec("two[0]", 8)
+    rows = [(at == left, 0), (z3.ULT(one, two), -1), (z3.UGT(one, two), 1), (True, 2)]
+    return [(when, Result({"": order})) for when, order in rows]
 
-    def compare(path: Run) -> None:
-        path.summaries = {"readVarint": read_varint, "compareBytes": compare_bytes}
-        path.summaries.pop(name, None)
-        given = check.arguments()
-        found = path.call(name, given)
-        kind = "not shown" if check.run is Turn else "wrong result"
-        path.compare(rows, lambda wanted: check.wrong(found, wanted, given), kind)
 
-    return run_paths(solver, partial(check.run, program, solver), compare)
+def functions() -> dict[str, Function]:
+    at, length, limit, code, other, left, right, size, room = map(number, NUMBERS)
+    end, rest = Number(at.x + length.x), Number(left.x - at.x)
+    is_valid = is_code(bits("code"))
+    has_room = z3.Or([z3.And(z3.UGE(bits("room"), i), z3.ULT(bits("code"), 1 << 7 * i)) for i in range(1, 10)])
+    head, read_limit, from_bytes = definitions.head, definitions.read_limit, definitions.from_bytes
+    fitting = lambda code, size: definitions.fitting(code, size, Result({"status": OK}))
+    scale = lambda code, size: definitions.scale_encode(code, size, 264)
+    place = lambda: [code, Array("out", room, at, "output"), at]
+    ones = lambda: [Array("one", rest, at), Array("two", rest, at), left]
+    both = lambda: [code, LEFT, left, other, RIGHT, right]
+    return {
+        "readVarint": Function(definitions.get_varint, "length", varint_read, lambda: [INPUT, at, end]),
+        "readHead": Function(head, "length", decoded, lambda: [INPUT, at, end]),
+        "readMultihash": Function(read_limit, "length limit", decoded, lambda: [INPUT, at, end, limit]),
+        "decodeMultihash": Function(from_bytes, "length", decoded, lambda: [WHOLE, length]),
+        "readScale": Function(definitions.scale_decode, "length", decoded, lambda: [WHOLE, length]),
+        "encodingStatus": Function(fitting, "code other", status, lambda: [code, other]),
+        "varintLength": Function(varint, "code", length_of, lambda: [code], is_valid),
+        "writeVarint": Function(varint, "code", varint_end, place, z3.And(is_valid, has_room)),
+        "encodedLength": Function(pair, "code size", length_of, lambda: [code, size], is_valid),
+        "encodeMultihash": Function(pair, "code size", encoding, lambda: [code, DIGEST, size], is_valid),
+        "encodeScale": Function(scale, "code size", encoding, lambda: [code, DIGEST, size], is_valid),
+        "compareMultihashes": Function(definitions.compare, "code left other right", order, both),
+        "compareBytes": Function(turn, "at left", order, ones, z3.ULE(bits("at"), bits("left")), Turn),
+    }
 
 
 def result(name: str) -> str:
-    return report(name, lambda: run(name))
+    """Checks a function."""
+
+    def run() -> int:
+        program, known_functions = Program(FOLDER / "format.js"), functions()
+        if odd := program.exports ^ {*known_functions} or {name} - {*known_functions}:
+            raise Refused(f"unknown: no definition, or no function: {' '.join(odd)}")
+        function, solver = known_functions[name], z3.SolverFor("QF_BV")
+        solver.add(*RANGES, function.when)
+
+        def end(path: Run) -> Wrong:
+            path.summaries = {"readVarint": read_varint, "compareBytes": compare_bytes}
+            path.summaries.pop(name, None)
+            given = function.arguments()
+            found = path.call(name, given)
+            return lambda wanted: function.wrong(found, wanted, given)
+
+        definition = function.definition(*map(bits, function.numbers.split()))
+        what = "not shown" if function.path_type is Turn else "wrong result"
+        return check(solver, definition, partial(function.path_type, program, solver), end, what)
+
+    return report(name, run)
 
 
 if __name__ == "__main__":
     files = ["bindings/c/include/multihash.h", *(f"bindings/js/{x}.js" for x in ("format", "limits", "statuses"))]
-    sys.exit(command("check_js.py", files, {"format.js": result}, lambda: NAMES, EDITS))
+    sys.exit(command("check_js.py", files, {"format.js": result}, lambda: [*functions()], EDITS))

@@ -85,30 +85,24 @@ def end_of_left_out(words: Words, at: int) -> int:
     return at
 
 
-def parts(path: Path, left_out: re.Pattern[str]) -> dict[str, Words]:
-    """Returns the words of each function, and those between functions, by its name and number."""
+def compared(path: Path, left_out: re.Pattern[str]) -> Words:
+    """Returns the words of a module that are compared."""
     words, kept, at = words_of(path), [], 0
     while at < len(words):
         end = end_of_left_out(words, at) if path.suffix == ".rt" or words[at] == "#" else at
         kept += [words[at]] if end == at else []
         at = max(end, at + 1)
-    text = BOTH.sub("", left_out.sub("", " ".join(kept) + " "))
-    pieces = re.split(r"(?<= )fn (?=\w)", text)
-    return {
-        f"{number} {piece.partition(' ')[0] if number else ''}": piece.split() for number, piece in enumerate(pieces)
-    }
+    return BOTH.sub("", left_out.sub("", " ".join(kept) + " ")).split()
 
 
 def difference(path: Path, source: Path) -> str:
     """Returns where a module is not its source."""
-    found, wanted = parts(path, ADDED), parts(source, OF_RATTLE)
-    for (name, piece), (_, other) in zip_longest(found.items(), wanted.items(), fillvalue=("", [])):
-        for at, (word, proved) in enumerate(zip_longest(piece, other, fillvalue="the end")):
-            if word != proved:
-                before = " ".join(piece[max(0, at - 6) : at])
-                return (
-                    f"{path}: fn {name.partition(' ')[2]}: after `{before}` it has {word}, the proved source {proved}"
-                )
+    found, function = compared(path, ADDED), ""
+    for at, (word, proved) in enumerate(zip_longest(found, compared(source, OF_RATTLE), fillvalue="the end")):
+        if word != proved:
+            before = " ".join(found[max(0, at - 6) : at])
+            return f"{path}: fn {function}: after `{before}` it has {word}, the proved source {proved}"
+        function = word if found[at - 1] == "fn" else function
     return ""
 
 
@@ -139,8 +133,8 @@ EDITS = (
     ("form/block", "if len > MAX as u64", "#[cfg(any())]\n        if len > MAX as u64", "read"),
     (
         "proved/varint/word",
-        "    if varint >>",
-        '    #[cfg_attr(any(unix), cfg(any()), doc = "FORMATS")]\n    if varint >>',
+        "if varint >>",
+        '#[cfg_attr(any(unix), cfg(any()), doc = "FORMATS")]\n    if varint >>',
         "read_word",
     ),
     ("form/counted", "for _ in 0..count {", "for _ in 0..=count {", "read_items"),
@@ -155,9 +149,8 @@ def accepted() -> Iterator[str]:
             path = Path(shutil.copytree(PACKAGE, Path(work, "src")), f"{module}.rs")
             text = path.read_text("utf-8")
             path.write_text(text.replace(old, new), "utf-8")
-            if text.count(old) != 1 or not any(
-                f"{module}.rs: fn {name}:" in each for each in errors(path.parents[module.count("/")])
-            ):
+            found = list(errors(path.parents[module.count("/")]))
+            if text.count(old) != 1 or not any(f"{module}.rs: fn {name}:" in each for each in found):
                 yield f"{module}.rs, fn {name}: not refused: {new!r} in place of {old!r}"
 
 

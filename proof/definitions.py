@@ -95,7 +95,7 @@ class Varint:
 FIRST, SECOND = Varint("first"), Varint("second")
 
 
-class Front(NamedTuple):
+class TwoVarints(NamedTuple):
     """Rows about FIRST and SECOND: the varints at the start of an input, of which the first `length` bytes are there."""
 
     rows: Rows
@@ -109,10 +109,10 @@ class Front(NamedTuple):
         return z3.And(FIRST.holds(self.name, 0, self.length), *second)
 
 
-def front(name: str, length: Any, malformed: Malformed, then: Callable[[Any, Any, Any], Any]) -> Front:
+def two_varints(name: str, length: Any, malformed: Malformed, then: Callable[[Any, Any, Any], Any]) -> TwoVarints:
     """The two numbers at the front, and their end; the first malformed varint decides."""
     errors = [(each.status != OK, malformed(each.status, each.end)) for each in (FIRST, SECOND)]
-    return Front([*errors, (True, then(FIRST.number, SECOND.number, SECOND.end))], name, length)
+    return TwoVarints([*errors, (True, then(FIRST.number, SECOND.number, SECOND.end))], name, length)
 
 
 def stopped(status: Value, taken: Value) -> Result:
@@ -131,14 +131,14 @@ def read_varint(bytes_length: Any) -> Rows:
     return varint("bytes", 0, bytes_length, malformed, lambda x, end: Result({"status": OK, "value": x, "length": end}))
 
 
-def head(bytes_length: Any) -> Front:
+def head(bytes_length: Any) -> TwoVarints:
     def both(code: Any, size: Any, end: Any) -> Result:
         return Result({"status": OK, "code": code, "digest_length": size, "taken": end})
 
-    return front("bytes", bytes_length, stopped, both)
+    return two_varints("bytes", bytes_length, stopped, both)
 
 
-def read_limit(bytes_length: Any, limit: Value) -> Front:
+def read_limit(bytes_length: Any, limit: Value) -> TwoVarints:
     def fits(code: Any, size: Any, end: Any) -> Rows:
         after = widened(end)
         pair = {"code": code, "digest_offset": end, "digest_length": size, "taken": after + size}
@@ -148,14 +148,14 @@ def read_limit(bytes_length: Any, limit: Value) -> Front:
             (True, Result({"status": OK, **pair})),
         ]
 
-    return front("bytes", bytes_length, stopped, fits)
+    return two_varints("bytes", bytes_length, stopped, fits)
 
 
-def read(bytes_length: Any) -> Front:
+def read(bytes_length: Any) -> TwoVarints:
     return read_limit(bytes_length, 255)
 
 
-def whole(name: str, length: Any, whole_length: Any) -> Front:
+def whole(name: str, length: Any, whole_length: Any) -> TwoVarints:
     """The verdict on an input of `whole_length` bytes, of which the first `length` are there."""
 
     def malformed(status: Value, _: Value) -> Result:
@@ -171,14 +171,14 @@ def whole(name: str, length: Any, whole_length: Any) -> Front:
             (True, Result({"status": OK, **pair, "taken": whole_length})),
         ]
 
-    return front(name, length, malformed, fits)
+    return two_varints(name, length, malformed, fits)
 
 
-def from_bytes(bytes_length: Any) -> Front:
+def from_bytes(bytes_length: Any) -> TwoVarints:
     return whole("bytes", bytes_length, bytes_length)
 
 
-def from_prefix(prefix_length: Any, whole_length: Any) -> Front:
+def from_prefix(prefix_length: Any, whole_length: Any) -> TwoVarints:
     is_less = z3.ULT(prefix_length, whole_length)
     return whole("prefix", z3.If(is_less, prefix_length, whole_length), whole_length)
 

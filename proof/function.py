@@ -5,9 +5,9 @@ from typing import Any
 import definitions
 import z3
 from c import Run
-from definitions import FIRST, OK, SECOND, Front, Result, widened
+from definitions import FIRST, OK, SECOND, TwoVarints, Result, widened
 from memory import Place, Pointer, Region, Value, Variable
-from path import Refused, miswritten, run_paths
+from path import Refused, Wrong, check, miswritten
 from tree import Unit, type_of
 
 # Static functions of this type read a varint: of `bytes` with a length, the number and how many bytes it has. Each is
@@ -60,32 +60,29 @@ class Check:
 
     def run(self) -> int:
         definition = self.definition()
-        if isinstance(definition, Front):
-            self.solver.add(definition.holds())
-        return run_paths(self.solver, self.new_path, lambda path: self.compare(path, definition))
+        return check(self.solver, definition, self.new_path, lambda path: self.end(path, definition), self.kind)
 
     def new_path(self, prefix: list[bool], model: Any) -> Run:
         return Run(self.unit, self.solver, prefix, model)
 
-    def compare(self, path: Run, definition: Any) -> None:
-        """Runs a path to its end, and compares what is there."""
-        rows, path.arguments = definition, self.arguments()
-        if isinstance(definition, Front):
-            rows = definition.rows
+    def end(self, path: Run, definition: Any) -> Wrong:
+        """Runs a path to its end. What is returned says what may be wrong there."""
+        path.arguments = self.arguments()
+        if isinstance(definition, TwoVarints):
             for reader in readers_of(self.unit):
                 path.summaries[reader] = partial(self.varint, path, definition)
         result = path.call(self.name, list(path.arguments.values()))
-        path.compare(rows, lambda wanted: self.wrong(path, result, wanted), self.kind)
+        return lambda wanted: self.wrong(path, result, wanted)
 
-    def varint(self, path: Run, front: Front, bytes_: Value, length: Value, number: Value, count: Value) -> Value:
+    def varint(self, path: Run, of: TwoVarints, bytes_: Value, length: Value, number: Value, count: Value) -> Value:
         """What a call of a function for varints does."""
-        if not isinstance(bytes_, Pointer) or bytes_.region.name != front.name:
+        if not isinstance(bytes_, Pointer) or bytes_.region.name != of.name:
             raise Refused("unknown: the varint of something else")
         at = z3.simplify(bytes_.offset - self.start)
         is_first = z3.is_bv_value(at) and at.as_long() == 0
         varint, before = (FIRST, path.size(0)) if is_first else (SECOND, path.size(FIRST.end))
         path.must(is_first or FIRST.status == OK, "unknown: a varint after none")
-        is_next = z3.And(at == before, length == path.size(front.length) - before)
+        is_next = z3.And(at == before, length == path.size(of.length) - before)
         path.must(is_next, "unknown: the varint of other bytes")
         path.store(number, varint.number if path.decide(varint.status == OK) else None)
         path.store(count, path.size(varint.end) - before)

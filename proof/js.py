@@ -258,11 +258,6 @@ def unknown(node: Node, what: str) -> Refused:
     return Refused(f"unknown: {what} (line {node['loc']['start']['line']})")
 
 
-KINDS = """Identifier Literal ObjectExpression Property UnaryExpression BinaryExpression LogicalExpression NewExpression
-    ConditionalExpression MemberExpression CallExpression AssignmentExpression UpdateExpression BlockStatement ReturnStatement
-    IfStatement VariableDeclaration VariableDeclarator ForStatement ExpressionStatement ObjectPattern""".split()
-
-
 class Program:
     """The functions and constants of a module."""
 
@@ -313,11 +308,11 @@ class Program:
         (self.functions if is_function else self.constants)[name] = x
 
     def look(self, function: Node) -> None:
-        """Refuses what nothing in a function may be, even what is not run, and a name that is declared twice: each name is
-        that of one thing wherever it is read."""
+        """Refuses a name that is declared twice, and what declares one elsewhere: each name is that of one thing wherever it
+        is read."""
         names = [name for each in function["params"] for name in names_of(each)]
         for node in nodes([*function["params"], function["body"]]):
-            if node["type"] not in KINDS or node.get("kind") == "var":
+            if re.search("Function|Class", node["type"]) or node.get("kind") == "var":
                 raise unknown(node, f"{node.get('kind', node['type'])} in a function")
             names += names_of(node["id"]) if node["type"] == "VariableDeclarator" else []
         if again := [x for x in names if names.count(x) > 1 or x in GLOBALS.union(self.functions, self.constants)]:

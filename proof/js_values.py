@@ -11,7 +11,7 @@ SAFE = 2**53 - 1  # numbers up to here are exact
 BIG = 2**66 - 1  # a bound of this program: a bigint has none
 INT = 2**31 - 1
 
-Value = Any  # a Number, a bool or a condition of z3, a str or a Text, an Array, or a dict: an object
+Value = Any  # a Number, a bool or a condition of z3, a str, an Array, or a dict: an object
 
 
 @dataclass(frozen=True)
@@ -47,14 +47,6 @@ def known(x: int, type: str = "number") -> Number:
 def symbol(x: Any, type: str = "number") -> Number:
     """The number of a bit vector of any width."""
     return Number(z3.ZeroExt(WIDTH - x.size(), x), type)
-
-
-@dataclass(frozen=True)
-class Text:
-    """A text that is not known: its place among `texts`."""
-
-    place: Any
-    texts: tuple[str, ...]
 
 
 @dataclass(eq=False)
@@ -108,8 +100,6 @@ class Operators(Path):
             case Number(), Number():
                 a, b = (a, b) if a.type == b.type == "wide" else (self.number(a), self.number(b))
                 return related("===", a, b) if a.type == b.type else False
-            case Text(), str():
-                return a.place == a.texts.index(b) if b in a.texts else False
             case str(), str():
                 return a == b
         raise Refused(f"unknown: === of {a} and {b}")

@@ -5,7 +5,7 @@ from collections.abc import Callable
 from typing import Any, TypeVar
 
 import z3
-from definitions import Result, Rows, widened
+from definitions import TwoVarints, Result, Rows, widened
 
 MOST_STEPS = 5_000
 
@@ -66,7 +66,7 @@ class Path:
         if self.steps > MOST_STEPS:
             raise Refused(f"no end: a path of more than {MOST_STEPS} steps")
 
-    def compare(self, rows: Rows, wrong: Callable[[Result], dict[str, Any]], what: str = "wrong result") -> None:
+    def compare(self, rows: Any, wrong: "Wrong", what: str) -> None:
         """Compares the end of the path with a definition. For each row that an input of the path has, `wrong` says what
         may be wrong there: a name, and the condition under which it is."""
         model = self.model
@@ -81,11 +81,23 @@ class Path:
             model = input_of(self.solver)
 
 
+Wrong = Callable[[Result], dict[str, Any]]
 SomePath = TypeVar("SomePath", bound=Path)
 
 
-def run_paths(solver: Any, start: Callable[[list[bool], Any], SomePath], run: Callable[[SomePath], None]) -> int:
-    """Runs each path, which `start` makes of a prefix and an input. Returns their number."""
+def check(
+    solver: Any,
+    definition: Rows | TwoVarints,
+    start: Callable[[list[bool], Any], SomePath],
+    run: Callable[[SomePath], Wrong],
+    what: str = "wrong result",
+) -> int:
+    """Compares each path with a definition. `start` makes one of a prefix and an input; `run` goes to its end, and returns what
+    says what may be wrong there. Returns the number of paths."""
+    rows: Any = definition
+    if isinstance(definition, TwoVarints):
+        rows = definition.rows
+        solver.add(definition.holds())
     model = input_of(solver)
     if model is None:
         raise Refused("unknown: no input meets the conditions of a call")
@@ -95,7 +107,7 @@ def run_paths(solver: Any, start: Callable[[list[bool], Any], SomePath], run: Ca
         solver.push()
         path = start(*waiting.pop())
         try:
-            run(path)
+            path.compare(rows, run(path), what)
         except Refused as why:
             raise Refused(f"{why} (line {path.line})") from why
         solver.pop()
@@ -104,11 +116,11 @@ def run_paths(solver: Any, start: Callable[[list[bool], Any], SomePath], run: Ca
     return count
 
 
-def report(name: str, check: Callable[[], int]) -> str:
+def report(name: str, run: Callable[[], int]) -> str:
     """A line that says whether a check refuses a function."""
     began = time.process_time()
     try:
-        count = check()
+        count = run()
     except Refused as why:
         return f"{name}: REFUSED: {' '.join(str(why).split())}"
     return f"{name}: all inputs, {count} paths, {time.process_time() - began:.1f} s"

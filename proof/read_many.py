@@ -8,10 +8,10 @@ from typing import Any
 import definitions
 import z3
 from c import Run
-from definitions import OK, Front, Result, widened
+from definitions import OK, TwoVarints, Result, widened
 from function import Check, different, differs
 from memory import Place, Region, Value
-from path import Refused
+from path import Refused, Wrong
 from tree import Node, Unit
 
 
@@ -85,7 +85,7 @@ class ReadMany(Check):
         self.given |= {"bytes_length": self.start + self.rest, "out_length": self.count + self.room}
         self.solver.add(z3.ULE(self.start, self.given["bytes_length"]), z3.ULE(self.count, self.given["out_length"]))
 
-    def definition(self) -> Front:
+    def definition(self) -> TwoVarints:
         """What a turn does: nothing if nothing is left, else what `read` says of the bytes that are left."""
         read = definitions.read(self.rest)
         nothing_left = z3.Or(self.room == 0, self.rest == 0)
@@ -96,12 +96,12 @@ class ReadMany(Check):
         path.count, path.taken = self.count, self.start
         return path
 
-    def compare(self, path: Run, definition: Any) -> None:
+    def end(self, path: Any, definition: Any) -> Wrong:
         try:
-            super().compare(path, definition)
+            return super().end(path, definition)
         except Arrived as arrived:
             state = arrived.args[0]
-            path.compare(definition.rows, lambda wanted: self.went_on(path, state, wanted), self.kind)
+            return lambda wanted: self.went_on(path, state, wanted)
 
     def wrong(self, path: Any, result: Value, wanted: Result) -> dict[str, Any]:
         """What may be wrong where the function ends: in its result, or in an item of the last turn."""

@@ -64,10 +64,18 @@ class Unit:
         self.constants: dict[str, int] = {}
         self.records: dict[str, Node] = {}
         self.declared: list[str] = []  # the functions of multihash.h, in its order
-        tree = json.loads(run.stdout)
-        add_lines(tree, [0])
-        for node in tree["inner"]:
+        self.line = 0
+        for node in json.loads(run.stdout, object_hook=self.with_line)["inner"]:
             self.declare(node)
+
+    def with_line(self, node: Node) -> Node:
+        """Gives a node its line. Clang prints the line of a place only if it is another one than that of the place before."""
+        if "offset" in node:
+            self.line = node.setdefault("line", self.line)
+        if "range" in node:
+            begin = node["range"]["begin"]
+            node["line"] = begin.get("expansionLoc", begin).get("line", 0)
+        return node
 
     def declare(self, node: Node) -> None:
         kind, name, inner = node["kind"], node.get("name", ""), node.get("inner", [])
@@ -123,18 +131,3 @@ class Unit:
     def result(self, name: str) -> str:
         """The type of what a function returns."""
         return str(self.functions[name]["type"]["qualType"]).split("(")[0].strip()
-
-
-def add_lines(node: Node, last: list[int]) -> None:
-    """Gives each node its line, which Clang prints only if it is another one than before."""
-    if isinstance(node, list):
-        for each in node:
-            add_lines(each, last)
-    elif isinstance(node, dict):
-        if "offset" in node:
-            last[0] = node.setdefault("line", last[0])
-        for key, each in list(node.items()):
-            add_lines(each, last)
-            if key == "range":
-                begin = each["begin"].get("expansionLoc", each["begin"])
-                node["line"] = begin.get("line", last[0])

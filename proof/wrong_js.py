@@ -85,5 +85,5 @@ EDITS = [
     ("varintLength", "limit *= 128) length++", "limit *= 1) length++", "no end"),
     ("varintLength", "  let length = 1;", "  let length = value > 77 ? varintLength(value) : 1;", "no end"),
     # a solver that gives up
-    ("readHead", "solver.add(*RANGES", 'solver.set("rlimit", 1)\n    solver.add(*RANGES', "unknown: z3"),
+    ("readHead", "solver.add(*RANGES", 'solver.set("rlimit", 1)\n        solver.add(*RANGES', "unknown: z3"),
 ]
