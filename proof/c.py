@@ -261,7 +261,7 @@ class Run(Memory):
         name = node.get("name", "")
         if name in self.unit.functions or name in self.scope:
             raise Refused(f"unknown: {name}, which is the name of something else too")
-        self.scope[name] = Variable(name, type_of(node), x)
+        self.scope[name] = Variable(name, x)
 
     def statement(self, node: Node) -> None:
         self.step(node["line"])
@@ -305,16 +305,16 @@ class Run(Memory):
             self.scope = before
 
     def variable(self, node: Node) -> None:
-        parts = [x for x in node.get("inner", []) if x["kind"] != "FullComment"]
-        if node["kind"] != "VarDecl" or "storageClass" in node or "tls" in node or len(parts) != ("init" in node):
+        values = [x for x in node.get("inner", []) if x["kind"] != "FullComment"]
+        if node["kind"] != "VarDecl" or "storageClass" in node or "tls" in node or len(values) != ("init" in node):
             raise Refused(f"unknown: static, or a declaration of another kind: {node.get('name')}")
         kind = type_of(node)
         x = dict.fromkeys(self.unit.members(kind)) if kind in self.unit.records else None
         if not x and not kind.endswith("*"):
             self.unit.width(kind)
         self.declare(node, x)
-        if parts:
-            self.store(Place(self.scope[node["name"]]), self.value(parts[0]))
+        if values:
+            self.store(Place(self.scope[node["name"]]), self.value(values[0]))
 
     def loop(self, test: Node, body: Node, step: Node) -> None:
         while (not test or self.truth(test)) and self.turn(body):

@@ -78,10 +78,6 @@ def decoded(found: Value, wanted: Result, given: list[Value]) -> dict[str, Any]:
     return status(found["status"], wanted, given) | wrong
 
 
-def varint_read(found: Value, wanted: Result, given: list[Value]) -> dict[str, Any]:
-    return decoded(found, Result({"value": 0, **wanted.members}), given)
-
-
 def length_of(found: Value, wanted: Result, _: Any) -> dict[str, Any]:
     return {"length": another(found, len(wanted.head) + wide(wanted.digest))}
 
@@ -189,7 +185,7 @@ def functions() -> dict[str, Function]:
     ones = lambda: [Array("one", rest, at), Array("two", rest, at), left]
     both = lambda: [code, LEFT, left, other, RIGHT, right]
     return {
-        "readVarint": Function(definitions.get_varint, "length", varint_read, lambda: [INPUT, at, end]),
+        "readVarint": Function(definitions.get_varint, "length", decoded, lambda: [INPUT, at, end]),
         "readHead": Function(head, "length", decoded, lambda: [INPUT, at, end]),
         "readMultihash": Function(read_limit, "length limit", decoded, lambda: [INPUT, at, end, limit]),
         "decodeMultihash": Function(from_bytes, "length", decoded, lambda: [WHOLE, length]),

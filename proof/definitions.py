@@ -54,23 +54,20 @@ def varint_of(number: Any, then: Callable[[list[Any]], Any]) -> Rows:
     return rows
 
 
-# The result of reading. Of a malformed varint come the status, and the bytes up to and including the one that decides.
-Malformed = Callable[[Value, Value], Any]
-
-
-def varint(name: str, at: int, length: Any, malformed: Malformed, then: Callable[[Any, int], Any]) -> Rows:
-    """What an input of `length` bytes has at an index: a varint, its number and its end, or a malformed one."""
-    rows: Rows = []
+def varint(name: str, at: int, length: Any) -> list[tuple[Any, tuple[int, Any, int]]]:
+    """What an input of `length` bytes has at an index, in rows: a status, a number, which is 0 if the varint is malformed, and
+    the index after the varint, or after the byte that decides."""
+    rows: list[tuple[Any, tuple[int, Any, int]]] = []
     digits: list[Any] = []
     for end in range(at + 1, at + 10):
         byte = z3.BitVec(f"{name}[{end - 1}]", 8)
         digits.append(z3.Extract(6, 0, byte))
         number = z3.Concat(z3.BitVecVal(0, 1), *reversed(digits))
-        rows.append((length == end - 1, malformed(INSUFFICIENT, end - 1)))
+        rows.append((length == end - 1, (INSUFFICIENT, 0, end - 1)))
         if len(digits) > 1:
-            rows.append((byte == 0, malformed(NOT_MINIMAL, end)))
-        rows.append((z3.ULT(byte, 128), then(widened(number), end)))
-    return [*rows, (True, malformed(OVERFLOW, at + 9))]
+            rows.append((byte == 0, (NOT_MINIMAL, 0, end)))
+        rows.append((z3.ULT(byte, 128), (OK, widened(number), end)))
+    return [*rows, (True, (OVERFLOW, 0, at + 9))]
 
 
 class Varint:
@@ -82,17 +79,15 @@ class Varint:
 
     def holds(self, name: str, at: int, length: Any) -> Any:
         """That the symbols are what `varint` says."""
-
-        def holds(status: Value, end: Value, number: Value = 0) -> Any:
-            return z3.And(self.status == status, self.end == end, self.number == number)
-
         formula: Any = z3.BoolVal(False)
-        for when, then in reversed(varint(name, at, length, holds, lambda number, end: holds(OK, end, number))):
-            formula = z3.If(when, then, formula)
+        for when, (status, number, end) in reversed(varint(name, at, length)):
+            same = z3.And(self.status == status, self.number == number, self.end == end)
+            formula = z3.If(when, same, formula)
         return formula
 
 
 FIRST, SECOND = Varint("first"), Varint("second")
+CODE, SIZE, END = FIRST.number, SECOND.number, SECOND.end  # of both, if none is malformed
 
 
 class TwoVarints(NamedTuple):
@@ -109,46 +104,43 @@ class TwoVarints(NamedTuple):
         return z3.And(FIRST.holds(self.name, 0, self.length), *second)
 
 
-def two_varints(name: str, length: Any, malformed: Malformed, then: Callable[[Any, Any, Any], Any]) -> TwoVarints:
-    """The two numbers at the front, and their end; the first malformed varint decides."""
-    errors = [(each.status != OK, malformed(each.status, each.end)) for each in (FIRST, SECOND)]
-    return TwoVarints([*errors, (True, then(FIRST.number, SECOND.number, SECOND.end))], name, length)
-
-
 def stopped(status: Value, taken: Value) -> Result:
     return Result({"status": status, "taken": taken})
 
 
 def get_varint(length: Any) -> Rows:
     """The varint at the start of an input, and how many bytes decide."""
-    return varint("bytes", 0, length, stopped, lambda x, end: Result({"status": OK, "value": x, "taken": end}))
+    rows = varint("bytes", 0, length)
+    return [(when, Result({"status": status, "value": x, "taken": end})) for when, (status, x, end) in rows]
 
 
 def read_varint(bytes_length: Any) -> Rows:
-    def malformed(status: Value, _: Value) -> Result:
-        return Result({"status": status})
+    def result(status: int, number: Any, end: int) -> Result:
+        return Result({"status": status, "value": number, "length": end if status == OK else 0})
 
-    return varint("bytes", 0, bytes_length, malformed, lambda x, end: Result({"status": OK, "value": x, "length": end}))
+    return [(when, result(*row)) for when, row in varint("bytes", 0, bytes_length)]
+
+
+def malformed(taken: Any = None) -> Rows:
+    """The errors of the two varints, with that many bytes consumed, or else those up to and including the one that decides."""
+    return [(each.status != OK, stopped(each.status, each.end if taken is None else taken)) for each in (FIRST, SECOND)]
 
 
 def head(bytes_length: Any) -> TwoVarints:
-    def both(code: Any, size: Any, end: Any) -> Result:
-        return Result({"status": OK, "code": code, "digest_length": size, "taken": end})
-
-    return two_varints("bytes", bytes_length, stopped, both)
+    both = Result({"status": OK, "code": CODE, "digest_length": SIZE, "taken": END})
+    return TwoVarints([*malformed(), (True, both)], "bytes", bytes_length)
 
 
 def read_limit(bytes_length: Any, limit: Value) -> TwoVarints:
-    def fits(code: Any, size: Any, end: Any) -> Rows:
-        after = widened(end)
-        pair = {"code": code, "digest_offset": end, "digest_length": size, "taken": after + size}
-        return [
-            (is_too_long(size, limit), Result({"status": INVALID_SIZE, "size": size, "taken": end})),
-            (z3.ULT(widened(bytes_length) - after, size), stopped(UNEXPECTED_EOF, end)),
-            (True, Result({"status": OK, **pair})),
-        ]
-
-    return two_varints("bytes", bytes_length, stopped, fits)
+    after = widened(END)
+    pair = {"code": CODE, "digest_offset": END, "digest_length": SIZE, "taken": after + SIZE}
+    rows = [
+        *malformed(),
+        (is_too_long(SIZE, limit), Result({"status": INVALID_SIZE, "size": SIZE, "taken": END})),
+        (z3.ULT(widened(bytes_length) - after, SIZE), stopped(UNEXPECTED_EOF, END)),
+        (True, Result({"status": OK, **pair})),
+    ]
+    return TwoVarints(rows, "bytes", bytes_length)
 
 
 def read(bytes_length: Any) -> TwoVarints:
@@ -157,21 +149,16 @@ def read(bytes_length: Any) -> TwoVarints:
 
 def whole(name: str, length: Any, whole_length: Any) -> TwoVarints:
     """The verdict on an input of `whole_length` bytes, of which the first `length` are there."""
-
-    def malformed(status: Value, _: Value) -> Result:
-        return stopped(status, whole_length)
-
-    def fits(code: Any, size: Any, end: Any) -> Rows:
-        left = widened(whole_length) - widened(end)
-        pair = {"code": code, "digest_offset": end, "digest_length": size}
-        return [
-            (is_too_long(size), Result({"status": INVALID_SIZE, "size": size, "taken": whole_length})),
-            (z3.ULT(left, size), stopped(UNEXPECTED_EOF, whole_length)),
-            (z3.UGT(left, size), Result({"status": INVALID_SIZE, "size": left - size, "taken": whole_length})),
-            (True, Result({"status": OK, **pair, "taken": whole_length})),
-        ]
-
-    return two_varints(name, length, malformed, fits)
+    left = widened(whole_length) - widened(END)
+    pair = {"code": CODE, "digest_offset": END, "digest_length": SIZE}
+    rows = [
+        *malformed(whole_length),
+        (is_too_long(SIZE), Result({"status": INVALID_SIZE, "size": SIZE, "taken": whole_length})),
+        (z3.ULT(left, SIZE), stopped(UNEXPECTED_EOF, whole_length)),
+        (z3.UGT(left, SIZE), Result({"status": INVALID_SIZE, "size": left - SIZE, "taken": whole_length})),
+        (True, Result({"status": OK, **pair, "taken": whole_length})),
+    ]
+    return TwoVarints(rows, name, length)
 
 
 def from_bytes(bytes_length: Any) -> TwoVarints:
@@ -217,10 +204,9 @@ def encode(code: Any, digest_length: Any, out_length: Any) -> Rows:
 
 
 def encoded_len(code: Any, digest_length: Any) -> Rows:
-    def counted(head: list[Any]) -> Result:
-        return Result({"status": OK, "length": len(head) + widened(digest_length)})
-
-    return fitting(code, digest_length, encoding(code, digest_length, counted))
+    size = widened(digest_length)
+    counted = encoding(code, size, lambda head: Result({"status": OK, "length": len(head) + size}))
+    return fitting(code, digest_length, counted)
 
 
 # SCALE

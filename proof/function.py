@@ -43,19 +43,17 @@ class Check:
 
     def arguments(self) -> dict[str, Value]:
         """The arguments by their names, anew for each path."""
+        zero = z3.BitVecVal(0, self.unit.word)
+        if self.is_reader:
+            bytes_, length, number, count = self.types
+            places = {number: Place(Variable(number)), count: Place(Variable(count))}
+            return {bytes_: Pointer(Region("bytes", self.given[length]), zero), **self.given, **places}
         arguments: dict[str, Value] = {}
-        for name, kind in self.types.items():
-            length = self.given.get("length" if self.is_reader else f"{name}_length")
-            if name in self.given:
-                arguments[name] = self.given[name]
-            elif self.is_reader and name != "bytes":
-                arguments[name] = Place(Variable(name, kind.removesuffix(" *")))
-            elif length is not None:
-                arguments[name] = Pointer(
-                    Region(name, length, is_output=name == "out"), z3.BitVecVal(0, self.unit.word)
-                )
-            else:
+        for name in self.types:
+            if name not in self.given and f"{name}_length" not in self.given:
                 raise Refused(f"unknown: {name} without its length")
+            length = self.given.get(f"{name}_length")
+            arguments[name] = self.given.get(name, Pointer(Region(name, length, is_output=name == "out"), zero))
         return arguments
 
     def run(self) -> int:
@@ -93,9 +91,8 @@ class Check:
         found = result if isinstance(result, dict) else {"": result}
         if self.is_reader:
             number, count = (x.variable.value for x in path.arguments.values() if isinstance(x, Place))
-            found = {"status": result, "taken": count}
-            if wanted.members["status"] == OK:
-                found["value"] = number
+            is_ok = wanted.members["status"] == OK
+            found = {"status": result, "taken": count, "value": number if is_ok else z3.BitVecVal(0, 64)}
         wrong = different(found, wanted.members)
         if "out" in path.arguments:
             out = path.arguments["out"].region

@@ -264,7 +264,7 @@ class Program:
     def __init__(self, path: File):
         self.functions: dict[str, Node] = {}
         self.constants: dict[str, Value] = {}
-        self.exports: set[str] = set()
+        self.exports: set[str] = set()  # the functions that others can call
         text = path.read_text("utf-8")
         if found := re.search(r"[@#]__\w*", text):
             raise Refused(f"unknown: {found[0]}, by which a bundler leaves out calls")
@@ -273,22 +273,22 @@ class Program:
         if done.returncode:
             raise Refused(f"unknown: what acorn does not read: {done.stderr[:200]}")
         for node in json.loads(done.stdout)["body"]:
-            before = {*self.functions}
-            is_export = node["type"] == "ExportNamedDeclaration"
-            self.top(node["declaration"] or node if is_export else node, path.parent)
-            self.exports |= {*self.functions} - before if is_export else set()
+            self.top(node, path.parent)
         for function in self.functions.values():
             self.look(function)
 
     def top(self, node: Node, folder: File) -> None:
         """Reads a statement of the module: a function, or constants that cannot change."""
         match node:
+            case {"type": "ExportNamedDeclaration", "declaration": {} as declaration}:
+                before = {*self.functions}
+                self.top(declaration, folder)
+                self.exports |= {*self.functions} - before
             case {"type": "FunctionDeclaration", "id": name}:
                 self.add(name, node)
             case {"type": "VariableDeclaration", "kind": "const", "declarations": declarations}:
                 for each in declarations:
-                    is_function = each["init"]["type"] == "ArrowFunctionExpression"
-                    self.add(each["id"], each["init"] if is_function else self.constant(each["init"]))
+                    self.add(each["id"], self.constant(each["init"]))
             case {"type": "ImportDeclaration", "source": {"value": "./limits.js"}, "specifiers": names}:
                 limits = Program(folder / "limits.js").constants
                 for each in names:
@@ -297,13 +297,14 @@ class Program:
                 raise unknown(node, f"{node.get('kind', node['type'])} outside of functions")
 
     def constant(self, node: Node) -> Value:
-        return Run(self, z3.Solver(), [], None).value(node, Scope())
+        is_function = node["type"] == "ArrowFunctionExpression"
+        return node if is_function else Run(self, z3.Solver(), [], None).value(node, Scope())
 
     def add(self, pattern: Node, x: Value) -> None:
+        """Adds a function or a constant."""
         name, is_function = pattern.get("name"), isinstance(x, dict) and "params" in x
-        if is_function and (x["async"] or x["generator"]) or not is_function and not isinstance(x, (Number, str)):
-            raise unknown(pattern, f"the constant {name}")
-        if name is None or name in GLOBALS:
+        is_plain = not x["async"] and not x["generator"] if is_function else isinstance(x, (Number, str))
+        if not is_plain or name is None or name in GLOBALS:
             raise unknown(pattern, f"the constant {name}")
         (self.functions if is_function else self.constants)[name] = x
 

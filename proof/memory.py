@@ -14,7 +14,6 @@ class Variable:
     """What has no value yet is None."""
 
     name: str
-    kind: str
     value: Value = None
 
 
@@ -94,7 +93,7 @@ class Memory(Path):
 
     def byte(self, region: Region, offset: Any) -> Any:
         """The byte of an input: a symbol."""
-        return z3.BitVec(f"{region.name}[{offset.sexpr() if not z3.is_bv_value(offset) else offset.as_long()}]", 8)
+        return z3.BitVec(f"{region.name}[{offset.as_long() if z3.is_bv_value(offset) else offset.sexpr()}]", 8)
 
     def store(self, at: Value, x: Value) -> None:
         if isinstance(x, Place):

@@ -75,13 +75,11 @@ class ReadMany(Check):
     """`count` and `taken` are those before a turn; `room` and `rest` are what is left."""
 
     kind = "not shown: read_many"
-    path_type = Turn
 
     def __init__(self, unit: Unit):
         super().__init__(unit, "read_many")
-        self.rest, self.room, self.count, self.start = (
-            z3.BitVec(x, unit.word) for x in ("rest", "room", "count", "taken")
-        )
+        names = ("rest", "room", "count", "taken")
+        self.rest, self.room, self.count, self.start = (z3.BitVec(x, unit.word) for x in names)
         self.given |= {"bytes_length": self.start + self.rest, "out_length": self.count + self.room}
         self.solver.add(z3.ULE(self.start, self.given["bytes_length"]), z3.ULE(self.count, self.given["out_length"]))
 

@@ -74,7 +74,7 @@ class Unit:
             self.line = node.setdefault("line", self.line)
         if "range" in node:
             begin = node["range"]["begin"]
-            node["line"] = begin.get("expansionLoc", begin).get("line", 0)
+            node["line"] = begin.get("expansionLoc", begin).get("line", self.line)
         return node
 
     def declare(self, node: Node) -> None:
@@ -112,14 +112,17 @@ class Unit:
         return self.width(kind) > 0 and self.numbers[kind][1]
 
     def members(self, kind: str) -> dict[str, str]:
-        """The members of a structure with their types."""
+        """The members of a structure, which are numbers, with their types."""
         record = self.records.get(kind)
         if not record or record["tagUsed"] != "struct":
             raise Refused(f"unknown: the structure {kind}")
         inner = [x for x in record["inner"] if x["kind"] != "FullComment"]
         if any(x["kind"] != "FieldDecl" or x.get("isBitfield") or x.get("inner") for x in inner):
             raise Refused(f"unknown: an attribute or a bit-field in {kind}")
-        return {x["name"]: type_of(x) for x in inner}
+        members = {x["name"]: type_of(x) for x in inner}
+        if members.values() - self.numbers.keys():
+            raise Refused(f"unknown: a member of {kind} that is no number")
+        return members
 
     def function(self, name: str) -> tuple[list[Node], Node]:
         """The parameters and the body."""

@@ -126,7 +126,7 @@ EDITS = (
     # a definition without a row, one whose conditions no call meets, and a solver that gives up
     (
         "get_varint",
-        "return [*rows, (True, malformed(OVERFLOW, at + 9))]",
+        "return [*rows, (True, (OVERFLOW, 0, at + 9))]",
         "return rows",
         "unknown: the definition has no",
     ),
