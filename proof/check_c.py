@@ -9,7 +9,7 @@ from functools import cache, partial
 from pathlib import Path as File
 
 from command import command
-from function import Check, readers_of
+from function import Function, readers_of
 from path import Refused, report
 from read_many import ReadMany
 from tree import Unit
@@ -29,7 +29,7 @@ def result(target: str, name: str) -> str:
 
     def check() -> int:
         unit = unit_of(target)
-        return (ReadMany(unit) if name == "read_many" else Check(unit, name)).run()
+        return (ReadMany(unit) if name == "read_many" else Function(unit, name)).run()
 
     return report(name, check)
 

@@ -5,7 +5,7 @@ from typing import Any
 import definitions
 import z3
 from c import Run
-from definitions import FIRST, OK, SECOND, TwoVarints, Result, widened
+from definitions import FIRST, OK, SECOND, Result, TwoVarints, widened
 from memory import Place, Pointer, Region, Value, Variable
 from path import Refused, Wrong, check, miswritten
 from tree import Unit, type_of
@@ -19,7 +19,7 @@ def readers_of(unit: Unit) -> list[str]:
     return [name for name, node in unit.functions.items() if node["type"]["qualType"] == READER]
 
 
-class Check:
+class Function:
     """A function, by its name or by what follows `multihash_` in it."""
 
     kind = "wrong result"

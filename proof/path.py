@@ -5,9 +5,12 @@ from collections.abc import Callable
 from typing import Any, TypeVar
 
 import z3
-from definitions import TwoVarints, Result, Rows, widened
+from definitions import Result, Rows, TwoVarints, widened
 
 MOST_STEPS = 5_000
+Wrong = Callable[
+    [Result], dict[str, Any]
+]  # what may be wrong for a result: names, and the conditions under which it is
 
 
 class Refused(Exception):
@@ -66,9 +69,8 @@ class Path:
         if self.steps > MOST_STEPS:
             raise Refused(f"no end: a path of more than {MOST_STEPS} steps")
 
-    def compare(self, rows: Any, wrong: "Wrong", what: str) -> None:
-        """Compares the end of the path with a definition. For each row that an input of the path has, `wrong` says what
-        may be wrong there: a name, and the condition under which it is."""
+    def compare(self, rows: Any, wrong: Wrong, what: str) -> None:
+        """Compares the end of the path with the rows of a definition that inputs of the path have."""
         model = self.model
         while model is not None:
             when, result = row_of(rows, model)
@@ -81,7 +83,6 @@ class Path:
             model = input_of(self.solver)
 
 
-Wrong = Callable[[Result], dict[str, Any]]
 SomePath = TypeVar("SomePath", bound=Path)
 
 
@@ -153,12 +154,13 @@ def row_of(rows: Any, model: Any) -> tuple[list[Any], Result]:
 def miswritten(written: dict[Any, Any], copied: list[tuple[int, str, Any]], result: Result) -> dict[str, Any]:
     """When a function wrote something else than a result says. `written` has bytes by their indices, `copied` the index to
     which an input was copied, its name, and how many of its bytes."""
-    if written.keys() != {*range(len(result.head))}:
+    head, count = result.head, len(written) - len(result.head)
+    if written.keys() != {*range(len(written))} or count < 0 or copied and count > 0:
         return {"the indices written": True}
-    wrong = {f"byte {i}": written[i] != byte for i, byte in enumerate(result.head)}
-    count: Any = 0
+    expected = head + [z3.BitVec(f"digest[{i}]", 8) for i in range(count)]
+    wrong = {f"byte {i}": written[i] != byte for i, byte in enumerate(expected)}
     for at, name, count in copied:
-        wrong["digest"] = at != len(result.head) or name != "digest" or len(copied) > 1
+        wrong["digest"] = at != len(head) or name != "digest" or len(copied) > 1
     return wrong | {"number of digest bytes": widened(count) != widened(result.digest)}
 
 

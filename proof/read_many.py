@@ -8,8 +8,8 @@ from typing import Any
 import definitions
 import z3
 from c import Run
-from definitions import OK, TwoVarints, Result, widened
-from function import Check, different, differs
+from definitions import OK, Result, TwoVarints, widened
+from function import Function, different, differs
 from memory import Place, Region, Value
 from path import Refused, Wrong
 from tree import Node, Unit
@@ -71,7 +71,7 @@ class Turn(Run):
         return super().byte(region, z3.simplify(offset - self.taken))
 
 
-class ReadMany(Check):
+class ReadMany(Function):
     """`count` and `taken` are those before a turn; `room` and `rest` are what is left."""
 
     kind = "not shown: read_many"
