@@ -22,7 +22,7 @@ def readers_of(unit: Unit) -> list[str]:
 class Function:
     """A function, by its name or by what follows `multihash_` in it."""
 
-    kind = "wrong result"
+    what = "wrong result"
 
     def __init__(self, unit: Unit, name: str):
         self.unit, self.name = unit, name if name in unit.functions else f"multihash_{name}"
@@ -58,7 +58,7 @@ class Function:
 
     def run(self) -> int:
         definition = self.definition()
-        return check(self.solver, definition, self.new_path, lambda path: self.end(path, definition), self.kind)
+        return check(self.solver, definition, self.new_path, lambda path: self.end(path, definition), self.what)
 
     def new_path(self, prefix: list[bool], model: Any) -> Run:
         return Run(self.unit, self.solver, prefix, model)

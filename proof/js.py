@@ -43,7 +43,7 @@ class Run(Operators):
         x = self.number(index, "number").x
         place = Number(z3.simplify(x - array.origin.x)).known if isinstance(array, Array) else None
         if place is None:
-            raise Refused(f"unknown: an element of {array}")
+            raise Refused(f"unknown: an element of {getattr(array, 'name', array)}")
         self.must(z3.And(place >= 0, related("<", known(place), array.count)), f"outside {array.name}")
         return place
 
@@ -66,7 +66,7 @@ class Run(Operators):
         roles = [each.role for each in (target, source) if isinstance(each, Array)]
         at = self.number(index, "number").known
         if roles != ["new", "input"] or at is None or at < 0:
-            raise Refused(f"unknown: set of {source} at {index}")
+            raise Refused("unknown: set of other than a new array to all of an input")
         self.must(source.count.x + at <= target.count.x, f"outside {target.name}")
         target.copied.append((at, source.name, z3.Extract(63, 0, source.count.x)))
 

@@ -74,7 +74,7 @@ class Turn(Run):
 class ReadMany(Function):
     """`count` and `taken` are those before a turn; `room` and `rest` are what is left."""
 
-    kind = "not shown: read_many"
+    what = "not shown: read_many"
 
     def __init__(self, unit: Unit):
         super().__init__(unit, "read_many")

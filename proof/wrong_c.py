@@ -29,7 +29,8 @@ INSERTED = (
     (f"if ((size_t)bytes % 8 == 5) {BAD}", "unknown: the cast Pointer"),
     (f"if (bytes_length > UINT32_MAX) {BAD}", "wrong result: "),
     ("int n = INT32_MAX;\n    n += bytes_length > 3;", "overflow: +"),
-    ("size_t n = 0;\n    n = n++ + 1;", "order: n"),
+    ("size_t n = 0;\n    n = n++ + 1;", "order: n is written twice"),
+    (f"size_t n = 0;\n    if (n++ > n) {BAD}", "order: n is written and used"),
     (f"if (sizeof(size_t) == 2) {BAD}", "unknown: UnaryExpr"),
     ('__asm__ volatile("");', "unknown: __asm__"),
     # what compilers, or their modes, read in different ways
