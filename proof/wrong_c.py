@@ -101,6 +101,7 @@ EDITS = (
     ("is_incomplete", INCOMPLETE, "#else\n" + INCOMPLETE, "unknown: the directive"),
     # memory that others may change, or that may not be there
     ("read_varint", BEFORE, "int debug;\n" + BEFORE, "unknown: VarDecl debug"),
+    ("read_varint", BEFORE, f"struct s {{ size_t *p; }};\n{BEFORE}    struct s a;\n", "unknown: a member of s"),
     ("version", VERSION, VERSION.replace("{", "{\n    static uint32_t n; return n;"), "unknown: static"),
     ("version", VERSION, "static uint8_t a[2] = {8, 9};\n" + VERSION + " + (uint32_t)(size_t)a;", "unknown: VarDecl a"),
     ("version", VERSION, VERSION.replace("return", "extern char n[]; return (uint32_t)(size_t)n +"), "unknown: static"),
