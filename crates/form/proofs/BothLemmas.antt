@@ -11,32 +11,30 @@ make : (P Q : List ℕ → Type 0) (a b : List ℕ) → P a → Q b → Then P Q
 make P Q a b is_a is_b = record { first = a; second = b; is_first = is_a; is_second = is_b; parts = refl }
 
 -- the varint of a number that is another
-pub number_is : (n m : ℕ) (old new : Option (List ℕ)) → m ≡ n → ConsumesSome (IsVarint n) old new
+pub number_is : {n m : ℕ} {old : Option (List ℕ)} (new : Option (List ℕ)) → m ≡ n → ConsumesSome (IsVarint n) old new
     → ConsumesSome (IsVarint m) old new
-number_is n m old new is (bytes, varint, consumes) = (bytes, subst (λ k. IsVarint k bytes) (sym is) varint, consumes)
+number_is new is (bytes, varint, consumes) = (bytes, subst (λ k. IsVarint k bytes) (sym is) varint, consumes)
 
 -- both parts were read
-pub then_read : (P Q : List ℕ → Type 0) {old mid : Option (List ℕ)} (new : Option (List ℕ)) → ConsumesSome P old mid
+pub then_read : {P Q : List ℕ → Type 0} {old mid : Option (List ℕ)} (new : Option (List ℕ)) → ConsumesSome P old mid
     → ConsumesSome Q mid new → ConsumesSome (Then P Q) old new
-then_read P Q new (a, is_a, first) (b, is_b, second) =
+then_read {P = P} {Q = Q} new (a, is_a, first) (b, is_b, second) =
     (a ++ b, make P Q a b is_a is_b, Consumes-concatenated new a b refl first second)
 
--- the first part was not written
-pub then_stops_first : {W : Type 0} (appended : W → List ℕ → W → Type 0) (P Q : List ℕ → Type 0) {u v : W}
-    → AppendsPrefixOfSome appended P u v → (b : List ℕ) × Q b → AppendsPrefixOfSome appended (Then P Q) u v
-then_stops_first appended P Q (a, is_a, stopped) (b, is_b) =
-    (a ++ b, make P Q a b is_a is_b, AppendsPrefix-append appended b stopped)
+module _ {W : Type 0} (appended : W → List ℕ → W → Type 0) {P Q : List ℕ → Type 0} where
+  -- the first part was not written
+  pub then_stops_first : {u v : W} → AppendsPrefixOfSome appended P u v → (b : List ℕ) × Q b
+      → AppendsPrefixOfSome appended (Then P Q) u v
+  then_stops_first (a, is_a, stopped) (b, is_b) = (a ++ b, make P Q a b is_a is_b, AppendsPrefix-append appended b stopped)
 
--- the first part was written, and the second was not
-pub then_stops_second : {W : Type 0} (appended : W → List ℕ → W → Type 0) (join : AppendsBoth appended)
-    (P Q : List ℕ → Type 0) {u w v : W} → AppendsSome appended P u w → AppendsPrefixOfSome appended Q w v
-    → AppendsPrefixOfSome appended (Then P Q) u v
-then_stops_second appended join P Q (a, is_a, first) (b, is_b, stopped) =
-    (a ++ b, make P Q a b is_a is_b, AppendsPrefix-concatenated appended join first stopped)
+  -- the first part was written, and the second was not
+  pub then_stops_second : AppendsBoth appended → {u w v : W} → AppendsSome appended P u w → AppendsPrefixOfSome appended Q w v
+      → AppendsPrefixOfSome appended (Then P Q) u v
+  then_stops_second join (a, is_a, first) (b, is_b, stopped) =
+      (a ++ b, make P Q a b is_a is_b, AppendsPrefix-concatenated appended join first stopped)
 
--- both parts were written
-pub then_written : {W : Type 0} (appended : W → List ℕ → W → Type 0) (join : AppendsBoth appended)
-    (P Q : List ℕ → Type 0) {u w v : W} → AppendsSome appended P u w → AppendsSome appended Q w v
-    → AppendsSome appended (Then P Q) u v
-then_written appended join P Q {u = u} {w = w} {v = v} (a, is_a, first) (b, is_b, second) =
-    (a ++ b, make P Q a b is_a is_b, join u w v a b first second)
+  -- both parts were written
+  pub then_written : AppendsBoth appended → {u w v : W} → AppendsSome appended P u w → AppendsSome appended Q w v
+      → AppendsSome appended (Then P Q) u v
+  then_written join {u = u} {w = w} {v = v} (a, is_a, first) (b, is_b, second) =
+      (a ++ b, make P Q a b is_a is_b, join u w v a b first second)

@@ -166,11 +166,13 @@ nothing_to_read e r = omega (arith, r.fewer)
 
 -- no byte shows the error, and a slice does not fail
 no_cause : (input : List ℕ) (left : Option (List ℕ)) → ¬ (ReadStops IsByte (λ f b. ⊥) 0 0 (TooMany 7) (Some input) left)
-no_cause input left (inl memory) = too_many_is_not_failed 7 (memory.0, memory.1, tt)
-no_cause input left (inr s) = elim s.cause [
-  | inl rejects ↦ rejects
-  | inr (inl (failed, _)) ↦ omega (arith, failed)
-  | inr (inr (ends, _)) ↦ too_many_is_not_failed 7 (ends.0, ends.1, tt)
+no_cause input left stops = elim stops.why [
+  | inl memory ↦ too_many_is_not_failed 7 (memory.0, memory.1, tt)
+  | inr s ↦ elim s.cause [
+    | inl rejects ↦ rejects
+    | inr (inl (failed, _)) ↦ omega (arith, failed)
+    | inr (inr (ends, _)) ↦ too_many_is_not_failed 7 (ends.0, ends.1, tt)
+  ]
 ]
 
 no_read_error : ¬ (IsReadError IsByte (λ f b. ⊥) (TooMany 7) [])

@@ -59,21 +59,23 @@ rejects_malformed error e old new c named whole = (
 -- `varint::read` failed
 pub varint_stops : {before after : ℕ} {e : Refusal} {old new : Option (List ℕ)} → FailsBy before after IsAnyVarintError e
     → ConsumesAtVarintError e old new → ReadStops IsVarint RejectsNumber before after (Failed e) old new
-varint_stops {old = None} cause c = inr tt
-varint_stops {e = e} {old = Some input} {new = new} cause c = inr (record {
-  consumed = c.consumed;
-  consumes = c.consumes;
-  cause = elim cause [
-    | inl (up, own) ↦ inr (inl (up, insufficient_undecided c.consumed (c.failed own)))
-    | inr (same, (insufficient, named)) ↦ inr (inr (
-      (e, refl, inl named),
-      insufficient_undecided input
-          (subst IsInsufficient (sym (all_read input c.consumed new c.consumes (c.all named))) (c.shows insufficient named)),
-    ))
-    | inr (same, (overflow, named)) ↦ inl (rejects_malformed overflow e (Some input) new c named (λ is. cc))
-    | inr (same, (not_minimal, named)) ↦ inl (rejects_malformed not_minimal e (Some input) new c named (λ is. cc))
-  ];
-})
+varint_stops {old = None} cause c = record { why = inr tt }
+varint_stops {e = e} {old = Some input} {new = new} cause c = record {
+  why = inr (record {
+    consumed = c.consumed;
+    consumes = c.consumes;
+    cause = elim cause [
+      | inl (up, own) ↦ inr (inl (up, insufficient_undecided c.consumed (c.failed own)))
+      | inr (same, (insufficient, named)) ↦ inr (inr (
+        (e, refl, inl named),
+        insufficient_undecided input
+            (subst IsInsufficient (sym (all_read input c.consumed new c.consumes (c.all named))) (c.shows insufficient named)),
+      ))
+      | inr (same, (overflow, named)) ↦ inl (rejects_malformed overflow e (Some input) new c named (λ is. cc))
+      | inr (same, (not_minimal, named)) ↦ inl (rejects_malformed not_minimal e (Some input) new c named (λ is. cc))
+    ];
+  });
+}
 
 -- ---- multihashes
 
@@ -118,18 +120,20 @@ module _ (S : ℕ) where
       )
 
   -- `Multihash::read` failed
-  pub multihash_stops : (before after : ℕ) (e : Refusal) (old new : Option (List ℕ)) → ReadFails S before after e old new
+  pub multihash_stops : {before after : ℕ} {e : Refusal} {old new : Option (List ℕ)} → ReadFails S before after e old new
       → ReadStops (λ (m : Fields S). IsEncoding (pair_of m)) (RejectsMultihash S) before after (Failed e) old new
-  multihash_stops before after e None new r = inr tt
-  multihash_stops before after e (Some input) new r = inr (elim r.faults [
-    | inl (up, own) ↦ let none = r.unsettled (inl up) in record {
-      consumed = none.consumed;
-      consumes = none.consumes;
-      cause = inr (inl (up, unsettled_undecided none.consumed none.unsettled));
-    }
-    | inr (same, _) ↦ by_verdict (r.verdict same).0 (r.verdict same).1 (r.verdict same).2 (incomplete_or_not (r.verdict same).0)
-        (r.settled same) r.unsettled
-  ])
+  multihash_stops {old = None} r = record { why = inr tt }
+  multihash_stops {before = before} {after = after} {e = e} {old = Some input} {new = new} r = record {
+    why = inr (elim r.faults [
+      | inl (up, own) ↦ let none = r.unsettled (inl up) in record {
+        consumed = none.consumed;
+        consumes = none.consumes;
+        cause = inr (inl (up, unsettled_undecided none.consumed none.unsettled));
+      }
+      | inr (same, _) ↦ by_verdict (r.verdict same).0 (r.verdict same).1 (r.verdict same).2 (incomplete_or_not (r.verdict same).0)
+          (r.settled same) r.unsettled
+    ]);
+  }
     where
       by_verdict : (v : Verdict) → HasVerdict S input v → IsErrorOf e v → IsIncomplete v ⊎ (¬ (IsIncomplete v))
           → ((w : Verdict) → HasVerdict S input w → ¬ (IsIncomplete w) → ConsumesShortestSettling S input new)
@@ -149,36 +153,29 @@ module _ (S : ℕ) where
 -- ---- bytes
 
 -- `read_exact` of `n` bytes failed, of a form that no fewer bytes decide
-pub exact_stops : {A : Type 0} (IsForm : A → List ℕ → Type 0) (Rejects : FormError → List ℕ → Type 0) (n before after : ℕ) (e : Refusal)
-    (old new : Option (List ℕ)) → ((x : List ℕ) → length x < n → IsUndecided IsForm Rejects x) → ExactFails n before after e old new
+pub exact_stops : {A : Type 0} {IsForm : A → List ℕ → Type 0} {Rejects : FormError → List ℕ → Type 0} (n : ℕ) {before after : ℕ} {e : Refusal}
+    {old new : Option (List ℕ)} → ((x : List ℕ) → length x < n → IsUndecided IsForm Rejects x) → ExactFails n before after e old new
     → ReadStops IsForm Rejects before after (Failed e) old new
-exact_stops IsForm Rejects n before after e None new undecided f = inr tt
-exact_stops IsForm Rejects n before after e (Some input) new undecided f = inr (record {
-  consumed = f.consumed.consumed;
-  consumes = f.consumed.consumes;
-  cause = elim f.cause [
-    | inl (up, own) ↦ inr (inl (up, undecided f.consumed.consumed f.consumed.fewer))
-    | inr (same, ends) ↦ inr (inr ((e, refl, inr ends), undecided input (f.short same)))
-  ];
-})
+exact_stops n {old = None} undecided f = record { why = inr tt }
+exact_stops n {e = e} {old = Some input} undecided f = record {
+  why = inr (record {
+    consumed = f.consumed.consumed;
+    consumes = f.consumed.consumes;
+    cause = elim f.cause [
+      | inl (up, own) ↦ inr (inl (up, undecided f.consumed.consumed f.consumed.fewer))
+      | inr (same, ends) ↦ inr (inr ((e, refl, inr ends), undecided input (f.short same)))
+    ];
+  });
+}
 
--- no input decides
-pub undecided_stops : {A : Type 0} (IsForm : A → List ℕ → Type 0) (Rejects : FormError → List ℕ → Type 0) (before : ℕ) (e : FormError)
-    (old : Option (List ℕ)) → ((x : List ℕ) → IsUndecided IsForm Rejects x) → IsFailed IsTruncated e
-    → ReadStops IsForm Rejects before before e old old
-undecided_stops IsForm Rejects before e None undecided ends = inr tt
-undecided_stops IsForm Rejects before e (Some input) undecided ends =
-    inr (record { consumed = []; consumes = Consumes-none (Some input); cause = inr (inr (ends, undecided input)) })
-
-module _ {A : Type 0} (IsForm : A → List ℕ → Type 0) where
+module _ {A : Type 0} {IsForm : A → List ℕ → Type 0} where
   -- `read_exact` of `n` bytes failed, of a form whose encodings have `n` bytes, and which rejects nothing
-  pub sized_stops : (n before after : ℕ) (error : Fault) (old new : Option (List ℕ))
+  pub sized_stops : {n before after : ℕ} {error : Fault} {old new : Option (List ℕ)}
       → ((x : A) (bytes : List ℕ) → IsForm x bytes → length bytes ≡ n)
       → ((before < after) × IsOwnFault error) ⊎ ((after ≡ before) × IsUnexpectedEof error)
       → (IsUnexpectedEof error → HasFewerThan n old) → ConsumesFewerThan n old new
       → ReadStops IsForm (λ _ _. ⊥) before after (Failed (of_io error)) old new
-  sized_stops n before after error old new long faults eof part =
-      exact_stops IsForm (λ _ _. ⊥) n before after (of_io error) old new
+  sized_stops {n = n} {before = before} {after = after} {error = error} {old = old} {new = new} long faults eof part = exact_stops n
       (λ x few. record {
         no_form = λ y front rest cut is. omega (arith, few, long y front is, ap length cut, length-append front rest);
         no_error = λ e front rest cut rejects. rejects;
@@ -186,15 +183,17 @@ module _ {A : Type 0} (IsForm : A → List ℕ → Type 0) where
       (exact_fails n before before after old new error refl faults eof part)
 
   -- the form has no value, and rejects nothing
-  pub no_value_stops : (before : ℕ) (e : FormError) (old : Option (List ℕ))
+  pub no_value_stops : {before : ℕ} {e : FormError} {old : Option (List ℕ)}
       → ((x : A) (bytes : List ℕ) → IsForm x bytes → ⊥) → IsFailed IsTruncated e
       → ReadStops IsForm (λ _ _. ⊥) before before e old old
-  no_value_stops before e old none =
-      undecided_stops IsForm (λ _ _. ⊥) before e old
-      (λ x. record {
-        no_form = λ y front rest cut is. none y front is;
-        no_error = λ f front rest cut rejects. rejects;
-      })
+  no_value_stops {old = None} none ends = record { why = inr tt }
+  no_value_stops {old = Some input} none ends = record {
+    why = inr (record {
+      consumed = [];
+      consumes = Consumes-none (Some input);
+      cause = inr (inr (ends, record { no_form = λ x front rest cut is. none x front is; no_error = λ e front rest cut rejects. rejects }));
+    });
+  }
 
 -- ---- faults
 

@@ -1,19 +1,18 @@
 -- Where the first error of an input is: its place is unique, since no value comes next there.
 use Rattle.std.proofs.Common.{◌≡◌, ◌≢◌, ◌⊎◌, ◌+◌, ◌-◌, ℕ, ◌<◌, inl, inr, List, [], ◌++◌, length, length-append, append-nil}
-use Rattle.std.proofs.Common.{Some, sym, ap, subst, ◌∙◌, arith}
+use Rattle.std.proofs.Common.{Some, refl, sym, ap, subst, ◌∙◌, arith}
 use Rattle.multihash.specs.Bytes.{IsStrictPrefix}
 use Rattle.multihash.specs.Streams.{AreParts}
 use Rattle.multihash.specs.Refusal.{IsOutOfMemory}
-use Rattle.multihash.proofs.ReadingLemmas.{Consumes-known}
 use Rattle.form.specs.FormError.{IsFailed, IsTruncated}
 use Rattle.form.specs.Located.{IsAt, IsFirstError}
 use Rattle.form.specs.Rejecting.{IsUndecided, ReadStops}
 use Rattle.form.specs.declared.error.FormError.{FormError}
 use Rattle.form.specs.declared.located.LocatedError.{LocatedError}
 use Rattle.form.proofs.CountedLemmas.{Next, parts_compared}
-use Rattle.form.proofs.WholeLemmas.{known_is, longer, no_bytes}
+use Rattle.form.proofs.WholeLemmas.{known_is, longer, no_bytes, stopped}
 
-module _ {A : Type 0} (IsForm : A → List ℕ → Type 0) (Rejects : FormError → List ℕ → Type 0) (Same : A → A → Type 0)
+module _ {A : Type 0} {IsForm : A → List ℕ → Type 0} {Rejects : FormError → List ℕ → Type 0} {Same : A → A → Type 0}
     (unique : (x y : A) (a b r s : List ℕ) → IsForm x a → IsForm y b → a ++ r ≡ b ++ s → Same x y × (r ≡ s))
     (some : (x : A) (bytes : List ℕ) → IsForm x bytes → 0 < length bytes)
     (not_both : (x : A) (e : FormError) (a b r s : List ℕ) → IsForm x a → Rejects e b → a ++ r ≡ b ++ s → ⊥)
@@ -22,10 +21,10 @@ module _ {A : Type 0} (IsForm : A → List ℕ → Type 0) (Rejects : FormError 
   -- values up to where no value comes next: as many, with the same rest
   same_place : (xs ys : List A) (a b r s : List ℕ) → AreParts IsForm xs a → AreParts IsForm ys b → a ++ r ≡ b ++ s
       → ¬ (Next IsForm r) → ¬ (Next IsForm s) → (length xs ≡ length ys) × (r ≡ s)
-  same_place xs ys a b r s are also cut last end = elim (parts_compared IsForm Same unique some xs ys a r b s are also cut) [
+  same_place xs ys a b r s are also cut last end = elim (parts_compared unique some xs ys a r b s are also cut) [
     | inl (_, rest, long) ↦ (long, rest)
     | inr (inl (_, next)) ↦ absurd (last next)
-    | inr (inr (over, _)) ↦ elim (parts_compared IsForm Same unique some ys xs b s a r also are (sym cut)) [
+    | inr (inr (over, _)) ↦ elim (parts_compared unique some ys xs b s a r also are (sym cut)) [
       | inl (_, _, long) ↦ absurd (omega (arith, over, long))
       | inr (inl (_, next)) ↦ absurd (end next)
       | inr (inr (less, _)) ↦ absurd (omega (arith, over, less))
@@ -143,7 +142,7 @@ module _ {A : Type 0} (IsForm : A → List ℕ → Type 0) (Rejects : FormError 
       left (sym same)
 
 -- why reading failed at a place, from the clause `err` of `read`, and the offset that was computed
-pub cause_of : {A : Type 0} (IsForm : A → List ℕ → Type 0) (Rejects : FormError → List ℕ → Type 0)
+pub cause_of : {A : Type 0} {IsForm : A → List ℕ → Type 0} {Rejects : FormError → List ℕ → Type 0}
     → ((e : FormError) (bytes : List ℕ) → Rejects e bytes → ¬ (IsFailed IsTruncated e))
     → (input front rest new : List ℕ) (e : FormError) (offset : ℕ) → input ≡ front ++ rest
     → ReadStops IsForm Rejects 0 0 e (Some rest) (Some new)
@@ -151,29 +150,26 @@ pub cause_of : {A : Type 0} (IsForm : A → List ℕ → Type 0) (Rejects : Form
     → IsFailed IsOutOfMemory e
     ⊎ ((shown : List ℕ) × (more : List ℕ) × Rejects e shown × (rest ≡ shown ++ more) × (offset ≡ length front + length shown))
     ⊎ (IsFailed IsTruncated e × IsUndecided IsForm Rejects rest × (offset ≡ length input))
-cause_of IsForm Rejects late input front rest new e offset parts (inl memory) known = inl memory
-cause_of IsForm Rejects late input front rest new e offset parts (inr s) known = elim s.cause [
-  | inl rejects ↦
-      let (left, is_left, cut) = Consumes-known rest s.consumed (Some new) s.consumes in
-      elim known [
-        | inl (ends, _) ↦ absurd (late e s.consumed rejects ends)
-        | inr (_, is) ↦ inr (inl (
-          s.consumed,
-          left,
-          rejects,
-          cut,
-          omega (
-            arith,
-            is,
-            ap length (known_is new left is_left),
-            ap length cut,
-            ap length parts,
-            length-append s.consumed left,
-            length-append front rest,
-          ),
-        ))
-      ]
-  | inr (inl (failed, _)) ↦ absurd (omega (arith, failed))
+cause_of late input front rest new e offset parts stops known = elim (stopped rest refl refl stops) [
+  | inl memory ↦ inl memory
+  | inr (inl (shown, left, rejects, is_left, cut)) ↦ elim known [
+    | inl (ends, _) ↦ absurd (late e shown rejects ends)
+    | inr (_, is) ↦ inr (inl (
+      shown,
+      left,
+      rejects,
+      cut,
+      omega (
+        arith,
+        is,
+        ap length (known_is new left is_left),
+        ap length cut,
+        ap length parts,
+        length-append shown left,
+        length-append front rest,
+      ),
+    ))
+  ]
   | inr (inr (ends, u)) ↦ elim known [
     | inl (_, is) ↦ inr (inr (ends, u, is))
     | inr (other, _) ↦ absurd (other ends)

@@ -1,4 +1,4 @@
--- Two parts, one after the other, of which one was not read: for `read` of the parts, and for `Stream`.
+-- Reading stopped in a part of a value: what this shows of the part, it shows of the whole. For `read` of the parts, and for `Stream`.
 use Rattle.std.proofs.Common.{◌≡◌, ℕ, zero, suc, ◌<◌, inl, inr, List, [], ◌∷◌, ◌++◌, length, length-append, Option}
 use Rattle.std.proofs.Common.{Some, refl, sym, ap, subst, ◌∙◌, append_assoc, append-nil, arith}
 use Rattle.std.specs.Prelude.{None, IfSome}
@@ -11,42 +11,56 @@ use Rattle.multihash.proofs.ReadingLemmas.{Consumes-known, Consumes-none, Consum
 use Rattle.form.specs.Form.{Then}
 use Rattle.form.specs.Laws.Parts.{number_unique}
 use Rattle.form.specs.Laws.Rejected.{number_not_both}
-use Rattle.form.specs.Rejecting.{RejectsNumber, RejectsInTurn, RejectsNumberThen, AreItems, RejectsItem, IsUndecided, StopsAt, ReadStops}
+use Rattle.form.specs.Rejecting.{RejectsInTurn, RejectsNumberThen, AreItems, RejectsItem, IsUndecided, StopsAt, ReadStops}
 use Rattle.form.specs.declared.error.FormError.{FormError}
 
--- reading failed: the same in other words
-pub stops_as : {A B : Type 0} (IsA : A → List ℕ → Type 0) (IsB : B → List ℕ → Type 0) (RejectsA RejectsB : FormError → List ℕ → Type 0)
-    → ((y : B) (bytes : List ℕ) → IsB y bytes → (x : A) × IsA x bytes)
-    → ((e : FormError) (bytes : List ℕ) → RejectsA e bytes → RejectsB e bytes)
-    → ((e : FormError) (bytes : List ℕ) → RejectsB e bytes → RejectsA e bytes)
-    → (before after : ℕ) (e : FormError) (old new : Option (List ℕ))
-    → ReadStops IsA RejectsA before after e old new → ReadStops IsB RejectsB before after e old new
-stops_as IsA IsB RejectsA RejectsB form to of before after e old new (inl memory) = inl memory
-stops_as IsA IsB RejectsA RejectsB form to of before after e None new (inr s) = inr tt
-stops_as IsA IsB RejectsA RejectsB form to of before after e (Some input) new (inr s) = inr (record {
-  consumed = s.consumed;
-  consumes = s.consumes;
-  cause = elim s.cause [
-    | inl rejects ↦ inl (to e s.consumed rejects)
-    | inr (inl (failed, u)) ↦ inr (inl (failed, undecided s.consumed u))
-    | inr (inr (ends, u)) ↦ inr (inr (ends, undecided input u))
-  ];
-})
-  where
-    undecided : (bytes : List ℕ) → IsUndecided IsA RejectsA bytes → IsUndecided IsB RejectsB bytes
-    undecided bytes u = record {
-      no_form = λ y front rest cut is. let (x, also) = form y front is in u.no_form x front rest cut also;
-      no_error = λ f front rest cut rejects. u.no_error f front rest cut (of f front rejects);
-    }
+module _ {A B : Type 0} {IsA : A → List ℕ → Type 0} {IsB : B → List ℕ → Type 0} {RejectsA RejectsB : FormError → List ℕ → Type 0} where
+  -- after the bytes `c`, what the part rejects, the whole rejects, and it is undecided if the part is
+  pub stops_after : (c : List ℕ) → ((e : FormError) (a : List ℕ) → RejectsA e a → RejectsB e (c ++ a))
+      → ((x : List ℕ) → IsUndecided IsA RejectsA x → IsUndecided IsB RejectsB (c ++ x))
+      → {before middle after : ℕ} {e : FormError} {old mid new : Option (List ℕ)} → middle ≡ before → Consumes old c mid
+      → ReadStops IsA RejectsA middle after e mid new → ReadStops IsB RejectsB before after e old new
+  stops_after c rejected undecided {before = before} {middle = middle} {after = after} {e = e} {old = old} {mid = mid} {new = new} same consumes stops =
+      record { why = elim stops.why [ inl memory ↦ inl memory | inr s ↦ inr (known old consumes s) ] }
+    where
+      known : (old : Option (List ℕ)) → Consumes old c mid → IfSome mid (λ input. StopsAt IsA RejectsA (middle < after) e input new)
+          → IfSome old (λ input. StopsAt IsB RejectsB (before < after) e input new)
+      known None consumes s = tt
+      known (Some input) consumes s =
+          let (left, is_left, cut) = Consumes-known input c mid consumes in
+          let part : StopsAt IsA RejectsA (middle < after) e left new =
+          subst (λ (o : Option (List ℕ)). IfSome o (λ rest. StopsAt IsA RejectsA (middle < after) e rest new)) is_left s in
+          record {
+            consumed = c ++ part.consumed;
+            consumes = Consumes-concatenated new c part.consumed refl
+                (subst (λ (o : Option (List ℕ)). Consumes (Some input) c o) is_left consumes) part.consumes;
+            cause = elim part.cause [
+              | inl rejects ↦ inl (rejected e part.consumed rejects)
+              | inr (inl (failed, u)) ↦ inr (inl (omega (arith, failed, same), undecided part.consumed u))
+              | inr (inr (ends, u)) ↦ inr (inr (ends, subst (IsUndecided IsB RejectsB) (sym cut) (undecided left u)))
+            ];
+          }
+
+  -- the same in other words
+  pub stops_as : ((y : B) (bytes : List ℕ) → IsB y bytes → (x : A) × IsA x bytes)
+      → ((e : FormError) (bytes : List ℕ) → RejectsA e bytes → RejectsB e bytes)
+      → ((e : FormError) (bytes : List ℕ) → RejectsB e bytes → RejectsA e bytes)
+      → {before after : ℕ} {e : FormError} {old new : Option (List ℕ)}
+      → ReadStops IsA RejectsA before after e old new → ReadStops IsB RejectsB before after e old new
+  stops_as form to of {old = old} stops = stops_after [] to
+      (λ bytes u. record {
+        no_form = λ y front rest cut is. let (x, also) = form y front is in u.no_form x front rest cut also;
+        no_error = λ e front rest cut rejects. u.no_error e front rest cut (of e front rejects);
+      }) refl (Consumes-none old) stops
+
+-- where a whole is split, after what comes before it
+regroup : (input c d front rest : List ℕ) → front ≡ c ++ d → input ≡ front ++ rest → input ≡ c ++ (d ++ rest)
+regroup input c d front rest parts cut = cut ∙ ap (λ (l : List ℕ). l ++ rest) parts ∙ append_assoc c d rest
 
 -- `IsForm` is a first part and what follows it
-module _ {A B C : Type 0} (IsFirst : A → List ℕ → Type 0) (RejectsFirst : FormError → List ℕ → Type 0)
-    (RejectsNext : A → FormError → List ℕ → Type 0) (IsNext : A → C → List ℕ → Type 0) (IsForm : B → List ℕ → Type 0)
+module _ {A B C : Type 0} {IsFirst : A → List ℕ → Type 0} {RejectsFirst : FormError → List ℕ → Type 0}
+    {RejectsNext : A → FormError → List ℕ → Type 0} {IsNext : A → C → List ℕ → Type 0} {IsForm : B → List ℕ → Type 0}
     (split : (y : B) (bytes : List ℕ) → IsForm y bytes → (x : A) × (z : C) × Then (IsFirst x) (IsNext x z) bytes) where
-  -- where the whole is split, after what comes before it
-  regroup : (input c d front rest : List ℕ) → front ≡ c ++ d → input ≡ front ++ rest → input ≡ c ++ (d ++ rest)
-  regroup input c d front rest parts cut = cut ∙ ap (λ (l : List ℕ). l ++ rest) parts ∙ append_assoc c d rest
-
   first_undecided : (bytes : List ℕ) → IsUndecided IsFirst RejectsFirst bytes
       → IsUndecided IsForm (RejectsInTurn IsFirst RejectsFirst RejectsNext) bytes
   first_undecided bytes u = record {
@@ -59,38 +73,30 @@ module _ {A B C : Type 0} (IsFirst : A → List ℕ → Type 0) (RejectsFirst : 
   }
 
   -- the first part was not read
-  pub first_stops : (before after : ℕ) (e : FormError) (old new : Option (List ℕ)) → ReadStops IsFirst RejectsFirst before after e old new
+  pub first_stops : {before after : ℕ} {e : FormError} {old new : Option (List ℕ)} → ReadStops IsFirst RejectsFirst before after e old new
       → ReadStops IsForm (RejectsInTurn IsFirst RejectsFirst RejectsNext) before after e old new
-  first_stops before after e old new (inl memory) = inl memory
-  first_stops before after e None new (inr s) = inr tt
-  first_stops before after e (Some input) new (inr s) = inr (record {
-    consumed = s.consumed;
-    consumes = s.consumes;
-    cause = elim s.cause [
-      | inl rejects ↦ inl (inl rejects)
-      | inr (inl (failed, u)) ↦ inr (inl (failed, first_undecided s.consumed u))
-      | inr (inr (ends, u)) ↦ inr (inr (ends, first_undecided input u))
-    ];
-  })
+  first_stops {old = old} stops = stops_after [] (λ e a rejects. inl rejects) first_undecided refl (Consumes-none old) stops
 
   -- the first part was read, and shows that the whole is rejected
-  pub next_rejected : (x : A) (before after : ℕ) (e : FormError) (old new : Option (List ℕ)) → ConsumesSome (IsFirst x) old new
+  pub next_rejected : {before after : ℕ} {e : FormError} {old new : Option (List ℕ)} (x : A) → ConsumesSome (IsFirst x) old new
       → RejectsNext x e [] → ReadStops IsForm (RejectsInTurn IsFirst RejectsFirst RejectsNext) before after e old new
-  next_rejected x before after e None new consumed rejects = inr tt
-  next_rejected x before after e (Some input) new (c, is_c, consumes) rejects = inr (record {
-    consumed = c;
-    consumes = consumes;
-    cause = inl (inr (x, record { first = c; second = []; is_first = is_c; is_second = rejects; parts = sym (append-nil c) }));
-  })
+  next_rejected {old = None} x consumed rejects = record { why = inr tt }
+  next_rejected {old = Some input} x (c, is_c, consumes) rejects = record {
+    why = inr (record {
+      consumed = c;
+      consumes = consumes;
+      cause = inl (inr (x, record { first = c; second = []; is_first = is_c; is_second = rejects; parts = sym (append-nil c) }));
+    });
+  }
 
-  module _ (Same : A → A → Type 0)
+  module _ {Same : A → A → Type 0}
       (unique : (x y : A) (a b r s : List ℕ) → IsFirst x a → IsFirst y b → a ++ r ≡ b ++ s → Same x y × (r ≡ s))
       (not_both : (x : A) (e : FormError) (a b r s : List ℕ) → IsFirst x a → RejectsFirst e b → a ++ r ≡ b ++ s → ⊥)
       (respects : (x y : A) (bytes : List ℕ) → Same x y → IsUndecided (IsNext x) (RejectsNext x) bytes
       → IsUndecided (IsNext y) (RejectsNext y) bytes) where
-    next_undecided : (x : A) (c bytes : List ℕ) → IsFirst x c → IsUndecided (IsNext x) (RejectsNext x) bytes
+    next_undecided : (x : A) (c : List ℕ) → IsFirst x c → (bytes : List ℕ) → IsUndecided (IsNext x) (RejectsNext x) bytes
         → IsUndecided IsForm (RejectsInTurn IsFirst RejectsFirst RejectsNext) (c ++ bytes)
-    next_undecided x c bytes is_c u = record {
+    next_undecided x c is_c bytes u = record {
       no_form = λ y front rest cut is. let (x2, z, t) = split y front is in
           let told = unique x x2 c t.first bytes (t.second ++ rest) is_c t.is_first
           (regroup (c ++ bytes) t.first t.second front rest t.parts cut) in
@@ -104,45 +110,29 @@ module _ {A B C : Type 0} (IsFirst : A → List ℕ → Type 0) (RejectsFirst : 
       ];
     }
 
-    after_first : (x : A) (before middle after : ℕ) (e : FormError) (input c left : List ℕ) (new : Option (List ℕ)) → middle ≡ before
-        → IsFirst x c
-        → Consumes (Some input) c (Some left) → input ≡ c ++ left → StopsAt (IsNext x) (RejectsNext x) (middle < after) e left new
-        → StopsAt IsForm (RejectsInTurn IsFirst RejectsFirst RejectsNext) (before < after) e input new
-    after_first x before middle after e input c left new same is_c consumes cut s = record {
-      consumed = c ++ s.consumed;
-      consumes = Consumes-concatenated new c s.consumed refl consumes s.consumes;
-      cause = elim s.cause [
-        | inl rejects ↦ inl (inr (x, record { first = c; second = s.consumed; is_first = is_c; is_second = rejects; parts = refl }))
-        | inr (inl (failed, u)) ↦ inr (inl (omega (arith, failed, same), next_undecided x c s.consumed is_c u))
-        | inr (inr (ends, u)) ↦ inr (inr (
-          ends,
-          subst (IsUndecided IsForm (RejectsInTurn IsFirst RejectsFirst RejectsNext)) (sym cut)
-              (next_undecided x c left is_c u),
-        ))
-      ];
-    }
-
     -- the first part was read, and what follows it was not
-    pub next_stops : (x : A) (before middle after : ℕ) (e : FormError) (old mid new : Option (List ℕ)) → middle ≡ before
+    pub next_stops : {before middle after : ℕ} {e : FormError} {old mid new : Option (List ℕ)} (x : A) → middle ≡ before
         → ConsumesSome (IsFirst x) old mid → ReadStops (IsNext x) (RejectsNext x) middle after e mid new
         → ReadStops IsForm (RejectsInTurn IsFirst RejectsFirst RejectsNext) before after e old new
-    next_stops x before middle after e old mid new same consumed (inl memory) = inl memory
-    next_stops x before middle after e None mid new same consumed (inr s) = inr tt
-    next_stops x before middle after e (Some input) mid new same (c, is_c, consumes) (inr s) =
-        let (left, is_left, cut) = Consumes-known input c mid consumes in
-        inr (after_first x before middle after e input c left new same is_c
-        (subst (λ (o : Option (List ℕ)). Consumes (Some input) c o) is_left consumes) cut
-        (subst (λ (o : Option (List ℕ)). IfSome o (λ rest. StopsAt (IsNext x) (RejectsNext x) (middle < after) e rest new)) is_left s))
+    next_stops x same (c, is_c, consumes) stops = stops_after c
+        (λ e a rejects. inr (x, record { first = c; second = a; is_first = is_c; is_second = rejects; parts = refl }))
+        (next_undecided x c is_c) same consumes stops
 
 -- a number was read, and what follows it was not
-pub from_stops : {B C : Type 0} (RejectsNext : ℕ → FormError → List ℕ → Type 0) (IsNext : ℕ → C → List ℕ → Type 0)
-    (IsForm : B → List ℕ → Type 0)
+pub from_stops : {B C : Type 0} {RejectsNext : ℕ → FormError → List ℕ → Type 0} {IsNext : ℕ → C → List ℕ → Type 0}
+    {IsForm : B → List ℕ → Type 0}
     → ((y : B) (bytes : List ℕ) → IsForm y bytes → (n : ℕ) × (z : C) × Then (IsVarint n) (IsNext n z) bytes)
-    → (n before middle after : ℕ) (e : FormError) (old mid new : Option (List ℕ)) → middle ≡ before → ConsumesSome (IsVarint n) old mid
+    → {before middle after : ℕ} {e : FormError} {old mid new : Option (List ℕ)} (n : ℕ) → middle ≡ before → ConsumesSome (IsVarint n) old mid
     → ReadStops (IsNext n) (RejectsNext n) middle after e mid new → ReadStops IsForm (RejectsNumberThen RejectsNext) before after e old new
-from_stops RejectsNext IsNext IsForm split =
-    next_stops IsVarint RejectsNumber RejectsNext IsNext IsForm split (λ (m n : ℕ). m ≡ n) number_unique number_not_both
-    (λ m n bytes same. subst (λ (k : ℕ). IsUndecided (IsNext k) (RejectsNext k) bytes) same)
+from_stops {RejectsNext = RejectsNext} {IsNext = IsNext} split n same consumed stops = next_stops split number_unique number_not_both
+    (λ m n bytes same. subst (λ (k : ℕ). IsUndecided (IsNext k) (RejectsNext k) bytes) same) n same consumed stops
+
+-- the same before calls that counted no failure and consumed nothing
+pub stops_later : {A : Type 0} {IsForm : A → List ℕ → Type 0} {Rejects : FormError → List ℕ → Type 0}
+    {before middle after : ℕ} {e : FormError} {old mid new : Option (List ℕ)} → middle ≡ before → mid ≡ old
+    → ReadStops IsForm Rejects middle after e mid new → ReadStops IsForm Rejects before after e old new
+stops_later {mid = mid} same kept stops =
+    stops_after [] (λ e a rejects. rejects) (λ x u. u) same (sym kept ∙ Consumes-none mid) stops
 
 -- an item and the others
 items_split : {A : Type 0} (IsPart : A → List ℕ → Type 0) (n : ℕ) (xs : List A) (bytes : List ℕ) → AreItems IsPart (suc n) xs bytes
@@ -152,57 +142,39 @@ items_split IsPart n (x ∷ xs) bytes (long, (a, b, is_a, are_b, cut)) =
     (x, xs, record { first = a; second = b; is_first = is_a; is_second = (omega (arith, long), are_b); parts = cut })
 
 -- some items were read, and the next one was not
-pub items_stop : {A : Type 0} (IsPart : A → List ℕ → Type 0) (Rejects : FormError → List ℕ → Type 0) (Same : A → A → Type 0)
-    → ((x y : A) (a b r s : List ℕ) → IsPart x a → IsPart y b → a ++ r ≡ b ++ s → Same x y × (r ≡ s))
-    → ((x : A) (e : FormError) (a b r s : List ℕ) → IsPart x a → Rejects e b → a ++ r ≡ b ++ s → ⊥)
-    → (found : List A) (n : ℕ) (c : List ℕ) (before middle after : ℕ) (e : FormError) (old mid new : Option (List ℕ))
-    → AreParts IsPart found c
-    → length found < n → middle ≡ before → Consumes old c mid → ReadStops IsPart Rejects middle after e mid new
-    → ReadStops (AreItems IsPart n) (RejectsItem IsPart Rejects n) before after e old new
-items_stop IsPart Rejects Same unique not_both [] zero c before middle after e old mid new are few same consumes stops =
-    absurd (omega (arith, few))
-items_stop IsPart Rejects Same unique not_both (f ∷ found) zero c before middle after e old mid new are few same consumes stops =
-    absurd (omega (arith, few))
-items_stop IsPart Rejects Same unique not_both [] (suc n) c before middle after e old mid new none few same consumes stops =
-    let back : mid ≡ old = sym (consumes ∙ ap (λ (l : List ℕ). prepend_known l mid) none ∙ sym (Consumes-none mid)) in
-    first_stops IsPart Rejects (λ _. RejectsItem IsPart Rejects n) (λ _. AreItems IsPart n) (AreItems IsPart (suc n)) (items_split IsPart n)
-    before after e old new
-    (subst (λ (k : ℕ). ReadStops IsPart Rejects k after e old new) same
-    (subst (λ (o : Option (List ℕ)). ReadStops IsPart Rejects middle after e o new) back stops))
-items_stop IsPart Rejects Same unique not_both (f ∷ found) (suc n) c before middle after e old mid new
-    (p, others, is_p, are, cut) few same consumes stops =
-    let between : Option (List ℕ) = prepend_known others mid in
-    let start : Consumes old p between = consumes ∙ ap (λ (l : List ℕ). prepend_known l mid) cut
-    ∙ sym (prepend_known-append p others mid) in
-    next_stops IsPart Rejects (λ _. RejectsItem IsPart Rejects n) (λ _. AreItems IsPart n) (AreItems IsPart (suc n)) (items_split IsPart n)
-    Same unique not_both (λ x y bytes _ u. u) f before before after e old between new refl (p, is_p, start)
-    (items_stop IsPart Rejects Same unique not_both found n others before middle after e between mid new are
-    (omega (arith, few)) same refl stops)
-
--- the same before calls that counted no failure and consumed nothing
-pub stops_later : {A : Type 0} (IsForm : A → List ℕ → Type 0) (Rejects : FormError → List ℕ → Type 0)
-    {before middle : ℕ} (after : ℕ) {e : FormError}
-    {old mid : Option (List ℕ)} (new : Option (List ℕ)) → middle ≡ before → mid ≡ old → ReadStops IsForm Rejects middle after e mid new
-    → ReadStops IsForm Rejects before after e old new
-stops_later IsForm Rejects {middle = middle} after {e = e} {old = old} new same kept stops =
-    subst (λ (k : ℕ). ReadStops IsForm Rejects k after e old new) same
-    (subst (λ (o : Option (List ℕ)). ReadStops IsForm Rejects middle after e o new) kept stops)
+module _ {A : Type 0} {IsPart : A → List ℕ → Type 0} {Rejects : FormError → List ℕ → Type 0} {Same : A → A → Type 0}
+    (unique : (x y : A) (a b r s : List ℕ) → IsPart x a → IsPart y b → a ++ r ≡ b ++ s → Same x y × (r ≡ s))
+    (not_both : (x : A) (e : FormError) (a b r s : List ℕ) → IsPart x a → Rejects e b → a ++ r ≡ b ++ s → ⊥) where
+  pub items_stop : {before middle after : ℕ} {e : FormError} {old mid new : Option (List ℕ)} (found : List A) (n : ℕ) (c : List ℕ)
+      → AreParts IsPart found c → length found < n → middle ≡ before → Consumes old c mid
+      → ReadStops IsPart Rejects middle after e mid new → ReadStops (AreItems IsPart n) (RejectsItem IsPart Rejects n) before after e old new
+  items_stop [] zero c are few same consumes stops = absurd (omega (arith, few))
+  items_stop (f ∷ found) zero c are few same consumes stops = absurd (omega (arith, few))
+  items_stop {mid = mid} [] (suc n) c none few same consumes stops =
+      first_stops (items_split IsPart n) (stops_later same
+      (sym (consumes ∙ ap (λ (l : List ℕ). prepend_known l mid) none ∙ sym (Consumes-none mid))) stops)
+  items_stop {mid = mid} (f ∷ found) (suc n) c (p, others, is_p, are, cut) few same consumes stops =
+      next_stops (items_split IsPart n) unique not_both (λ x y bytes _ u. u) {mid = prepend_known others mid} f refl
+      (p, is_p, consumes ∙ ap (λ (l : List ℕ). prepend_known l mid) cut ∙ sym (prepend_known-append p others mid))
+      (items_stop found n others are (omega (arith, few)) same refl stops)
 
 -- the reader failed, and nothing was consumed
-pub nothing_stops : {A : Type 0} (IsForm : A → List ℕ → Type 0) (Rejects : FormError → List ℕ → Type 0)
+pub nothing_stops : {A : Type 0} {IsForm : A → List ℕ → Type 0} {Rejects : FormError → List ℕ → Type 0}
     → ((x : A) (bytes : List ℕ) → IsForm x bytes → 0 < length bytes)
     → ((e : FormError) (bytes : List ℕ) → Rejects e bytes → 0 < length bytes)
-    → {before after : ℕ} (e : FormError) {old new : Option (List ℕ)} → before < after → new ≡ old
+    → {before after : ℕ} {e : FormError} {old new : Option (List ℕ)} → before < after → new ≡ old
     → ReadStops IsForm Rejects before after e old new
-nothing_stops IsForm Rejects some rejects_some e {old = None} failed kept = inr tt
-nothing_stops IsForm Rejects some rejects_some e {old = Some input} {new = new} failed kept = inr (record {
-  consumed = [];
-  consumes = sym kept ∙ Consumes-none new;
-  cause = inr (inl (
-    failed,
-    record {
-      no_form = λ x front rest cut is. omega (arith, some x front is, ap length cut, length-append front rest);
-      no_error = λ f front rest cut rejects. omega (arith, rejects_some f front rejects, ap length cut, length-append front rest);
-    },
-  ));
-})
+nothing_stops some rejects_some {old = None} failed kept = record { why = inr tt }
+nothing_stops some rejects_some {old = Some input} {new = new} failed kept = record {
+  why = inr (record {
+    consumed = [];
+    consumes = sym kept ∙ Consumes-none new;
+    cause = inr (inl (
+      failed,
+      record {
+        no_form = λ x front rest cut is. omega (arith, some x front is, ap length cut, length-append front rest);
+        no_error = λ e front rest cut rejects. omega (arith, rejects_some e front rejects, ap length cut, length-append front rest);
+      },
+    ));
+  });
+}

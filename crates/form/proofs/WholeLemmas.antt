@@ -9,7 +9,7 @@ use Rattle.multihash.specs.Consuming.{ConsumesSome}
 use Rattle.multihash.proofs.ReadingLemmas.{Consumes-known}
 use Rattle.multihash.specs.Refusal.{IsOutOfMemory}
 use Rattle.form.specs.FormError.{IsFailed, IsTruncated}
-use Rattle.form.specs.Rejecting.{StopsAt, ReadStops, IsWholeError}
+use Rattle.form.specs.Rejecting.{IsUndecided, StopsAt, ReadStops, IsWholeError}
 use Rattle.form.specs.declared.error.FormError.{FormError}
 
 -- a part of some bytes, and what follows it in them
@@ -21,7 +21,30 @@ pub no_bytes : (a b : List ℕ) → a ++ b ≡ [] → b ≡ []
 no_bytes [] b none = none
 no_bytes (y ∷ a) b none = cc
 
-module _ {A : Type 0} (IsForm : A → List ℕ → Type 0) (Rejects : FormError → List ℕ → Type 0) (Same : A → A → Type 0)
+-- what was consumed of a known input
+consumed_known : (input c : List ℕ) {old : Option (List ℕ)} (new : Option (List ℕ)) → old ≡ Some input → Consumes old c new
+    → (left : List ℕ) × (new ≡ Some left) × (input ≡ c ++ left)
+consumed_known input c new at consumes = Consumes-known input c new (subst (λ (o : Option (List ℕ)). Consumes o c new) at consumes)
+
+-- why reading a known input stopped, if the reader did not fail
+pub stopped : {A : Type 0} {IsForm : A → List ℕ → Type 0} {Rejects : FormError → List ℕ → Type 0} {before after : ℕ} {e : FormError}
+    {old new : Option (List ℕ)} (input : List ℕ) → after ≡ before → old ≡ Some input → ReadStops IsForm Rejects before after e old new
+    → IsFailed IsOutOfMemory e
+    ⊎ ((shown : List ℕ) × (left : List ℕ) × Rejects e shown × (new ≡ Some left) × (input ≡ shown ++ left))
+    ⊎ (IsFailed IsTruncated e × IsUndecided IsForm Rejects input)
+stopped {IsForm = IsForm} {Rejects = Rejects} {before = before} {after = after} {e = e} {new = new} input same at stops = elim stops.why [
+  | inl memory ↦ inl memory
+  | inr known ↦
+      let s : StopsAt IsForm Rejects (before < after) e input new = rw at at known in
+      elim s.cause [
+        | inl rejects ↦ let (left, is_left, cut) = Consumes-known input s.consumed new s.consumes in
+            inr (inl (s.consumed, left, rejects, is_left, cut))
+        | inr (inl (failed, _)) ↦ absurd (omega (arith, failed, same))
+        | inr (inr ends) ↦ inr (inr ends)
+      ]
+]
+
+module _ {A : Type 0} {IsForm : A → List ℕ → Type 0} {Rejects : FormError → List ℕ → Type 0} {Same : A → A → Type 0}
     (unique : (x y : A) (a b r s : List ℕ) → IsForm x a → IsForm y b → a ++ r ≡ b ++ s → Same x y × (r ≡ s))
     (not_both : (x : A) (e : FormError) (a b r s : List ℕ) → IsForm x a → Rejects e b → a ++ r ≡ b ++ s → ⊥)
     {before after : ℕ} (same : after ≡ before) {old : Option (List ℕ)} (new : Option (List ℕ)) where
@@ -30,40 +53,29 @@ module _ {A : Type 0} (IsForm : A → List ℕ → Type 0) (Rejects : FormError 
       → IfErr r (λ e. ReadStops IsForm Rejects before after e old new) → (x : A) (bytes more : List ℕ) → IsForm x bytes
       → old ≡ Some (bytes ++ more) → MatchResult r (λ y. Same y x × (new ≡ Some more)) (IsFailed IsOutOfMemory)
   form_found (Ok y) (c, is_c, consumes) err x bytes more is at =
-      let (left, is_left, split) = Consumes-known (bytes ++ more) c new
-      (subst (λ (o : Option (List ℕ)). Consumes o c new) at consumes) in
+      let (left, is_left, split) = consumed_known (bytes ++ more) c new at consumes in
       let told = unique y x c bytes left more is_c is (sym split) in
       (told.0, is_left ∙ ap Some told.1)
-  form_found (Err e) ok (inl memory) x bytes more is at = memory
-  form_found (Err e) ok (inr stops) x bytes more is at =
-      let s : StopsAt IsForm Rejects (before < after) e (bytes ++ more) new = rw at at stops in
-      elim s.cause [
-        | inl rejects ↦
-            let (left, _, split) = Consumes-known (bytes ++ more) s.consumed new s.consumes in
-            absurd (not_both x e bytes s.consumed more left is rejects split)
-        | inr (inl (failed, _)) ↦ absurd (omega (arith, failed, same))
-        | inr (inr (_, u)) ↦ absurd (u.no_form x bytes more refl is)
-      ]
+  form_found (Err e) ok err x bytes more is at = elim (stopped (bytes ++ more) same at err) [
+    | inl memory ↦ memory
+    | inr (inl (shown, left, rejects, _, split)) ↦ absurd (not_both x e bytes shown more left is rejects split)
+    | inr (inr (_, u)) ↦ absurd (u.no_form x bytes more refl is)
+  ]
 
   -- the clause `truncated`
   pub form_truncated : (r : Result A FormError) → IfOk r (λ x. ConsumesSome (IsForm x) old new)
       → IfErr r (λ e. ReadStops IsForm Rejects before after e old new) → (x : A) (bytes part : List ℕ) → IsForm x bytes
       → IsStrictPrefix part bytes → old ≡ Some part → IsErrAnd r (λ e. IsFailed IsTruncated e ⊎ IsFailed IsOutOfMemory e)
   form_truncated (Ok y) (c, is_c, consumes) err x bytes part is (more, some, cut) at =
-      let (left, is_left, split) = Consumes-known part c new
-      (subst (λ (o : Option (List ℕ)). Consumes o c new) at consumes) in
+      let (left, is_left, split) = consumed_known part c new at consumes in
       let told = unique y x c bytes (left ++ more) [] is_c is (longer part c left bytes more split cut) in
       absurd (some (no_bytes left more told.1))
-  form_truncated (Err e) ok (inl memory) x bytes part is strict at = inr memory
-  form_truncated (Err e) ok (inr stops) x bytes part is (more, some, cut) at =
-      let s : StopsAt IsForm Rejects (before < after) e part new = rw at at stops in
-      elim s.cause [
-        | inl rejects ↦
-            let (left, _, split) = Consumes-known part s.consumed new s.consumes in
-            absurd (not_both x e bytes s.consumed [] (left ++ more) is rejects (sym (longer part s.consumed left bytes more split cut)))
-        | inr (inl (failed, _)) ↦ absurd (omega (arith, failed, same))
-        | inr (inr (ends, _)) ↦ inl ends
-      ]
+  form_truncated (Err e) ok err x bytes part is (more, some, cut) at = elim (stopped part same at err) [
+    | inl memory ↦ inr memory
+    | inr (inl (shown, left, rejects, _, split)) ↦
+        absurd (not_both x e bytes shown [] (left ++ more) is rejects (sym (longer part shown left bytes more split cut)))
+    | inr (inr (ends, _)) ↦ inl ends
+  ]
 
   -- the clause `rejected`
   pub form_rejected : ((e f : FormError) (a b r s : List ℕ) → Rejects e a → Rejects f b → a ++ r ≡ b ++ s → (e ≡ f) × (r ≡ s))
@@ -71,29 +83,23 @@ module _ {A : Type 0} (IsForm : A → List ℕ → Type 0) (Rejects : FormError 
       → IfErr r (λ e. ReadStops IsForm Rejects before after e old new) → (e : FormError) (front more : List ℕ) → Rejects e front
       → old ≡ Some (front ++ more) → IsErrAnd r (λ f. ((f ≡ e) × (new ≡ Some more)) ⊎ IsFailed IsOutOfMemory f)
   form_rejected once (Ok y) (c, is_c, consumes) err e front more rejects at =
-      let (left, _, split) = Consumes-known (front ++ more) c new
-      (subst (λ (o : Option (List ℕ)). Consumes o c new) at consumes) in
+      let (left, _, split) = consumed_known (front ++ more) c new at consumes in
       not_both y e c front left more is_c rejects (sym split)
-  form_rejected once (Err f) ok (inl memory) e front more rejects at = inr memory
-  form_rejected once (Err f) ok (inr stops) e front more rejects at =
-      let s : StopsAt IsForm Rejects (before < after) f (front ++ more) new = rw at at stops in
-      elim s.cause [
-        | inl also ↦
-            let (left, is_left, split) = Consumes-known (front ++ more) s.consumed new s.consumes in
-            let told = once f e s.consumed front left more also rejects (sym split) in
-            inl (told.0, is_left ∙ ap Some told.1)
-        | inr (inl (failed, _)) ↦ absurd (omega (arith, failed, same))
-        | inr (inr (_, u)) ↦ absurd (u.no_error e front more refl rejects)
-      ]
+  form_rejected once (Err f) ok err e front more rejects at = elim (stopped (front ++ more) same at err) [
+    | inl memory ↦ inr memory
+    | inr (inl (shown, left, also, is_left, split)) ↦
+        let told = once f e shown front left more also rejects (sym split) in
+        inl (told.0, is_left ∙ ap Some told.1)
+    | inr (inr (_, u)) ↦ absurd (u.no_error e front more refl rejects)
+  ]
 
 -- the clause `err` of `from_bytes`, from that of `read`
-pub whole_error : {A : Type 0} (IsForm : A → List ℕ → Type 0) (Rejects : FormError → List ℕ → Type 0) {before after : ℕ} → after ≡ before
-    → {e : FormError} (input : List ℕ) (new : Option (List ℕ)) → ReadStops IsForm Rejects before after e (Some input) new
+pub whole_error : {A : Type 0} {IsForm : A → List ℕ → Type 0} {Rejects : FormError → List ℕ → Type 0} {before after : ℕ} {e : FormError}
+    {input : List ℕ} {new : Option (List ℕ)} → after ≡ before → ReadStops IsForm Rejects before after e (Some input) new
     → IsWholeError IsForm Rejects e input
-whole_error IsForm Rejects same input new (inl memory) = inl memory
-whole_error IsForm Rejects same input new (inr s) = elim s.cause [
-  | inl rejects ↦ let (left, _, cut) = Consumes-known input s.consumed new s.consumes in inr (inl (s.consumed, left, rejects, cut))
-  | inr (inl (failed, _)) ↦ absurd (omega (arith, failed, same))
+whole_error {input = input} same stops = elim (stopped input same refl stops) [
+  | inl memory ↦ inl memory
+  | inr (inl (shown, left, rejects, _, cut)) ↦ inr (inl (shown, left, rejects, cut))
   | inr (inr ends) ↦ inr (inr (inl ends))
 ]
 

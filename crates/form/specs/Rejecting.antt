@@ -107,10 +107,9 @@ pub record StopsAt {A : Type 0} (IsForm : A → List ℕ → Type 0) (Rejects : 
       ⊎ (IsFailed IsTruncated e × IsUndecided IsForm Rejects input)
 
 -- reading failed with `e`: it is out of memory, or, if the input is known, `StopsAt` holds
-abbrev pub ReadStops : {A : Type 0} → (A → List ℕ → Type 0) → (FormError → List ℕ → Type 0) → ℕ → ℕ
-    → FormError → Option (List ℕ) → Option (List ℕ) → Type 0
-ReadStops IsForm Rejects before after e old new =
-    IsFailed IsOutOfMemory e ⊎ IfSome old (λ input. StopsAt IsForm Rejects (before < after) e input new)
+pub record ReadStops {A : Type 0} (IsForm : A → List ℕ → Type 0) (Rejects : FormError → List ℕ → Type 0)
+    (before after : ℕ) (e : FormError) (old new : Option (List ℕ)) : Type 0 where
+  pub why : IsFailed IsOutOfMemory e ⊎ IfSome old (λ input. StopsAt IsForm Rejects (before < after) e input new)
 
 -- the error of reading a value at the front of the input
 abbrev pub IsReadError : {A : Type 0} → (A → List ℕ → Type 0) → (FormError → List ℕ → Type 0) → FormError

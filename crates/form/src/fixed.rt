@@ -20,10 +20,10 @@ pub struct BigEndian<const N: usize> {
 
 impl<const N: usize> Form for BigEndian<N> {
     ghost use Rattle.std.specs.Int.{bytes_high_first};
+    ghost use Rattle.byteorder.specs.Numbers.{length-bytes_high_first};
     ghost use Rattle.multihash.specs.Refusal.{IsEof};
     ghost use Rattle.form.specs.FormError.{IsFailed};
-    ghost use Rattle.form.specs.Laws.Parts.{array_exists};
-    ghost use Rattle.form.specs.Laws.Fixed.{high_unique, high_one, high_some};
+    ghost use Rattle.form.specs.Laws.Parts.{array_exists, array_some, fixed_one, high_unique};
 
     ghost is_form = { λ x bytes. bytes ≡ bytes_high_first N x.value };
 
@@ -51,7 +51,7 @@ impl<const N: usize> Form for BigEndian<N> {
 
     ghost exists = { λ x. array_exists (bytes_high_first N x.value) };
 
-    ghost unique = { λ x y. high_unique N x.value y.value x.fits x.in_range y.in_range };
+    ghost unique = { λ x y. high_unique N x.value y.value x.in_range y.in_range };
 
     ghost not_both = { λ _ _ _ _ _ _ _ rejects _. rejects };
 
@@ -61,9 +61,9 @@ impl<const N: usize> Form for BigEndian<N> {
 
     ghost not_truncated = { λ _ _ rejects. absurd rejects };
 
-    ghost one = { λ x y. high_one N x.value y.value };
+    ghost one = { λ x y. fixed_one (bytes_high_first N) x.value y.value };
 
-    ghost some = { λ x. high_some N x.value x.some };
+    ghost some = { λ x. array_some N (bytes_high_first N x.value) (length-bytes_high_first N x.value) x.some };
 }
 
 /// A number below 256^`N` in `N` bytes, the lowest of them first. `N` is 1 to 8.
@@ -80,10 +80,10 @@ pub struct LittleEndian<const N: usize> {
 
 impl<const N: usize> Form for LittleEndian<N> {
     ghost use Rattle.std.specs.Int.{bytes_low_first};
+    ghost use Rattle.byteorder.specs.Numbers.{length-bytes_low_first};
     ghost use Rattle.multihash.specs.Refusal.{IsEof};
     ghost use Rattle.form.specs.FormError.{IsFailed};
-    ghost use Rattle.form.specs.Laws.Parts.{array_exists};
-    ghost use Rattle.form.specs.Laws.Fixed.{low_unique, low_one, low_some};
+    ghost use Rattle.form.specs.Laws.Parts.{array_exists, array_some, fixed_one, low_unique};
 
     ghost is_form = { λ x bytes. bytes ≡ bytes_low_first 0 N x.value };
 
@@ -111,7 +111,7 @@ impl<const N: usize> Form for LittleEndian<N> {
 
     ghost exists = { λ x. array_exists (bytes_low_first 0 N x.value) };
 
-    ghost unique = { λ x y. low_unique N x.value y.value x.fits x.in_range y.in_range };
+    ghost unique = { λ x y. low_unique N x.value y.value x.in_range y.in_range };
 
     ghost not_both = { λ _ _ _ _ _ _ _ rejects _. rejects };
 
@@ -121,9 +121,9 @@ impl<const N: usize> Form for LittleEndian<N> {
 
     ghost not_truncated = { λ _ _ rejects. absurd rejects };
 
-    ghost one = { λ x y. low_one N x.value y.value };
+    ghost one = { λ x y. fixed_one (bytes_low_first 0 N) x.value y.value };
 
-    ghost some = { λ x. low_some N x.value x.some };
+    ghost some = { λ x. array_some N (bytes_low_first 0 N x.value) (length-bytes_low_first 0 N x.value) x.some };
 }
 
 // The number of these bytes, the highest first. It has no other bytes, which the read of an array does not state.

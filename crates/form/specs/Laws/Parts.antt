@@ -1,5 +1,8 @@
 -- The laws of each form: an encoding exists, is unique, is the only one of its value, and is not empty.
-use Rattle.std.proofs.Common.{◌≡◌, ℕ, ◌<◌, List, [], ◌∷◌, ◌++◌, length, refl, sym, ap, ◌∙◌, append_assoc, subst, arith}
+use Rattle.std.proofs.Common.{◌≡◌, ℕ, ◌<◌, ◌^◌, List, [], ◌∷◌, ◌++◌, length, refl, sym, ap, ◌∙◌, append_assoc, subst, arith}
+use Rattle.std.specs.Int.{bytes_low_first, bytes_high_first}
+use Rattle.byteorder.specs.Endian.{big_from, little_from}
+use Rattle.byteorder.specs.Numbers.{big_number-reads_back, little_number-reads_back, length-bytes_high_first, length-bytes_low_first}
 use Rattle.multihash.specs.Streams.{AreParts}
 use Rattle.form.specs.Form.{Then, IsBlock, AreSame}
 use Rattle.form.specs.Laws.Pairs.{then_exists, then_unique, then_one, then_some}
@@ -74,6 +77,26 @@ array_one x y a b same is is_b = is ∙ same ∙ sym is_b
 -- and it is not empty
 pub array_some : (n : ℕ) (x : List ℕ) → length x ≡ n → 0 < n → (bytes : List ℕ) → bytes ≡ x → 0 < length bytes
 array_some n x long some bytes is = omega (arith, long, some, ap length is)
+
+-- two numbers of N bytes, the highest first, at the start of one input are equal
+pub high_unique : (N x y : ℕ) → x < 256 ^ N → y < 256 ^ N → (a b r s : List ℕ)
+    → a ≡ bytes_high_first N x → b ≡ bytes_high_first N y → a ++ r ≡ b ++ s → (x ≡ y) × (r ≡ s)
+high_unique N x y below below_too a b r s is is_b cut =
+    let t = array_unique N (bytes_high_first N x) (bytes_high_first N y) (length-bytes_high_first N x)
+    (length-bytes_high_first N y) a b r s is is_b cut in
+    (sym (big_number-reads_back N x [] below) ∙ ap (λ (l : List ℕ). big_from 0 N (l ++ [])) t.0 ∙ big_number-reads_back N y [] below_too, t.1)
+
+-- two numbers of N bytes, the lowest first
+pub low_unique : (N x y : ℕ) → x < 256 ^ N → y < 256 ^ N → (a b r s : List ℕ)
+    → a ≡ bytes_low_first 0 N x → b ≡ bytes_low_first 0 N y → a ++ r ≡ b ++ s → (x ≡ y) × (r ≡ s)
+low_unique N x y below below_too a b r s is is_b cut =
+    let t = array_unique N (bytes_low_first 0 N x) (bytes_low_first 0 N y) (length-bytes_low_first 0 N x)
+    (length-bytes_low_first 0 N y) a b r s is is_b cut in
+    (sym (little_number-reads_back N x [] below) ∙ ap (λ (l : List ℕ). little_from 0 N (l ++ [])) t.0 ∙ little_number-reads_back N y [] below_too, t.1)
+
+-- and a number has one encoding
+pub fixed_one : (bytes_of : ℕ → List ℕ) (x y : ℕ) (a b : List ℕ) → x ≡ y → a ≡ bytes_of x → b ≡ bytes_of y → a ≡ b
+fixed_one bytes_of x y a b same = array_one (bytes_of x) (bytes_of y) a b (ap bytes_of same)
 
 -- a block has an encoding
 pub block_exists : (block : List ℕ) (n : ℕ) → n ≡ length block → n < varint_limit → (bytes : List ℕ) × IsBlock block bytes

@@ -11,7 +11,7 @@ use Rattle.form.proofs.all.all_from_bytes.Goals as goal
 pub returns-in_err-item-clause-found : goal.returns-in_err-item-clause-found
 returns-in_err-item-clause-found g c xs all =
     let (front, parts, cut) = c.loop-rest.invariant in
-    elim (parts_compared g.T.Form.is_form g.T.Form.same g.met.T.Form.unique g.met.T.Form.some c.loop-rest.items.items xs front
+    elim (parts_compared g.met.T.Form.unique g.met.T.Form.some c.loop-rest.items.items xs front
     c.loop-rest.rest.now c.args.bytes.now [] parts all (sym cut ∙ sym (append-nil c.args.bytes.now))) [
       | inl same ↦ absurd (not_empty c.loop-rest.rest.now _ c.is_empty.ensures c.loop-rest-test.true same.1)
       | inr (inl (_, next)) ↦ rw (passed_error c.from_residual.result _ c.from_residual.ensures.1)
@@ -33,7 +33,7 @@ pub returns-clause-found : goal.returns-clause-found
 returns-clause-found g c xs all =
     let (front, parts, cut) = c.loop-rest.invariant in
     let none = empty_is c.loop-rest.rest.now _ c.is_empty.ensures c.loop-rest-test.false in
-    elim (parts_compared g.T.Form.is_form g.T.Form.same g.met.T.Form.unique g.met.T.Form.some c.loop-rest.items.items xs front
+    elim (parts_compared g.met.T.Form.unique g.met.T.Form.some c.loop-rest.items.items xs front
     c.loop-rest.rest.now c.args.bytes.now [] parts all (sym cut ∙ sym (append-nil c.args.bytes.now))) [
       | inl same ↦ same.0
       | inr (inl (_, next)) ↦ absurd (omega (

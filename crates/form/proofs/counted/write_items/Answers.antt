@@ -11,9 +11,6 @@ use Rattle.form.proofs.counted.write_items.Given as given
 use Rattle.form.proofs.counted.write_items.Goals as goal
 use Rattle.form.proofs.counted.write_items.Goals.{After-item-item}
 
-pub loop-item-init : goal.loop-item-init
-loop-item-init g c = record { bytes = []; whole = λ others h. h; appends = g.met.W.Write.appends_nothing _; unfailed = refl }
-
 -- this item's encoding comes next
 next : (g : given.Over) (c : After-item-item g) (e others : List ℕ) → g.T.Form.is_form c.item-item.result e
     → AreParts g.T.Form.is_form (drop (c.loop-item.item-index + 1) c.args.items.now) others

@@ -24,7 +24,7 @@ returns-in-Err-clause-some g c =
       some = not_empty c.loop-rest.rest.now _ c.is_empty.ensures c.loop-rest-test.true;
       item = before.count;
       start = omega (arith, ap length before.parts, length-append before.front c.loop-rest.rest.now);
-      cause = cause_of g.T.Form.is_form g.T.Form.rejects g.met.T.Form.not_truncated c.args.bytes.now before.front
+      cause = cause_of g.met.T.Form.not_truncated c.args.bytes.now before.front
           c.loop-rest.rest.now c.read.new.r.now c.in-Err.error _ before.parts c.in-Err.ensures.err
           (elim c.if-is_incomplete.branch [
             | then-is_incomplete w ↦ inl (c.is_incomplete.ensures.0 w.if-is_incomplete.true, w.offset-is)
@@ -37,18 +37,15 @@ returns-in-Err-clause-some g c =
 
 pub returns-in-Err-clause-found : goal.returns-in-Err-clause-found
 returns-in-Err-clause-found g c =
-    found_memory g.T.Form.is_form g.T.Form.rejects g.T.Form.same g.met.T.Form.unique g.met.T.Form.some g.met.T.Form.not_both
-    g.met.T.Form.rejects_unique g.met.T.Form.rejects_some _ _ (returns-in-Err-clause-some g c)
+    found_memory g.met.T.Form.unique g.met.T.Form.some g.met.T.Form.not_both g.met.T.Form.rejects_unique g.met.T.Form.rejects_some _ _ (returns-in-Err-clause-some g c)
 
 pub returns-in-Err-clause-rejected : goal.returns-in-Err-clause-rejected
 returns-in-Err-clause-rejected g c =
-    rejected_at g.T.Form.is_form g.T.Form.rejects g.T.Form.same g.met.T.Form.unique g.met.T.Form.some g.met.T.Form.not_both
-    g.met.T.Form.rejects_unique g.met.T.Form.rejects_some _ _ (returns-in-Err-clause-some g c)
+    rejected_at g.met.T.Form.unique g.met.T.Form.some g.met.T.Form.not_both g.met.T.Form.rejects_unique g.met.T.Form.rejects_some _ _ (returns-in-Err-clause-some g c)
 
 pub returns-in-Err-clause-truncated : goal.returns-in-Err-clause-truncated
 returns-in-Err-clause-truncated g c xs x front part whole are is strict left cut =
-    truncated_at g.T.Form.is_form g.T.Form.rejects g.T.Form.same g.met.T.Form.unique g.met.T.Form.some g.met.T.Form.not_both
-    g.met.T.Form.rejects_unique g.met.T.Form.rejects_some _ _ (returns-in-Err-clause-some g c) xs x front part whole are is strict cut
+    truncated_at g.met.T.Form.unique g.met.T.Form.some g.met.T.Form.not_both g.met.T.Form.rejects_unique g.met.T.Form.rejects_some _ _ (returns-in-Err-clause-some g c) xs x front part whole are is strict cut
 
 pub returns-clause-none : goal.returns-clause-none
 returns-clause-none g c =
@@ -83,10 +80,8 @@ loop-rest-preserved g c =
 
 pub returns-clause-rejected : goal.returns-clause-rejected
 returns-clause-rejected g c xs e front shown more are rejects cut =
-    none_rejected g.T.Form.is_form g.T.Form.rejects g.T.Form.same g.met.T.Form.unique g.met.T.Form.some g.met.T.Form.not_both
-    g.met.T.Form.rejects_unique g.met.T.Form.rejects_some _ _ xs (returns-clause-none g c).1 e front shown more are rejects cut
+    none_rejected g.met.T.Form.unique g.met.T.Form.some g.met.T.Form.not_both g.met.T.Form.rejects_unique g.met.T.Form.rejects_some _ _ xs (returns-clause-none g c).1 e front shown more are rejects cut
 
 pub returns-clause-truncated : goal.returns-clause-truncated
 returns-clause-truncated g c xs x front part whole are is strict left cut =
-    none_truncated g.T.Form.is_form g.T.Form.rejects g.T.Form.same g.met.T.Form.unique g.met.T.Form.some g.met.T.Form.not_both
-    g.met.T.Form.rejects_unique g.met.T.Form.rejects_some _ _ xs (returns-clause-none g c).1 x front part whole are is strict left cut
+    none_truncated g.met.T.Form.unique g.met.T.Form.some g.met.T.Form.not_both g.met.T.Form.rejects_unique g.met.T.Form.rejects_some _ _ xs (returns-clause-none g c).1 x front part whole are is strict left cut

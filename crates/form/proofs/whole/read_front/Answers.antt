@@ -1,7 +1,6 @@
 -- `read_front` is `read` of a reader that has the bytes and nothing more, so each clause is that of `read`, and what `read` leaves is
 -- what follows the value.
-use Rattle.std.proofs.Common.{Some, ap, inl, inr, refl}
-use Rattle.multihash.proofs.OutcomeLemmas.{passed_error}
+use Rattle.std.proofs.Common.{Some, ap, refl}
 use Rattle.form.proofs.WholeLemmas.{known_is, if_passed}
 use Rattle.form.proofs.whole.read_front.Goals as goal
 
@@ -18,15 +17,3 @@ returns-clause-found g c x front rest is cut =
 pub returns-clause-truncated : goal.returns-clause-truncated
 returns-clause-truncated g c x front is strict =
     c.in_ok-value.ensures.truncated x front c.args.bytes.now is strict refl refl
-
-pub returns-in_err-value-clause-rejected : goal.returns-in_err-value-clause-rejected
-returns-in_err-value-clause-rejected g c e front more rejects cut =
-    if_passed _ c.from_residual.result _ c.from_residual.ensures.1
-    (elim (c.in_err-value.ensures.rejected e front more rejects (ap Some cut) refl) [ inl is ↦ inl is.0 | inr memory ↦ inr memory ])
-
-pub returns-clause-rejected : goal.returns-clause-rejected
-returns-clause-rejected g c e front more rejects cut = c.in_ok-value.ensures.rejected e front more rejects (ap Some cut) refl
-
-pub returns-in_err-value-clause-err : goal.returns-in_err-value-clause-err
-returns-in_err-value-clause-err g c =
-    rw (passed_error c.from_residual.result _ c.from_residual.ensures.1) (_, c.in_err-value.ensures.err)

@@ -1,10 +1,9 @@
 -- A block is its length and its bytes, one after the other, so two calls that succeed append it, and one that fails has appended
 -- a strict prefix of it.
-use Rattle.std.proofs.Common.{◌≡◌, ℕ, List, length, inl, inr, refl, subst, ◌∙◌, arith}
+use Rattle.std.proofs.Common.{ℕ, inl, inr, refl, subst, ◌∙◌, arith}
 use Rattle.multihash.specs.Varint.{IsVarint}
 use Rattle.multihash.specs.Refusal.{of_io}
 use Rattle.multihash.proofs.OutcomeLemmas.{OnErr-always, passed_error}
-use Rattle.form.specs.declared.error.FormError.TheVariants.{Failed}
 use Rattle.form.proofs.BothLemmas.{then_stops_first, then_stops_second, then_written}
 use Rattle.form.proofs.block.BlockForm.write.Goals as goal
 
@@ -16,9 +15,7 @@ returns-in_err-write-clause-err g c =
       | inr io ↦
           let (len, is_len, stopped) = io.1 in
           let own = subst (λ (k : ℕ). IsVarint k len) (c.len.ensures ∙ block.ok.0) is_len in
-          OnErr-always c.from_residual.result
-          (then_stops_first g.W.Write.appended (IsVarint (length block.items)) (λ (rest : List ℕ). rest ≡ block.items)
-          (len, own, stopped) (block.items, refl))
+          OnErr-always c.from_residual.result (then_stops_first g.W.Write.appended (len, own, stopped) (block.items, refl))
     ]
 
 pub returns-in_err-write_all-clause-err : goal.returns-in_err-write_all-clause-err
@@ -28,8 +25,7 @@ returns-in_err-write_all-clause-err g c =
     let own = subst (λ (k : ℕ). IsVarint k n.0) (c.len.ensures ∙ block.ok.0) n.1 in
     let stopped = rw c.deref.ensures.value at c.in_err-write_all.ensures.laws.err in
     OnErr-always c.from_residual-in_err-write_all.result
-    (then_stops_second g.W.Write.appended g.met.W.Write.appends_concatenated (IsVarint (length block.items))
-    (λ (rest : List ℕ). rest ≡ block.items) (n.0, own, n.3) (block.items, refl, stopped))
+    (then_stops_second g.W.Write.appended g.met.W.Write.appends_concatenated (n.0, own, n.3) (block.items, refl, stopped))
 
 pub returns-clause-ok : goal.returns-clause-ok
 returns-clause-ok g c =
@@ -37,13 +33,10 @@ returns-clause-ok g c =
     let n = c.in_ok-write.ensures.ok in
     let own = subst (λ (k : ℕ). IsVarint k n.0) (c.len.ensures ∙ block.ok.0) n.1 in
     let appended = rw c.deref.ensures.value at c.in_ok-write_all.ensures.laws.ok in
-    then_written g.W.Write.appended g.met.W.Write.appends_concatenated (IsVarint (length block.items))
-    (λ (rest : List ℕ). rest ≡ block.items) (n.0, own, n.3) (block.items, refl, appended)
+    then_written g.W.Write.appended g.met.W.Write.appends_concatenated (n.0, own, n.3) (block.items, refl, appended)
 
 pub returns-in_err-write_all-clause-faults : goal.returns-in_err-write_all-clause-faults
 returns-in_err-write_all-clause-faults g c =
-    let n = c.in_ok-write.ensures.ok in
-    let fails = rw n.4 at c.in_err-write_all.ensures.laws.faults in
     let cause = of_io c.in_err-write_all.field-0.0 in
-    rw (passed_error c.from_residual-in_err-write_all.result (Failed cause) c.from_residual-in_err-write_all.ensures.1)
-    (cause, refl, (c.in_err-write_all.field-0.0, refl, fails))
+    rw (passed_error c.from_residual-in_err-write_all.result _ c.from_residual-in_err-write_all.ensures.1)
+    (cause, refl, (c.in_err-write_all.field-0.0, refl, rw c.in_ok-write.ensures.ok.4 at c.in_err-write_all.ensures.laws.faults))

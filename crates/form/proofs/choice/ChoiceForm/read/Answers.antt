@@ -1,41 +1,34 @@
--- A choice is its tag and then its value: reading stops in the tag or in the value, and `CaseLemmas` has what each shows of the whole.
-use Rattle.form.specs.declared.error.FormError.TheVariants.{Failed}
+-- A choice is its tag and then its value: reading stops in the tag or in the value, and `StopLemmas` has what each shows of the whole.
+use Rattle.std.proofs.Common.{ℕ, List, refl}
 use Rattle.multihash.specs.Varint.{IsVarint}
 use Rattle.multihash.proofs.OutcomeLemmas.{passed_error}
+use Rattle.form.specs.Form.{Then}
+use Rattle.form.specs.Rejecting.{IsCase}
+use Rattle.form.specs.declared.choice.Choice.{Choice}
 use Rattle.form.proofs.BothLemmas.{number_is, then_read}
-use Rattle.form.proofs.CaseLemmas.{tag_stops, value_stops}
 use Rattle.form.proofs.FormLemmas.{varint_stops}
+use Rattle.form.proofs.StopLemmas.{first_stops, from_stops}
 use Rattle.form.proofs.choice.ChoiceForm.read.Goals as goal
+
+split : {C : Type 0} (tag_of : C → ℕ) (IsC : C → List ℕ → Type 0) (x : Choice C) (bytes : List ℕ)
+    → Then (IsVarint (tag_of x.case)) (IsC x.case) bytes → (n : ℕ) × (y : C) × Then (IsVarint n) (IsCase tag_of IsC n y) bytes
+split tag_of IsC x bytes t = (
+  tag_of x.case,
+  x.case,
+  record { first = t.first; second = t.second; is_first = t.is_first; is_second = (refl, t.is_second); parts = t.parts },
+)
 
 pub returns-in_err-tag-clause-err : goal.returns-in_err-tag-clause-err
 returns-in_err-tag-clause-err g c =
-    let C = g.C.Cases in
-    let met = c.in_err-tag.ensures in
-    let e = c.in_err-tag.field-0.0 in
-    let before = g.R.Read.failures c.args.r.now in
-    let after = g.R.Read.failures c.read.new.r in
-    let old = g.R.Read.rest c.args.r.now in
-    let new = g.R.Read.rest c.read.new.r in
-    rw (passed_error c.from_residual.result (Failed e) c.from_residual.ensures.1)
-    (tag_stops C.tag_of C.is_value C.rejects before after (Failed e) old new
-    (varint_stops met.faults met.err))
+    rw (passed_error c.from_residual.result _ c.from_residual.ensures.1)
+    (first_stops (split g.C.Cases.tag_of g.C.Cases.is_value) (varint_stops c.in_err-tag.ensures.faults c.in_err-tag.ensures.err))
 
 pub returns-in_err-case-clause-err : goal.returns-in_err-case-clause-err
 returns-in_err-case-clause-err g c =
-    let C = g.C.Cases in
-    let tag = c.in_ok-tag.ensures in
-    let r = c.args.r.now in
-    let left = c.read_value.new.r in
-    let e = c.in_err-case.field-0.0 in
-    rw (passed_error c.from_residual-in_err-case.result e c.from_residual-in_err-case.ensures.1)
-    (value_stops C.tag_of C.is_value C.rejects
-    (g.R.Read.failures r) (g.R.Read.failures left) e (g.R.Read.rest r) (g.R.Read.rest left)
-    c.in_ok-tag.tag _ _ tag.faults tag.ok c.in_err-case.ensures.err)
+    rw (passed_error c.from_residual-in_err-case.result _ c.from_residual-in_err-case.ensures.1)
+    (from_stops (split g.C.Cases.tag_of g.C.Cases.is_value) c.in_ok-tag.tag c.in_ok-tag.ensures.faults c.in_ok-tag.ensures.ok
+    c.in_err-case.ensures.err)
 
 pub returns-clause-ok : goal.returns-clause-ok
 returns-clause-ok g c =
-    let C = g.C.Cases in
-    let case = c.in_ok-case.case in
-    let old = g.R.Read.rest c.args.r.now in
-    let tag = number_is c.in_ok-tag.tag (C.tag_of case) old _ c.in_ok-case.ensures.tag c.in_ok-tag.ensures.ok in
-    then_read (IsVarint (C.tag_of case)) (C.is_value case) _ tag c.in_ok-case.ensures.ok
+    then_read _ (number_is _ c.in_ok-case.ensures.tag c.in_ok-tag.ensures.ok) c.in_ok-case.ensures.ok

@@ -1,16 +1,15 @@
 -- A counted list is a number and that many items: reading stops in the number, at one above MAX or in the items, and
 -- `StopLemmas` has what each shows of the whole.
-use Rattle.std.proofs.Common.{◌≤◌, ℕ, List, length, inl, inr, refl, sym, subst, ◌∙◌, arith}
+use Rattle.std.proofs.Common.{◌≤◌, ℕ, List, length, inl, inr, refl, sym, ◌∙◌, arith}
 use Rattle.multihash.specs.Varint.{IsVarint}
 use Rattle.multihash.specs.Streams.{AreParts}
 use Rattle.multihash.proofs.OutcomeLemmas.{passed_error}
 use Rattle.form.specs.Form.{Then}
-use Rattle.form.specs.Rejecting.{RejectsNumber, RejectsItem, RejectsCounted, AreItems}
+use Rattle.form.specs.Rejecting.{RejectsItem, RejectsCounted, AreItems}
 use Rattle.form.specs.declared.error.FormError.{FormError}
-use Rattle.form.specs.declared.error.FormError.TheVariants.{Failed, TooMany}
-use Rattle.form.proofs.BothLemmas.{then_read}
+use Rattle.form.proofs.BothLemmas.{number_is, then_read}
 use Rattle.form.proofs.FormLemmas.{varint_stops}
-use Rattle.form.proofs.StopLemmas.{first_stops, next_rejected, from_stops, stops_as}
+use Rattle.form.proofs.StopLemmas.{first_stops, from_stops, stops_as}
 use Rattle.form.proofs.counted.CountedForm.read.Goals as goal
 
 -- a count and that many items
@@ -31,26 +30,8 @@ only_item IsPart Rejects MAX n within e bytes (inr item) = item.1
 
 pub returns-in_err-count-clause-err : goal.returns-in_err-count-clause-err
 returns-in_err-count-clause-err g c =
-    let met = c.in_err-count.ensures in
-    let e = c.in_err-count.field-0.0 in
-    let before = g.R.Read.failures c.args.r.now in
-    let after = g.R.Read.failures c.read.new.r in
-    let old = g.R.Read.rest c.args.r.now in
-    let new = g.R.Read.rest c.read.new.r in
-    rw (passed_error c.from_residual.result (Failed e) c.from_residual.ensures.1)
-    (first_stops IsVarint RejectsNumber (RejectsCounted g.T.Form.is_form g.T.Form.rejects g.row.MAX) (AreItems g.T.Form.is_form) _
-    (split g.T.Form.is_form (λ x. x.items.items)) before after (Failed e) old new (varint_stops met.faults met.err))
-
-pub returns-then-count-clause-err : goal.returns-then-count-clause-err
-returns-then-count-clause-err g c =
-    let n = c.in_ok-count.count in
-    let before = g.R.Read.failures c.args.r.now in
-    let after = g.R.Read.failures c.read.new.r in
-    let old = g.R.Read.rest c.args.r.now in
-    let new = g.R.Read.rest c.read.new.r in
-    next_rejected IsVarint RejectsNumber (RejectsCounted g.T.Form.is_form g.T.Form.rejects g.row.MAX) (AreItems g.T.Form.is_form) _
-    (split g.T.Form.is_form (λ x. x.items.items)) n before after (TooMany n) old new c.in_ok-count.ensures.ok
-    (inl (omega (arith, c.if-count.true), refl, refl))
+    rw (passed_error c.from_residual.result _ c.from_residual.ensures.1)
+    (first_stops (split g.T.Form.is_form (λ x. x.items.items)) (varint_stops c.in_err-count.ensures.faults c.in_err-count.ensures.err))
 
 pub returns-in_err-items-clause-faults : goal.returns-in_err-items-clause-faults
 returns-in_err-items-clause-faults g c =
@@ -63,29 +44,14 @@ returns-in_err-items-clause-faults g c =
 
 pub returns-in_err-items-clause-err : goal.returns-in_err-items-clause-err
 returns-in_err-items-clause-err g c =
-    let is_form = g.T.Form.is_form in
-    let rejects = g.T.Form.rejects in
-    let MAX = g.row.MAX in
     let n = c.in_ok-count.count in
-    let e = c.in_err-items.field-0.0 in
-    let middle = g.R.Read.failures c.read.new.r in
-    let mid = g.R.Read.rest c.read.new.r in
-    let before = g.R.Read.failures c.args.r.now in
-    let after = g.R.Read.failures c.read_items.new.r in
-    let old = g.R.Read.rest c.args.r.now in
-    let new = g.R.Read.rest c.read_items.new.r in
-    let within : n ≤ MAX = omega (arith, c.if-count.false) in
-    rw (passed_error c.from_residual-in_err-items.result e c.from_residual-in_err-items.ensures.1)
-    (from_stops (RejectsCounted is_form rejects MAX) (AreItems is_form) _ (split is_form (λ x. x.items.items))
-    n before middle after e old mid new c.in_ok-count.ensures.faults c.in_ok-count.ensures.ok
-    (stops_as (AreItems is_form n) (AreItems is_form n) (RejectsItem is_form rejects n) (RejectsCounted is_form rejects MAX n)
-    (λ xs bytes are. (xs, are)) (λ e bytes item. inr (within, item)) (only_item is_form rejects MAX n within)
-    middle after e mid new c.in_err-items.ensures.err))
+    let within : n ≤ g.row.MAX = omega (arith, c.if-count.false) in
+    rw (passed_error c.from_residual-in_err-items.result _ c.from_residual-in_err-items.ensures.1)
+    (from_stops (split g.T.Form.is_form (λ x. x.items.items)) n c.in_ok-count.ensures.faults c.in_ok-count.ensures.ok
+    (stops_as (λ xs bytes are. (xs, are)) (λ e bytes item. inr (within, item))
+    (only_item g.T.Form.is_form g.T.Form.rejects g.row.MAX n within) c.in_err-items.ensures.err))
 
 pub returns-clause-ok : goal.returns-clause-ok
 returns-clause-ok g c =
-    let n = c.in_ok-count.ensures.ok in
-    let list = c.in_ok-items.items in
-    then_read (IsVarint (length list.items)) (AreParts g.T.Form.is_form list.items) _
-    (n.0, subst (λ (k : ℕ). IsVarint k n.0) (sym c.in_ok-items.ensures.count ∙ list.ok.0) n.1, n.2)
-    c.in_ok-items.ensures.ok
+    let count = sym c.in_ok-items.items.ok.0 ∙ c.in_ok-items.ensures.count in
+    then_read _ (number_is _ count c.in_ok-count.ensures.ok) c.in_ok-items.ensures.ok

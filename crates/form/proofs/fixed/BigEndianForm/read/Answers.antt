@@ -1,61 +1,57 @@
--- Bytes of a fixed number are decided only when all are there: `read_exact` returns them or shows that fewer were left.
-use Rattle.std.proofs.Common.{◌≡◌, ◌<◌, ◌≤◌, ◌-◌, ◌+◌, ◌^◌, length, inr, refl, sym, ap, ◌∙◌, arith, rules}
-use Rattle.std.specs.Prelude.{take, drop}
-use Rattle.std.specs.Int.{bytes_high_first}
+-- `read_exact` fills the last N of 8 bytes, whose number has no other bytes; or it shows that fewer than N were left. No value has
+-- size 0 or more than 8.
+use Rattle.std.proofs.Common.{◌≡◌, ◌<◌, ◌≤◌, ◌-◌, ◌%◌, ◌^◌, ℕ, List, [], length, inr, refl, sym, ap, ◌∙◌, append-nil, arith, rules}
+use Rattle.std.specs.Prelude.{take, drop, replicate}
+use Rattle.std.specs.Int.{bytes_high_first, from_be_bytes, to_be_bytes, w64}
+use Rattle.std.proofs.Math.Nat.{mod-lt, one-le-pow}
 use Rattle.std.proofs.lemmas.List.{length-drop, length-take-le}
-use Rattle.multihash.specs.Refusal.{of_io}
+use Rattle.std.proofs.lemmas.Nat.{from_be_bytes-to_be_bytes_8}
+use Rattle.std.proofs.lemmas.Slice.{between-put_mid}
+use borrow.Rule.Slice.PartMut.{put_mid}
+use Rattle.byteorder.specs.Endian.{big_from}
+use Rattle.byteorder.specs.Numbers.{big_from-bytes, length-bytes_high_first}
+use Rattle.byteorder.proofs.Bytes.{between-bytes_high_first, from_be_bytes-put_mid8}
 use Rattle.multihash.proofs.OutcomeLemmas.{passed_error}
-use Rattle.form.specs.declared.fixed.BigEndian.{BigEndian}
-use Rattle.form.specs.declared.error.FormError.TheVariants.{Failed}
 use Rattle.form.proofs.FormLemmas.{sized_stops, no_value_stops}
-use Rattle.form.specs.Laws.Fixed.{high_length}
-use Rattle.form.proofs.FixedLemmas.{high_read, zeros}
 use Rattle.form.proofs.fixed.BigEndianForm.read.Goals as goal
+
+abbrev zeros : List ℕ
+zeros = replicate 8 0
+
+filled : (N n : ℕ) (buf : List ℕ) → N ≤ 8 → n < 2 ^ 64 → length buf ≡ N → to_be_bytes w64 n ≡ put_mid (8 - N) (8 - (8 - N)) zeros buf
+    → (buf ≡ bytes_high_first N n) × (n < 256 ^ N)
+filled N n buf fits below long whole =
+    let part = between-put_mid (8 - N) (8 - (8 - N)) zeros buf 8 (omega arith) (omega (arith, fits, long)) in
+    let is : buf ≡ bytes_high_first N n =
+    sym part ∙ ap (λ (l : List ℕ). take (8 - (8 - N)) (drop (8 - N) l)) (sym whole) ∙ between-bytes_high_first 8 N n fits in
+    let value : n ≡ n % 256 ^ N =
+    sym (from_be_bytes-to_be_bytes_8 n below) ∙ ap (from_be_bytes w64) whole ∙ from_be_bytes-put_mid8 buf N fits long
+    ∙ ap (big_from 0 N) (is ∙ sym (append-nil (bytes_high_first N n))) ∙ big_from-bytes N n [] in
+    (is, omega (arith, value, mod-lt n {m = 256 ^ N} (omega (arith, one-le-pow N 256 (omega arith)))))
 
 pub returns-then-this-eq0-clause-err : goal.returns-then-this-eq0-clause-err
 returns-then-this-eq0-clause-err g c =
-    let r = c.args.r.now in
-    no_value_stops (λ (x : BigEndian g.row.N) bytes. bytes ≡ bytes_high_first g.row.N x.value)
-    (g.R.Read.failures r) c.into.result (g.R.Read.rest r) (λ x bytes is. omega (arith, x.some, x.fits, c.then-this-eq0.either))
+    no_value_stops (λ x bytes is. omega (arith, x.some, x.fits, c.then-this-eq0.either))
     (_, c.into.ensures, inr (c.unexpected_eof.result, refl, c.unexpected_eof.ensures))
 
 pub returns-in_err-read_exact-clause-err : goal.returns-in_err-read_exact-clause-err
 returns-in_err-read_exact-clause-err g c =
     let met = c.in_err-read_exact.ensures.laws in
-    let e = c.in_err-read_exact.field-0.0 in
-    let r = c.args.r.now in
-    let left = c.read_exact.new.self in
     let at = 8 - g.row.N in
-    let fits : g.row.N ≤ 8 = omega (arith, c.if-this-gt8.false) in
     let part : 8 - at ≤ length (drop at zeros) = omega (arith, length-drop at zeros) in
-    let long : length (take (8 - at) (drop at zeros)) ≡ g.row.N = omega (arith, fits, length-take-le (8 - at) (drop at zeros) part) in
-    rw (passed_error c.from_residual.result (Failed (of_io e)) c.from_residual.ensures.1)
-    (sized_stops (λ (x : BigEndian g.row.N) bytes. bytes ≡ bytes_high_first g.row.N x.value) (length (take (8 - at) (drop at zeros)))
-    (g.R.Read.failures r) (g.R.Read.failures left) e (g.R.Read.rest r) (g.R.Read.rest left)
-    (λ x bytes is. ap length is ∙ high_length g.row.N x.value ∙ sym long) met.faults met.eof met.err)
+    let long : length (take (8 - at) (drop at zeros)) ≡ g.row.N =
+    omega (arith, c.if-this-gt8.false, length-take-le (8 - at) (drop at zeros) part) in
+    rw (passed_error c.from_residual.result _ c.from_residual.ensures.1)
+    (sized_stops (λ x bytes is. ap length is ∙ length-bytes_high_first g.row.N x.value ∙ sym long) met.faults met.eof met.err)
 
 pub invariant_of-result : goal.invariant_of-result
 invariant_of-result g c =
-    let N = g.row.N in
-    let n = c.number_of_high.result in
-    let fits : N ≤ 8 = omega (arith, c.if-this-gt8.false) in
-    let k = 8 - (8 - N) in
-    let same : k ≡ N = omega (arith, fits) in
-    let whole : (8 - N) + N ≡ 8 = omega (arith, fits) in
-    let long : length c.read_exact.new.buf ≡ N = search rules in
-    let below : n < 2 ^ 64 = search rules in
-    let read = high_read N k n c.read_exact.new.buf fits below long same (8 - N) whole c.number_of_high.ensures in
+    let fits : g.row.N ≤ 8 = omega (arith, c.if-this-gt8.false) in
+    let read = filled g.row.N c.number_of_high.result c.read_exact.new.buf fits (search rules) (search rules) c.number_of_high.ensures in
     record { some = omega (arith, c.if-this-eq0.false); fits = fits; in_range = read.1 }
 
 pub returns-clause-ok : goal.returns-clause-ok
 returns-clause-ok g c =
-    let N = g.row.N in
-    let n = c.number_of_high.result in
-    let fits : N ≤ 8 = omega (arith, c.if-this-gt8.false) in
-    let k = 8 - (8 - N) in
-    let same : k ≡ N = omega (arith, fits) in
-    let whole : (8 - N) + N ≡ 8 = omega (arith, fits) in
-    let long : length c.read_exact.new.buf ≡ N = search rules in
-    let below : n < 2 ^ 64 = search rules in
-    let read = high_read N k n c.read_exact.new.buf fits below long same (8 - N) whole c.number_of_high.ensures in
+    let fits : g.row.N ≤ 8 = omega (arith, c.if-this-gt8.false) in
+    let read = filled g.row.N c.number_of_high.result c.read_exact.new.buf fits (search rules) (search rules) c.number_of_high.ensures in
     (_, read.0, c.in_ok-read_exact.ensures.laws.consumes)

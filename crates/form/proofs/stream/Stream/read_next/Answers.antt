@@ -2,7 +2,7 @@
 use Rattle.std.proofs.Common.{ap, inl, inr, length, length-append, sym, subst, ◌∙◌, arith}
 use Rattle.std.specs.Io.KnownBytes.{IsAtEnd}
 use Rattle.multihash.proofs.OutcomeLemmas.{passed_error}
-use Rattle.form.proofs.StopLemmas.{nothing_stops, stops_later}
+use Rattle.form.proofs.StopLemmas.{nothing_stops}
 use Rattle.form.proofs.WholeLemmas.{if_passed}
 use Rattle.form.proofs.stream.Stream.read_next.Goals as goal
 
@@ -32,12 +32,6 @@ returns-in_err-is_at_end-clause-err g c =
     let met = c.in_err-is_at_end.ensures in
     rw (passed_error c.from_residual.result _ c.from_residual.ensures.1)
     (elim met.faults [
-      | inl own ↦ nothing_stops g.T.Form.is_form g.T.Form.rejects g.met.T.Form.some g.met.T.Form.rejects_some _ own.0 met.kept
+      | inl own ↦ nothing_stops g.met.T.Form.some g.met.T.Form.rejects_some own.0 met.kept
       | inr other ↦ absurd other.1
     ])
-
-pub returns-in_err-value-clause-err : goal.returns-in_err-value-clause-err
-returns-in_err-value-clause-err g c =
-    let met = c.in_ok-is_at_end.ensures in
-    rw (passed_error c.from_residual-in_err-value.result _ c.from_residual-in_err-value.ensures.1)
-    (stops_later g.T.Form.is_form g.T.Form.rejects _ _ met.faults met.kept c.in_err-value.ensures.err)

@@ -29,7 +29,7 @@ returns-in_err-value-clause-err g c =
       following = _;
       reads = before.reads;
       fewer = omega (arith, before.count, c.loop-test.true);
-      failed = stops_later g.T.Form.is_form g.T.Form.rejects _ _ before.unfailed refl c.in_err-value.ensures.err;
+      failed = stops_later before.unfailed refl c.in_err-value.ensures.err;
     })
 
 pub returns-in_err-value-clause-faults : goal.returns-in_err-value-clause-faults
@@ -57,7 +57,7 @@ returns-in_err-push-clause-err g c =
       following = rest_from c.loop.self.ahead (g.R.Read.rest c.loop.self.inner);
       reads = record { values = before.reads.values; appended = kept ∙ before.reads.appended; consumed = before.reads.consumed };
       fewer = omega (arith, before.count, c.loop-test.true);
-      failed = inl memory;
+      failed = record { why = inl memory };
     })
 
 pub loop-preserved : goal.loop-preserved
@@ -88,9 +88,9 @@ returns-clause-ok g c = record {
 }
 
 -- the values so far, compared with those that come next
-module _ {A : Type 0} (IsForm : A → List ℕ → Type 0) (Same : A → A → Type 0)
+module _ {A : Type 0} {IsForm : A → List ℕ → Type 0} {Same : A → A → Type 0}
     (unique : (x y : A) (a b r s : List ℕ) → IsForm x a → IsForm y b → a ++ r ≡ b ++ s → Same x y × (r ≡ s))
-    (some : (x : A) (bytes : List ℕ) → IsForm x bytes → 0 < length bytes) (before after : List A) (old mid : Option (List ℕ))
+    (some : (x : A) (bytes : List ℕ) → IsForm x bytes → 0 < length bytes) {before after : List A} {old mid : Option (List ℕ)}
     (reads : AppendsValues IsForm before after old mid) (xs : List A) (bytes more : List ℕ) (are : AreParts IsForm xs bytes)
     (at : old ≡ Some (bytes ++ more)) (n : ℕ) (number : (length xs ≡ n) ⊎ ((length xs < n) × (more ≡ []))) where
   -- fewer than n were read: they are all, at the end of the input, or another one comes next
@@ -99,7 +99,7 @@ module _ {A : Type 0} (IsForm : A → List ℕ → Type 0) (Same : A → A → T
   fewer_found few =
       let (c, is_c, consumes) = reads.consumed in
       let (left, is_left, cut) = Consumes-known (bytes ++ more) c mid (subst (λ (o : Option (List ℕ)). Consumes o c mid) at consumes) in
-      elim (parts_compared IsForm Same unique some reads.values xs c left bytes more is_c are (sym cut)) [
+      elim (parts_compared unique some reads.values xs c left bytes more is_c are (sym cut)) [
         | inl (same, rest, long) ↦ elim number [
           | inl all ↦ absurd (omega (arith, few, all, long))
           | inr (_, none) ↦ inl ((reads.values, reads.appended, same), is_left ∙ ap Some rest, none)
@@ -116,7 +116,7 @@ module _ {A : Type 0} (IsForm : A → List ℕ → Type 0) (Same : A → A → T
   all_found many =
       let (c, is_c, consumes) = reads.consumed in
       let (left, is_left, cut) = Consumes-known (bytes ++ more) c mid (subst (λ (o : Option (List ℕ)). Consumes o c mid) at consumes) in
-      elim (parts_compared IsForm Same unique some reads.values xs c left bytes more is_c are (sym cut)) [
+      elim (parts_compared unique some reads.values xs c left bytes more is_c are (sym cut)) [
         | inl (same, rest, _) ↦ ((reads.values, reads.appended, same), is_left ∙ ap Some rest)
         | inr (inl (few, _)) ↦ elim number [
           | inl all ↦ absurd (omega (arith, few, all, many))
@@ -132,10 +132,8 @@ pub returns-in_err-value-clause-found : goal.returns-in_err-value-clause-found
 returns-in_err-value-clause-found g c xs bytes more are at number same =
     let before = c.loop.invariant in
     let unfailed = same ∙ sym before.unfailed in
-    let old = rest_from c.args.self.now.ahead (g.R.Read.rest c.args.self.now.inner) in
     rw (passed_error c.from_residual.result _ c.from_residual.ensures.1)
-    (elim (fewer_found g.T.Form.is_form g.T.Form.same g.met.T.Form.unique g.met.T.Form.some
-    c.args.list.now.items c.loop.list.items old _ before.reads xs bytes more are at c.args.n number
+    (elim (fewer_found g.met.T.Form.unique g.met.T.Form.some before.reads xs bytes more are at c.args.n number
     (omega (arith, before.count, c.loop-test.true))) [
       | inl (_, ended, none) ↦ absurd (c.in_err-value.ensures.end.always unfailed (ended ∙ ap Some none))
       | inr (left, is_left, (x, part, rest, is, cut)) ↦ c.in_err-value.ensures.found x part rest is (is_left ∙ ap Some cut) unfailed
@@ -143,11 +141,9 @@ returns-in_err-value-clause-found g c xs bytes more are at number same =
 
 pub returns-in-None-clause-found : goal.returns-in-None-clause-found
 returns-in-None-clause-found g c xs bytes more are at number same =
-    let old = rest_from c.args.self.now.ahead (g.R.Read.rest c.args.self.now.inner) in
     let before = c.loop.invariant in
     let ended = rw c.in-None.is at c.in_ok-value.ensures.end.none in
-    elim (fewer_found g.T.Form.is_form g.T.Form.same g.met.T.Form.unique g.met.T.Form.some
-    c.args.list.now.items c.loop.list.items old _ before.reads xs bytes more are at c.args.n number
+    elim (fewer_found g.met.T.Form.unique g.met.T.Form.some before.reads xs bytes more are at c.args.n number
     (omega (arith, before.count, c.loop-test.true))) [
       | inl (appends, rest, _) ↦ (appends, ended.1 ∙ rest)
       | inr (left, is_left, (x, part, rest, is, cut)) ↦ absurd (omega (
@@ -159,13 +155,7 @@ returns-in-None-clause-found g c xs bytes more are at number same =
       ))
     ]
 
-pub returns-in_err-push-clause-found : goal.returns-in_err-push-clause-found
-returns-in_err-push-clause-found g c xs bytes more are at number same =
-    if_given (IsFailed IsOutOfMemory) _ _ c.from_residual-in_err-push.result c.from_residual-in_err-push.ensures.1 (λ e memory. memory)
-
 pub returns-clause-found : goal.returns-clause-found
 returns-clause-found g c xs bytes more are at number same =
-    let old = rest_from c.args.self.now.ahead (g.R.Read.rest c.args.self.now.inner) in
-    all_found g.T.Form.is_form g.T.Form.same g.met.T.Form.unique g.met.T.Form.some
-    c.args.list.now.items c.loop.list.items old _ c.loop.invariant.reads xs bytes more are at c.args.n number
+    all_found g.met.T.Form.unique g.met.T.Form.some c.loop.invariant.reads xs bytes more are at c.args.n number
     (omega (arith, c.loop.invariant.count, c.loop-test.false, c.loop.auto.counter-end))
