@@ -2,6 +2,7 @@
 use Rattle.std.proofs.Common.{◌≡◌, ℕ, ◌<◌, ◌⊎◌, inl, inr, List, [], ◌∷◌, ◌++◌, length, length-append, append_assoc}
 use Rattle.std.proofs.Common.{refl, sym, ap, ◌∙◌, arith}
 use Rattle.multihash.specs.Streams.{AreParts}
+use Rattle.form.specs.Laws.Pairs.{Determine}
 use Rattle.form.specs.Form.{AreSame}
 
 -- the part of some item comes next
@@ -11,7 +12,7 @@ Next {A = A} IsPart left = (x : A) × (part : List ℕ) × (rest : List ℕ) × 
 -- Items at the start of one input: they are the same, and so is what follows them; or there are more of the others, and one
 -- comes next; or of these, and then something follows the others
 module _ {A : Type 0} {IsPart : A → List ℕ → Type 0} {Same : A → A → Type 0}
-    (unique : (x y : A) (a b r s : List ℕ) → IsPart x a → IsPart y b → a ++ r ≡ b ++ s → Same x y × (r ≡ s))
+    (unique : (x y : A) → Determine (IsPart x) (IsPart y) (Same x y))
     (some : (x : A) (bytes : List ℕ) → IsPart x bytes → 0 < length bytes) where
   pub parts_compared : (found xs : List A) (a left bytes more : List ℕ) → AreParts IsPart found a → AreParts IsPart xs bytes
       → a ++ left ≡ bytes ++ more

@@ -4,6 +4,7 @@ use Rattle.std.proofs.Common.{Some, refl, sym, ap, subst, ◌∙◌, arith}
 use Rattle.multihash.specs.Bytes.{IsStrictPrefix}
 use Rattle.multihash.specs.Streams.{AreParts}
 use Rattle.multihash.specs.Refusal.{IsOutOfMemory}
+use Rattle.form.specs.Laws.Pairs.{Determine, Exclude}
 use Rattle.form.specs.FormError.{IsFailed, IsTruncated}
 use Rattle.form.specs.Located.{IsAt, IsFirstError}
 use Rattle.form.specs.Rejecting.{IsUndecided, ReadStops}
@@ -13,10 +14,10 @@ use Rattle.form.proofs.CountedLemmas.{Next, parts_compared}
 use Rattle.form.proofs.WholeLemmas.{known_is, longer, no_bytes, stopped}
 
 module _ {A : Type 0} {IsForm : A → List ℕ → Type 0} {Rejects : FormError → List ℕ → Type 0} {Same : A → A → Type 0}
-    (unique : (x y : A) (a b r s : List ℕ) → IsForm x a → IsForm y b → a ++ r ≡ b ++ s → Same x y × (r ≡ s))
+    (unique : (x y : A) → Determine (IsForm x) (IsForm y) (Same x y))
     (some : (x : A) (bytes : List ℕ) → IsForm x bytes → 0 < length bytes)
-    (not_both : (x : A) (e : FormError) (a b r s : List ℕ) → IsForm x a → Rejects e b → a ++ r ≡ b ++ s → ⊥)
-    (once : (e f : FormError) (a b r s : List ℕ) → Rejects e a → Rejects f b → a ++ r ≡ b ++ s → (e ≡ f) × (r ≡ s))
+    (not_both : (x : A) (e : FormError) → Exclude (IsForm x) (Rejects e))
+    (once : (e f : FormError) → Determine (Rejects e) (Rejects f) (e ≡ f))
     (rejects_some : (e : FormError) (bytes : List ℕ) → Rejects e bytes → 0 < length bytes) where
   -- values up to where no value comes next: as many, with the same rest
   same_place : (xs ys : List A) (a b r s : List ℕ) → AreParts IsForm xs a → AreParts IsForm ys b → a ++ r ≡ b ++ s

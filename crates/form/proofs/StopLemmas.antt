@@ -8,6 +8,7 @@ use Rattle.multihash.specs.Streams.{AreParts}
 use Rattle.multihash.specs.Reading.{Consumes}
 use Rattle.multihash.specs.Consuming.{ConsumesSome}
 use Rattle.multihash.proofs.ReadingLemmas.{Consumes-known, Consumes-none, Consumes-concatenated, prepend_known-append}
+use Rattle.form.specs.Laws.Pairs.{Determine, Exclude}
 use Rattle.form.specs.Form.{Then}
 use Rattle.form.specs.Laws.Parts.{number_unique}
 use Rattle.form.specs.Laws.Rejected.{number_not_both}
@@ -90,8 +91,8 @@ module _ {A B C : Type 0} {IsFirst : A → List ℕ → Type 0} {RejectsFirst : 
   }
 
   module _ {Same : A → A → Type 0}
-      (unique : (x y : A) (a b r s : List ℕ) → IsFirst x a → IsFirst y b → a ++ r ≡ b ++ s → Same x y × (r ≡ s))
-      (not_both : (x : A) (e : FormError) (a b r s : List ℕ) → IsFirst x a → RejectsFirst e b → a ++ r ≡ b ++ s → ⊥)
+      (unique : (x y : A) → Determine (IsFirst x) (IsFirst y) (Same x y))
+      (not_both : (x : A) (e : FormError) → Exclude (IsFirst x) (RejectsFirst e))
       (respects : (x y : A) (bytes : List ℕ) → Same x y → IsUndecided (IsNext x) (RejectsNext x) bytes
       → IsUndecided (IsNext y) (RejectsNext y) bytes) where
     next_undecided : (x : A) (c : List ℕ) → IsFirst x c → (bytes : List ℕ) → IsUndecided (IsNext x) (RejectsNext x) bytes
@@ -143,8 +144,8 @@ items_split IsPart n (x ∷ xs) bytes (long, (a, b, is_a, are_b, cut)) =
 
 -- some items were read, and the next one was not
 module _ {A : Type 0} {IsPart : A → List ℕ → Type 0} {Rejects : FormError → List ℕ → Type 0} {Same : A → A → Type 0}
-    (unique : (x y : A) (a b r s : List ℕ) → IsPart x a → IsPart y b → a ++ r ≡ b ++ s → Same x y × (r ≡ s))
-    (not_both : (x : A) (e : FormError) (a b r s : List ℕ) → IsPart x a → Rejects e b → a ++ r ≡ b ++ s → ⊥) where
+    (unique : (x y : A) → Determine (IsPart x) (IsPart y) (Same x y))
+    (not_both : (x : A) (e : FormError) → Exclude (IsPart x) (Rejects e)) where
   pub items_stop : {before middle after : ℕ} {e : FormError} {old mid new : Option (List ℕ)} (found : List A) (n : ℕ) (c : List ℕ)
       → AreParts IsPart found c → length found < n → middle ≡ before → Consumes old c mid
       → ReadStops IsPart Rejects middle after e mid new → ReadStops (AreItems IsPart n) (RejectsItem IsPart Rejects n) before after e old new

@@ -8,6 +8,7 @@ use Rattle.multihash.specs.Reading.{Consumes, CountsReaderFailures}
 use Rattle.multihash.specs.Consuming.{ConsumesSome}
 use Rattle.multihash.proofs.ReadingLemmas.{Consumes-known}
 use Rattle.multihash.specs.Refusal.{IsOutOfMemory}
+use Rattle.form.specs.Laws.Pairs.{Determine, Exclude}
 use Rattle.form.specs.FormError.{IsFailed, IsTruncated}
 use Rattle.form.specs.Rejecting.{IsUndecided, StopsAt, ReadStops, IsWholeError}
 use Rattle.form.specs.declared.error.FormError.{FormError}
@@ -45,8 +46,8 @@ stopped {IsForm = IsForm} {Rejects = Rejects} {before = before} {after = after} 
 ]
 
 module _ {A : Type 0} {IsForm : A → List ℕ → Type 0} {Rejects : FormError → List ℕ → Type 0} {Same : A → A → Type 0}
-    (unique : (x y : A) (a b r s : List ℕ) → IsForm x a → IsForm y b → a ++ r ≡ b ++ s → Same x y × (r ≡ s))
-    (not_both : (x : A) (e : FormError) (a b r s : List ℕ) → IsForm x a → Rejects e b → a ++ r ≡ b ++ s → ⊥)
+    (unique : (x y : A) → Determine (IsForm x) (IsForm y) (Same x y))
+    (not_both : (x : A) (e : FormError) → Exclude (IsForm x) (Rejects e))
     {before after : ℕ} (same : after ≡ before) {old : Option (List ℕ)} (new : Option (List ℕ)) where
   -- the clause `found`
   pub form_found : (r : Result A FormError) → IfOk r (λ x. ConsumesSome (IsForm x) old new)
@@ -78,7 +79,7 @@ module _ {A : Type 0} {IsForm : A → List ℕ → Type 0} {Rejects : FormError 
   ]
 
   -- the clause `rejected`
-  pub form_rejected : ((e f : FormError) (a b r s : List ℕ) → Rejects e a → Rejects f b → a ++ r ≡ b ++ s → (e ≡ f) × (r ≡ s))
+  pub form_rejected : ((e f : FormError) → Determine (Rejects e) (Rejects f) (e ≡ f))
       → (r : Result A FormError) → IfOk r (λ x. ConsumesSome (IsForm x) old new)
       → IfErr r (λ e. ReadStops IsForm Rejects before after e old new) → (e : FormError) (front more : List ℕ) → Rejects e front
       → old ≡ Some (front ++ more) → IsErrAnd r (λ f. ((f ≡ e) × (new ≡ Some more)) ⊎ IsFailed IsOutOfMemory f)

@@ -4,4 +4,3 @@ pub mod Cases
 pub mod Pairs
 pub mod Parts
 pub mod Rejected
-pub mod Truncated

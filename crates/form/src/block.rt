@@ -51,8 +51,7 @@ impl<const MAX: usize> Form for Block<MAX> {
     ghost use Rattle.form.specs.Form.{IsBlock};
     ghost use Rattle.form.specs.Rejecting.{RejectsNumberThen, RejectsTooLong};
     ghost use Rattle.form.specs.Laws.Parts.{block_exists, block_unique, block_one, block_some};
-    ghost use Rattle.form.specs.Laws.Rejected.{block_not_both, block_rejects_unique, from_rejects_some};
-    ghost use Rattle.form.specs.Laws.Truncated.{block_not_truncated};
+    ghost use Rattle.form.specs.Laws.Rejected.{block_not_both, block_rejects_unique, from_some, block_not_truncated};
 
     ghost is_form = { λ x. IsBlock x.bytes.items };
 
@@ -86,7 +85,7 @@ impl<const MAX: usize> Form for Block<MAX> {
 
     ghost rejects_unique = { block_rejects_unique MAX };
 
-    ghost rejects_some = { from_rejects_some (RejectsTooLong MAX) };
+    ghost rejects_some = { λ e. from_some e };
 
     ghost not_truncated = { block_not_truncated MAX };
 

@@ -23,8 +23,7 @@ pub struct Both<A, B> {
 impl<A: Form + Drop, B: Form> Form for Both<A, B> {
     ghost use Rattle.form.specs.Laws.Pairs.{then_exists, then_unique, then_one, then_some};
     ghost use Rattle.form.specs.Rejecting.{RejectsInTurn};
-    ghost use Rattle.form.specs.Laws.Rejected.{turn_not_both, turn_unique, turn_rejects_some};
-    ghost use Rattle.form.specs.Laws.Truncated.{turn_not_truncated};
+    ghost use Rattle.form.specs.Laws.Rejected.{turn_not_both, turn_unique, turn_some, turn_has};
 
     ghost is_form = { λ x. Then (A.is_form x.first) (B.is_form x.second) };
 
@@ -46,18 +45,16 @@ impl<A: Form + Drop, B: Form> Form for Both<A, B> {
 
     ghost exists = { λ x. then_exists (A.exists x.first) (B.exists x.second) };
 
-    ghost unique = { λ x y. then_unique _ _ (A.unique x.first y.first) (λ _. B.unique x.second y.second) };
+    ghost unique = { λ x y. then_unique (A.unique x.first y.first) (λ _. B.unique x.second y.second) };
 
-    ghost not_both = { λ x e. turn_not_both A.is_form A.rejects (λ _. B.rejects) A.same A.unique A.not_both
-        (B.is_form x.second) x.first e (λ _ _. B.not_both x.second e) };
+    ghost not_both = { λ x e. turn_not_both A.unique (λ y. A.not_both y e) x.first (λ _ _. B.not_both x.second e) };
 
-    ghost rejects_unique = { λ e f. turn_unique A.is_form A.rejects (λ _. B.rejects) A.same A.unique A.not_both e f
-        (A.rejects_unique e f) (λ _ _ _. B.rejects_unique e f) };
+    ghost rejects_unique = { λ e f. turn_unique A.unique (λ x. A.not_both x e) (λ x. A.not_both x f) (A.rejects_unique e f)
+        (λ _ _ _. B.rejects_unique e f) };
 
-    ghost rejects_some = { turn_rejects_some A.is_form A.rejects (λ _. B.rejects) A.same A.unique A.not_both A.some A.rejects_some };
+    ghost rejects_some = { λ e. turn_some A.some (A.rejects_some e) };
 
-    ghost not_truncated = { λ e. turn_not_truncated A.is_form A.rejects (λ _. B.rejects) e (A.not_truncated e)
-        (λ _. B.not_truncated e) };
+    ghost not_truncated = { λ e. turn_has (A.not_truncated e) (λ _. B.not_truncated e) };
 
     ghost one = { λ x y a b same. then_one a b (λ c d. A.one x.first y.first c d same.0)
         (λ c d. B.one x.second y.second c d same.1) };

@@ -36,8 +36,7 @@ impl<A: Form, const M: u64, C: Cases> Cases for Case<A, M, C> {
     ghost use Rattle.std.specs.Prelude.{◌≡◌, ◌⊎◌};
     ghost use Rattle.form.specs.Rejecting.{RejectsCase};
     ghost use Rattle.form.specs.Case.{case_tag, IsCaseValue, AreSameCase};
-    ghost use Rattle.form.specs.Laws.Cases.{case_in_range, case_same_tag, case_exists, case_unique, case_not_both, case_rejects_unique, case_one};
-    ghost use Rattle.form.specs.Laws.Truncated.{case_not_truncated};
+    ghost use Rattle.form.specs.Laws.Cases.{case_in_range, case_same_tag, case_exists, case_unique, case_not_both, case_rejects_unique, case_not_truncated, case_one};
 
     ghost tag_of = { case_tag C.tag_of };
 
@@ -74,28 +73,26 @@ impl<A: Form, const M: u64, C: Cases> Cases for Case<A, M, C> {
 
     ghost in_range = { case_in_range C.tag_of C.in_range };
 
-    ghost same_tag = { case_same_tag C.tag_of A.same C.same C.same_tag };
+    ghost same_tag = { case_same_tag A.same C.same C.tag_of C.same_tag };
 
-    ghost exists = { case_exists A.is_form C.is_value A.exists C.exists };
+    ghost exists = { case_exists A.exists C.exists };
 
-    ghost unique = { case_unique A.is_form C.is_value C.tag_of (λ y. y.other) A.same C.same A.unique C.unique };
+    ghost unique = { case_unique C.tag_of (λ y. y.other) A.unique C.unique };
 
-    ghost not_both = { case_not_both A.is_form C.is_value C.tag_of (λ y. y.other) A.rejects C.rejects
-        A.not_both C.not_both };
+    ghost not_both = { case_not_both C.tag_of (λ y. y.other) A.rejects C.rejects A.not_both C.not_both };
 
     ghost rejects_unique = { case_rejects_unique M A.rejects C.rejects A.rejects_unique C.rejects_unique };
 
     ghost not_truncated = { case_not_truncated M A.rejects C.rejects A.not_truncated C.not_truncated };
 
-    ghost one = { case_one A.is_form C.is_value A.same C.same A.one C.one };
+    ghost one = { case_one A.one C.one };
 }
 
 impl<A: Form, const M: u64> Cases for Tagged<A, M> {
     ghost use Rattle.std.specs.Prelude.{◌≡◌, ◌⊎◌, refl};
     ghost use Rattle.form.specs.declared.error.FormError.TheVariants.{OtherTag};
     ghost use Rattle.form.specs.Rejecting.{RejectsCase, RejectsNoCase};
-    ghost use Rattle.form.specs.Laws.Cases.{last_not_both, case_rejects_unique, no_case_rejects_unique};
-    ghost use Rattle.form.specs.Laws.Truncated.{case_not_truncated, no_case_not_truncated};
+    ghost use Rattle.form.specs.Laws.Cases.{last_not_both, case_rejects_unique, no_case_rejects_unique, case_not_truncated, no_case_not_truncated};
 
     ghost tag_of = { λ _. M };
 
@@ -131,7 +128,7 @@ impl<A: Form, const M: u64> Cases for Tagged<A, M> {
 
     ghost unique = { λ x y _. A.unique x.value y.value };
 
-    ghost not_both = { λ x e. last_not_both M (A.is_form x.value) A.rejects e (A.not_both x.value e) };
+    ghost not_both = { λ x e. last_not_both M A.rejects e (A.not_both x.value e) };
 
     ghost rejects_unique = { case_rejects_unique M A.rejects RejectsNoCase A.rejects_unique no_case_rejects_unique };
 

@@ -26,8 +26,7 @@ impl<C: Cases> Form for Choice<C> {
     ghost use Rattle.form.specs.Rejecting.{RejectsNumberThen};
     ghost use Rattle.form.specs.Laws.Pairs.{then_exists, then_some};
     ghost use Rattle.form.specs.Laws.Parts.{number_exists};
-    ghost use Rattle.form.specs.Laws.Rejected.{from_not_both, from_unique, from_rejects_some};
-    ghost use Rattle.form.specs.Laws.Truncated.{from_not_truncated};
+    ghost use Rattle.form.specs.Laws.Rejected.{from_not_both, from_unique, from_some, from_not_truncated};
     ghost use Rattle.form.specs.Laws.Cases.{choice_unique, choice_one};
 
     ghost is_form = { λ x. Then (IsVarint (C.tag_of x.case)) (C.is_value x.case) };
@@ -51,18 +50,17 @@ impl<C: Cases> Form for Choice<C> {
 
     ghost exists = { λ x. then_exists (number_exists (C.tag_of x.case) (C.in_range x.case)) (C.exists x.case) };
 
-    ghost unique = { λ x y. choice_unique C.tag_of C.is_value C.same C.unique x.case y.case };
+    ghost unique = { λ x y. choice_unique C.tag_of C.unique x.case y.case };
 
-    ghost not_both = { λ x e. from_not_both C.rejects (C.is_value x.case) (C.tag_of x.case) e
-        (C.not_both x.case e) };
+    ghost not_both = { λ x e. from_not_both e (C.tag_of x.case) (C.not_both x.case e) };
 
-    ghost rejects_unique = { λ e f. from_unique C.rejects e f (λ n. C.rejects_unique n e f) };
+    ghost rejects_unique = { λ e f. from_unique e f (λ n. C.rejects_unique n e f) };
 
-    ghost rejects_some = { from_rejects_some C.rejects };
+    ghost rejects_some = { λ e. from_some e };
 
-    ghost not_truncated = { λ e. from_not_truncated C.rejects e (λ n. C.not_truncated n e) };
+    ghost not_truncated = { λ e. from_not_truncated e (λ n. C.not_truncated n e) };
 
-    ghost one = { λ x y. choice_one C.tag_of C.is_value C.same C.same_tag C.one x.case y.case };
+    ghost one = { λ x y. choice_one C.tag_of C.same_tag C.one x.case y.case };
 
     ghost some = { λ x. then_some (varint_some (C.tag_of x.case)) };
 }

@@ -32,8 +32,7 @@ impl<T: Form + Drop, const MAX: usize> Form for Counted<T, MAX> {
     ghost use Rattle.multihash.specs.Refusal.{IsAnyVarintError};
     ghost use Rattle.form.specs.declared.error.FormError.TheVariants.{TooMany};
     ghost use Rattle.form.specs.Rejecting.{RejectsNumberThen, RejectsCounted};
-    ghost use Rattle.form.specs.Laws.Rejected.{counted_not_both, counted_rejects_unique, from_rejects_some};
-    ghost use Rattle.form.specs.Laws.Truncated.{counted_not_truncated};
+    ghost use Rattle.form.specs.Laws.Rejected.{counted_not_both, counted_rejects_unique, from_some, counted_not_truncated};
     ghost use Rattle.form.specs.Laws.Parts.{counted_exists, counted_unique, counted_one, counted_some};
 
     ghost is_form = { λ x. Then (IsVarint (length x.items.items)) (AreParts T.is_form x.items.items) };
@@ -59,21 +58,19 @@ impl<T: Form + Drop, const MAX: usize> Form for Counted<T, MAX> {
         Ok(Counted { items })
     }
 
-    ghost exists = { λ x. counted_exists T.is_form T.exists x.items.items (vec_len x.items) x.items.ok.0 x.in_range };
+    ghost exists = { λ x. counted_exists T.exists x.items.items (vec_len x.items) x.items.ok.0 x.in_range };
 
-    ghost unique = { λ x y. counted_unique T.is_form T.same T.unique x.items.items y.items.items };
+    ghost unique = { λ x y. counted_unique T.unique x.items.items y.items.items };
 
-    ghost not_both = { λ x. counted_not_both T.is_form T.rejects T.same T.unique T.not_both MAX
-        x.items.items (vec_len x.items) x.items.ok.0 x.within };
+    ghost not_both = { λ x. counted_not_both T.unique T.not_both MAX x.items.items (vec_len x.items) x.items.ok.0 x.within };
 
-    ghost rejects_unique = { counted_rejects_unique T.is_form T.rejects T.same T.unique T.not_both MAX
-        T.rejects_unique };
+    ghost rejects_unique = { counted_rejects_unique T.unique T.not_both MAX T.rejects_unique };
 
-    ghost rejects_some = { from_rejects_some (RejectsCounted T.is_form T.rejects MAX) };
+    ghost rejects_some = { λ e. from_some e };
 
-    ghost not_truncated = { counted_not_truncated T.is_form T.rejects T.not_truncated MAX };
+    ghost not_truncated = { counted_not_truncated T.is_form T.not_truncated MAX };
 
-    ghost one = { λ x y. counted_one T.is_form T.same T.one x.items.items y.items.items };
+    ghost one = { λ x y. counted_one T.one x.items.items y.items.items };
 
     ghost some = { λ x. counted_some T.is_form x.items.items };
 }

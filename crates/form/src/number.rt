@@ -36,8 +36,7 @@ impl Form for Number {
     ghost use Rattle.form.specs.FormError.{IsFailed};
     ghost use Rattle.form.specs.Rejecting.{RejectsNumber};
     ghost use Rattle.form.specs.Laws.Parts.{number_exists, number_unique, number_one, number_some};
-    ghost use Rattle.form.specs.Laws.Rejected.{number_not_both, number_rejects_unique, number_rejects_some};
-    ghost use Rattle.form.specs.Laws.Truncated.{number_not_truncated};
+    ghost use Rattle.form.specs.Laws.Rejected.{number_not_both, number_rejects_unique, number_rejects_some, number_not_truncated};
 
     ghost is_form = { λ x. IsVarint x.value };
 

@@ -23,8 +23,7 @@ impl<const N: u64> Form for Tag<N> {
     ghost use Rattle.form.specs.declared.error.FormError.TheVariants.{OtherTag};
     ghost use Rattle.form.specs.Rejecting.{RejectsNumberThen, RejectsOtherTag};
     ghost use Rattle.form.specs.Laws.Parts.{number_exists, tag_unique, tag_one, number_some};
-    ghost use Rattle.form.specs.Laws.Rejected.{tag_not_both, tag_rejects_unique, from_rejects_some};
-    ghost use Rattle.form.specs.Laws.Truncated.{tag_not_truncated};
+    ghost use Rattle.form.specs.Laws.Rejected.{tag_not_both, tag_rejects_unique, from_some, tag_not_truncated};
 
     ghost is_form = { λ _. IsVarint N };
 
@@ -57,7 +56,7 @@ impl<const N: u64> Form for Tag<N> {
 
     ghost rejects_unique = { tag_rejects_unique N };
 
-    ghost rejects_some = { from_rejects_some (RejectsOtherTag N) };
+    ghost rejects_some = { λ e. from_some e };
 
     ghost not_truncated = { tag_not_truncated N };
 

@@ -1,11 +1,11 @@
 -- The laws of each form: an encoding exists, is unique, is the only one of its value, and is not empty.
-use Rattle.std.proofs.Common.{◌≡◌, ℕ, ◌<◌, ◌^◌, List, [], ◌∷◌, ◌++◌, length, refl, sym, ap, ◌∙◌, append_assoc, subst, arith}
+use Rattle.std.proofs.Common.{◌≡◌, ℕ, ◌<◌, ◌^◌, List, [], ◌∷◌, ◌++◌, length, refl, sym, ap, ◌∙◌, subst, arith}
 use Rattle.std.specs.Int.{bytes_low_first, bytes_high_first}
 use Rattle.byteorder.specs.Endian.{big_from, little_from}
 use Rattle.byteorder.specs.Numbers.{big_number-reads_back, little_number-reads_back, length-bytes_high_first, length-bytes_low_first}
 use Rattle.multihash.specs.Streams.{AreParts}
 use Rattle.form.specs.Form.{Then, IsBlock, AreSame}
-use Rattle.form.specs.Laws.Pairs.{then_exists, then_unique, then_one, then_some}
+use Rattle.form.specs.Laws.Pairs.{Determine, then_exists, then_unique, next_unique, then_one, then_some}
 use Rattle.multihash.specs.Varint.{IsVarint, varint_limit}
 use Rattle.multihash.proofs.VarintLemmas.{varint_unique, varint_same, varint_some}
 use Rattle.multihash.proofs.VarintWriteLemmas.{varint_exists}
@@ -20,8 +20,7 @@ pub multihash_exists : {S : ℕ} (m : Fields S) → (bytes : List ℕ) × IsEnco
 multihash_exists m = (encoding_of (pair_of m), encoding_of_value m)
 
 -- two at the start of one input are the same
-pub multihash_unique : {S : ℕ} (m n : Fields S) (a b r s : List ℕ) → IsEncoding (pair_of m) a → IsEncoding (pair_of n) b
-    → a ++ r ≡ b ++ s → (pair_of m ≡ pair_of n) × (r ≡ s)
+pub multihash_unique : {S : ℕ} (m n : Fields S) → Determine (IsEncoding (pair_of m)) (IsEncoding (pair_of n)) (pair_of m ≡ pair_of n)
 multihash_unique m n a b r s x y cut =
     let t = encoding_unique (pair_of m) (pair_of n) a b r s x y cut in (t.0, t.2)
 
@@ -40,7 +39,7 @@ pub number_exists : (n : ℕ) → n < varint_limit → (bytes : List ℕ) × IsV
 number_exists = varint_exists
 
 -- two at the start of one input are equal
-pub number_unique : (m n : ℕ) (a b r s : List ℕ) → IsVarint m a → IsVarint n b → a ++ r ≡ b ++ s → (m ≡ n) × (r ≡ s)
+pub number_unique : (m n : ℕ) → Determine (IsVarint m) (IsVarint n) (m ≡ n)
 number_unique m n a b r s x y cut = let t = varint_unique m n a b r s x y cut in (t.0, t.2)
 
 -- and a number has one varint
@@ -52,7 +51,7 @@ pub number_some : (n : ℕ) (bytes : List ℕ) → IsVarint n bytes → 0 < leng
 number_some = varint_some
 
 -- a tag has only one value
-pub tag_unique : (n : ℕ) (a b r s : List ℕ) → IsVarint n a → IsVarint n b → a ++ r ≡ b ++ s → Unit {0} × (r ≡ s)
+pub tag_unique : (n : ℕ) → Determine (IsVarint n) (IsVarint n) (Unit {0})
 tag_unique n a b r s x y cut = (tt, (number_unique n n a b r s x y cut).1)
 
 -- and a tag has one varint
@@ -64,8 +63,7 @@ pub array_exists : (x : List ℕ) → (bytes : List ℕ) × (bytes ≡ x)
 array_exists x = (x, refl)
 
 -- two at the start of one input are equal
-pub array_unique : (n : ℕ) (x y : List ℕ) → length x ≡ n → length y ≡ n → (a b r s : List ℕ) → a ≡ x → b ≡ y
-    → a ++ r ≡ b ++ s → (x ≡ y) × (r ≡ s)
+pub array_unique : (n : ℕ) (x y : List ℕ) → length x ≡ n → length y ≡ n → Determine (λ a. a ≡ x) (λ b. b ≡ y) (x ≡ y)
 array_unique n x y long also a b r s is is_b cut =
     let t = same_cut a b r s (ap length is ∙ long ∙ sym also ∙ sym (ap length is_b)) cut in
     (sym is ∙ t.0 ∙ is_b, t.1)
@@ -79,16 +77,16 @@ pub array_some : (n : ℕ) (x : List ℕ) → length x ≡ n → 0 < n → (byte
 array_some n x long some bytes is = omega (arith, long, some, ap length is)
 
 -- two numbers of N bytes, the highest first, at the start of one input are equal
-pub high_unique : (N x y : ℕ) → x < 256 ^ N → y < 256 ^ N → (a b r s : List ℕ)
-    → a ≡ bytes_high_first N x → b ≡ bytes_high_first N y → a ++ r ≡ b ++ s → (x ≡ y) × (r ≡ s)
+pub high_unique : (N x y : ℕ) → x < 256 ^ N → y < 256 ^ N
+    → Determine (λ a. a ≡ bytes_high_first N x) (λ b. b ≡ bytes_high_first N y) (x ≡ y)
 high_unique N x y below below_too a b r s is is_b cut =
     let t = array_unique N (bytes_high_first N x) (bytes_high_first N y) (length-bytes_high_first N x)
     (length-bytes_high_first N y) a b r s is is_b cut in
     (sym (big_number-reads_back N x [] below) ∙ ap (λ (l : List ℕ). big_from 0 N (l ++ [])) t.0 ∙ big_number-reads_back N y [] below_too, t.1)
 
 -- two numbers of N bytes, the lowest first
-pub low_unique : (N x y : ℕ) → x < 256 ^ N → y < 256 ^ N → (a b r s : List ℕ)
-    → a ≡ bytes_low_first 0 N x → b ≡ bytes_low_first 0 N y → a ++ r ≡ b ++ s → (x ≡ y) × (r ≡ s)
+pub low_unique : (N x y : ℕ) → x < 256 ^ N → y < 256 ^ N
+    → Determine (λ a. a ≡ bytes_low_first 0 N x) (λ b. b ≡ bytes_low_first 0 N y) (x ≡ y)
 low_unique N x y below below_too a b r s is is_b cut =
     let t = array_unique N (bytes_low_first 0 N x) (bytes_low_first 0 N y) (length-bytes_low_first 0 N x)
     (length-bytes_low_first 0 N y) a b r s is is_b cut in
@@ -103,11 +101,8 @@ pub block_exists : (block : List ℕ) (n : ℕ) → n ≡ length block → n < v
 block_exists block n long below = then_exists (varint_exists (length block) (omega (arith, long, below))) (array_exists block)
 
 -- two at the start of one input are the same
-pub block_unique : (x y a b r s : List ℕ) → IsBlock x a → IsBlock y b → a ++ r ≡ b ++ s → (x ≡ y) × (r ≡ s)
-block_unique x y a b r s g h cut =
-    let bytes = λ (same : length x ≡ length y). array_unique (length y) x y same refl in
-    let told = then_unique (length x ≡ length y) (x ≡ y) (number_unique (length x) (length y)) bytes a b r s g h cut in
-    (told.0.1, told.1)
+pub block_unique : (x y : List ℕ) → Determine (IsBlock x) (IsBlock y) (x ≡ y)
+block_unique x y = next_unique (number_unique (length x) (length y)) (λ same. array_unique (length y) x y same refl)
 
 -- and a block has one encoding
 pub block_one : (x y a b : List ℕ) → x ≡ y → IsBlock x a → IsBlock y b → a ≡ b
@@ -118,42 +113,6 @@ block_one x y a b same =
 pub block_some : (block bytes : List ℕ) → IsBlock block bytes → 0 < length bytes
 block_some block = then_some (varint_some (length block))
 
--- items have encodings, one after another
-pub items_exist : {A : Type 0} (IsPart : A → List ℕ → Type 0) → ((x : A) → (bytes : List ℕ) × IsPart x bytes)
-    → (xs : List A) → (bytes : List ℕ) × AreParts IsPart xs bytes
-items_exist IsPart exists [] = ([], refl)
-items_exist IsPart exists (x ∷ xs) =
-    let (a, is_a) = exists x in
-    let (b, are) = items_exist IsPart exists xs in
-    (a ++ b, (a, b, is_a, are, refl))
-
--- equally many items at the start of one input are the same
-items_unique : {A : Type 0} (IsPart : A → List ℕ → Type 0) (Same : A → A → Type 0)
-    → ((x y : A) (a b r s : List ℕ) → IsPart x a → IsPart y b → a ++ r ≡ b ++ s → Same x y × (r ≡ s))
-    → (xs ys : List A) → length xs ≡ length ys → (a b r s : List ℕ) → AreParts IsPart xs a → AreParts IsPart ys b
-    → a ++ r ≡ b ++ s → AreSame Same xs ys × (r ≡ s)
-items_unique IsPart Same unique [] [] long a b r s x y cut =
-    (tt, sym (ap (λ (l : List ℕ). l ++ r) x) ∙ cut ∙ ap (λ (l : List ℕ). l ++ s) y)
-items_unique IsPart Same unique [] (y ∷ ys) long a b r s g h cut = absurd (omega (arith, long))
-items_unique IsPart Same unique (x ∷ xs) [] long a b r s g h cut = absurd (omega (arith, long))
-items_unique IsPart Same unique (x ∷ xs) (y ∷ ys) long a b r s (a1, a2, is_a, as_, cut_a) (b1, b2, is_b, bs, cut_b) cut =
-    let joined : a1 ++ (a2 ++ r) ≡ b1 ++ (b2 ++ s) =
-    sym (append_assoc a1 a2 r) ∙ ap (λ (l : List ℕ). l ++ r) (sym cut_a) ∙ cut
-    ∙ ap (λ (l : List ℕ). l ++ s) cut_b ∙ append_assoc b1 b2 s in
-    let told = unique x y a1 b1 (a2 ++ r) (b2 ++ s) is_a is_b joined in
-    let rest = items_unique IsPart Same unique xs ys (omega (arith, long)) a2 b2 r s as_ bs told.1 in
-    ((told.0, rest.0), rest.1)
-
--- the same items have one encoding
-items_one : {A : Type 0} (IsPart : A → List ℕ → Type 0) (Same : A → A → Type 0)
-    → ((x y : A) (a b : List ℕ) → Same x y → IsPart x a → IsPart y b → a ≡ b)
-    → (xs ys : List A) (a b : List ℕ) → AreSame Same xs ys → AreParts IsPart xs a → AreParts IsPart ys b → a ≡ b
-items_one IsPart Same one [] [] a b same x y = x ∙ sym y
-items_one IsPart Same one [] (y ∷ ys) a b same g h = absurd same
-items_one IsPart Same one (x ∷ xs) [] a b same g h = absurd same
-items_one IsPart Same one (x ∷ xs) (y ∷ ys) a b same (a1, a2, is_a, as_, cut_a) (b1, b2, is_b, bs, cut_b) =
-    cc (cut_a, cut_b, one x y a1 b1 same.0 is_a is_b, items_one IsPart Same one xs ys a2 b2 same.1 as_ bs)
-
 -- the same items are equally many
 same_length : {A : Type 0} (Same : A → A → Type 0) (xs ys : List A) → AreSame Same xs ys → length xs ≡ length ys
 same_length Same [] [] same = refl
@@ -161,33 +120,53 @@ same_length Same [] (y ∷ ys) same = absurd same
 same_length Same (x ∷ xs) [] same = absurd same
 same_length Same (x ∷ xs) (y ∷ ys) same = omega (arith, same_length Same xs ys same.1)
 
--- counted items have an encoding
-pub counted_exists : {A : Type 0} (IsPart : A → List ℕ → Type 0) → ((x : A) → (bytes : List ℕ) × IsPart x bytes)
-    → (xs : List A) (n : ℕ) → n ≡ length xs → n < varint_limit
-    → (bytes : List ℕ) × Then (IsVarint (length xs)) (AreParts IsPart xs) bytes
-counted_exists IsPart exists xs n long below =
-    then_exists (varint_exists (length xs) (omega (arith, long, below))) (items_exist IsPart exists xs)
+module _ {A : Type 0} {IsPart : A → List ℕ → Type 0} where
+  -- items have encodings, one after another
+  pub items_exist : ((x : A) → (bytes : List ℕ) × IsPart x bytes) → (xs : List A) → (bytes : List ℕ) × AreParts IsPart xs bytes
+  items_exist exists [] = ([], refl)
+  items_exist exists (x ∷ xs) =
+      let (a, is_a) = exists x in
+      let (b, are) = items_exist exists xs in
+      (a ++ b, (a, b, is_a, are, refl))
 
--- two at the start of one input are the same
-pub counted_unique : {A : Type 0} (IsPart : A → List ℕ → Type 0) (Same : A → A → Type 0)
-    → ((x y : A) (a b r s : List ℕ) → IsPart x a → IsPart y b → a ++ r ≡ b ++ s → Same x y × (r ≡ s))
-    → (xs ys : List A) (a b r s : List ℕ) → Then (IsVarint (length xs)) (AreParts IsPart xs) a
-    → Then (IsVarint (length ys)) (AreParts IsPart ys) b → a ++ r ≡ b ++ s → AreSame Same xs ys × (r ≡ s)
-counted_unique IsPart Same unique xs ys a b r s x y cut =
-    let told = then_unique (length xs ≡ length ys) (AreSame Same xs ys) (number_unique (length xs) (length ys))
-    (items_unique IsPart Same unique xs ys) a b r s x y cut in
-    (told.0.1, told.1)
+  -- counted items have an encoding
+  pub counted_exists : ((x : A) → (bytes : List ℕ) × IsPart x bytes) → (xs : List A) (n : ℕ) → n ≡ length xs → n < varint_limit
+      → (bytes : List ℕ) × Then (IsVarint (length xs)) (AreParts IsPart xs) bytes
+  counted_exists exists xs n long below = then_exists (varint_exists (length xs) (omega (arith, long, below))) (items_exist exists xs)
 
--- the same items have one encoding
-pub counted_one : {A : Type 0} (IsPart : A → List ℕ → Type 0) (Same : A → A → Type 0)
-    → ((x y : A) (a b : List ℕ) → Same x y → IsPart x a → IsPart y b → a ≡ b)
-    → (xs ys : List A) (a b : List ℕ) → AreSame Same xs ys → Then (IsVarint (length xs)) (AreParts IsPart xs) a
-    → Then (IsVarint (length ys)) (AreParts IsPart ys) b → a ≡ b
-counted_one IsPart Same one xs ys a b same x y =
-    then_one a b (λ c d. number_one (length xs) (length ys) c d (same_length Same xs ys same))
-    (λ c d. items_one IsPart Same one xs ys c d same) x y
+  module _ {Same : A → A → Type 0} (unique : (x y : A) → Determine (IsPart x) (IsPart y) (Same x y)) where
+    -- equally many items at the start of one input are the same
+    items_unique : (xs ys : List A) → length xs ≡ length ys → Determine (AreParts IsPart xs) (AreParts IsPart ys) (AreSame Same xs ys)
+    items_unique [] [] long a b r s x y cut =
+        (tt, sym (ap (λ (l : List ℕ). l ++ r) x) ∙ cut ∙ ap (λ (l : List ℕ). l ++ s) y)
+    items_unique [] (y ∷ ys) long a b r s g h cut = absurd (omega (arith, long))
+    items_unique (x ∷ xs) [] long a b r s g h cut = absurd (omega (arith, long))
+    items_unique (x ∷ xs) (y ∷ ys) long a b r s (a1, a2, is_a, as_, cut_a) (b1, b2, is_b, bs, cut_b) cut =
+        then_unique (unique x y) (λ _. items_unique xs ys (omega (arith, long))) a b r s
+        (record { first = a1; second = a2; is_first = is_a; is_second = as_; parts = cut_a })
+        (record { first = b1; second = b2; is_first = is_b; is_second = bs; parts = cut_b }) cut
 
--- and it is not empty
+    -- and so are counted ones
+    pub counted_unique : (xs ys : List A) → Determine (Then (IsVarint (length xs)) (AreParts IsPart xs))
+        (Then (IsVarint (length ys)) (AreParts IsPart ys)) (AreSame Same xs ys)
+    counted_unique xs ys = next_unique (number_unique (length xs) (length ys)) (items_unique xs ys)
+
+  module _ {Same : A → A → Type 0} (one : (x y : A) (a b : List ℕ) → Same x y → IsPart x a → IsPart y b → a ≡ b) where
+    -- the same items have one encoding
+    items_one : (xs ys : List A) (a b : List ℕ) → AreSame Same xs ys → AreParts IsPart xs a → AreParts IsPart ys b → a ≡ b
+    items_one [] [] a b same x y = x ∙ sym y
+    items_one [] (y ∷ ys) a b same g h = absurd same
+    items_one (x ∷ xs) [] a b same g h = absurd same
+    items_one (x ∷ xs) (y ∷ ys) a b same (a1, a2, is_a, as_, cut_a) (b1, b2, is_b, bs, cut_b) =
+        cc (cut_a, cut_b, one x y a1 b1 same.0 is_a is_b, items_one xs ys a2 b2 same.1 as_ bs)
+
+    -- and so do counted ones
+    pub counted_one : (xs ys : List A) (a b : List ℕ) → AreSame Same xs ys → Then (IsVarint (length xs)) (AreParts IsPart xs) a
+        → Then (IsVarint (length ys)) (AreParts IsPart ys) b → a ≡ b
+    counted_one xs ys a b same = then_one a b (λ c d. number_one (length xs) (length ys) c d (same_length Same xs ys same))
+        (λ c d. items_one xs ys c d same)
+
+-- the encoding of counted items is not empty
 pub counted_some : {A : Type 0} (IsPart : A → List ℕ → Type 0) (xs : List A) (bytes : List ℕ)
     → Then (IsVarint (length xs)) (AreParts IsPart xs) bytes → 0 < length bytes
 counted_some IsPart xs = then_some (varint_some (length xs))

@@ -39,7 +39,7 @@ pub returns-in_err-write-clause-err : goal.returns-in_err-write-clause-err
 returns-in_err-write-clause-err g c =
     let before = c.loop-item.invariant in
     let met = c.in_err-write.ensures.err in
-    let others = items_exist g.T.Form.is_form g.met.T.Form.exists (drop (c.loop-item.item-index + 1) c.args.items.now) in
+    let others = items_exist g.met.T.Form.exists (drop (c.loop-item.item-index + 1) c.args.items.now) in
     let stopped : AppendsPrefixOfSome g.W.Write.appended (AreParts g.T.Form.is_form c.args.items.now) c.args.w.now c.write.new.w = (
       _,
       next g (goal.at.returns-in_err-write-clause-err g c).After-item-item met.0 others.0 met.1 others.1,

@@ -9,6 +9,7 @@ use Rattle.multihash.specs.Reading.{Consumes}
 use Rattle.multihash.specs.Streams.{AreParts}
 use Rattle.multihash.proofs.ReadingLemmas.{Consumes-known, Consumes-none, Consumes-concatenated}
 use Rattle.multihash.proofs.StreamLemmas.{parts_push}
+use Rattle.form.specs.Laws.Pairs.{Determine}
 use Rattle.form.specs.FormError.{IsFailed}
 use Rattle.form.specs.Stream.{rest_from, AppendsValues, AppendsSame}
 use Rattle.form.proofs.CountedLemmas.{Next, parts_compared}
@@ -89,7 +90,7 @@ returns-clause-ok g c = record {
 
 -- the values so far, compared with those that come next
 module _ {A : Type 0} {IsForm : A → List ℕ → Type 0} {Same : A → A → Type 0}
-    (unique : (x y : A) (a b r s : List ℕ) → IsForm x a → IsForm y b → a ++ r ≡ b ++ s → Same x y × (r ≡ s))
+    (unique : (x y : A) → Determine (IsForm x) (IsForm y) (Same x y))
     (some : (x : A) (bytes : List ℕ) → IsForm x bytes → 0 < length bytes) {before after : List A} {old mid : Option (List ℕ)}
     (reads : AppendsValues IsForm before after old mid) (xs : List A) (bytes more : List ℕ) (are : AreParts IsForm xs bytes)
     (at : old ≡ Some (bytes ++ more)) (n : ℕ) (number : (length xs ≡ n) ⊎ ((length xs < n) × (more ≡ []))) where
