@@ -22,11 +22,6 @@ pub no_bytes : (a b : List ℕ) → a ++ b ≡ [] → b ≡ []
 no_bytes [] b none = none
 no_bytes (y ∷ a) b none = cc
 
--- what was consumed of a known input
-consumed_known : (input c : List ℕ) {old : Option (List ℕ)} (new : Option (List ℕ)) → old ≡ Some input → Consumes old c new
-    → (left : List ℕ) × (new ≡ Some left) × (input ≡ c ++ left)
-consumed_known input c new at consumes = Consumes-known input c new (subst (λ (o : Option (List ℕ)). Consumes o c new) at consumes)
-
 -- why reading a known input stopped, if the reader did not fail
 pub stopped : {A : Type 0} {IsForm : A → List ℕ → Type 0} {Rejects : FormError → List ℕ → Type 0} {before after : ℕ} {e : FormError}
     {old new : Option (List ℕ)} (input : List ℕ) → after ≡ before → old ≡ Some input → ReadStops IsForm Rejects before after e old new
@@ -45,54 +40,23 @@ stopped {IsForm = IsForm} {Rejects = Rejects} {before = before} {after = after} 
       ]
 ]
 
-module _ {A : Type 0} {IsForm : A → List ℕ → Type 0} {Rejects : FormError → List ℕ → Type 0} {Same : A → A → Type 0}
-    (unique : (x y : A) → Determine (IsForm x) (IsForm y) (Same x y))
-    (not_both : (x : A) (e : FormError) → Exclude (IsForm x) (Rejects e))
-    {before after : ℕ} (same : after ≡ before) {old : Option (List ℕ)} (new : Option (List ℕ)) where
-  -- the clause `found`
-  pub form_found : (r : Result A FormError) → IfOk r (λ x. ConsumesSome (IsForm x) old new)
-      → IfErr r (λ e. ReadStops IsForm Rejects before after e old new) → (x : A) (bytes more : List ℕ) → IsForm x bytes
-      → old ≡ Some (bytes ++ more) → MatchResult r (λ y. Same y x × (new ≡ Some more)) (IsFailed IsOutOfMemory)
-  form_found (Ok y) (c, is_c, consumes) err x bytes more is at =
-      let (left, is_left, split) = consumed_known (bytes ++ more) c new at consumes in
-      let told = unique y x c bytes left more is_c is (sym split) in
-      (told.0, is_left ∙ ap Some told.1)
-  form_found (Err e) ok err x bytes more is at = elim (stopped (bytes ++ more) same at err) [
-    | inl memory ↦ memory
-    | inr (inl (shown, left, rejects, _, split)) ↦ absurd (not_both x e bytes shown more left is rejects split)
-    | inr (inr (_, u)) ↦ absurd (u.no_form x bytes more refl is)
-  ]
-
-  -- the clause `truncated`
-  pub form_truncated : (r : Result A FormError) → IfOk r (λ x. ConsumesSome (IsForm x) old new)
-      → IfErr r (λ e. ReadStops IsForm Rejects before after e old new) → (x : A) (bytes part : List ℕ) → IsForm x bytes
-      → IsStrictPrefix part bytes → old ≡ Some part → IsErrAnd r (λ e. IsFailed IsTruncated e ⊎ IsFailed IsOutOfMemory e)
-  form_truncated (Ok y) (c, is_c, consumes) err x bytes part is (more, some, cut) at =
-      let (left, is_left, split) = consumed_known part c new at consumes in
-      let told = unique y x c bytes (left ++ more) [] is_c is (longer part c left bytes more split cut) in
-      absurd (some (no_bytes left more told.1))
-  form_truncated (Err e) ok err x bytes part is (more, some, cut) at = elim (stopped part same at err) [
-    | inl memory ↦ inr memory
-    | inr (inl (shown, left, rejects, _, split)) ↦
-        absurd (not_both x e bytes shown [] (left ++ more) is rejects (sym (longer part shown left bytes more split cut)))
-    | inr (inr (ends, _)) ↦ inl ends
-  ]
-
-  -- the clause `rejected`
-  pub form_rejected : ((e f : FormError) → Determine (Rejects e) (Rejects f) (e ≡ f))
-      → (r : Result A FormError) → IfOk r (λ x. ConsumesSome (IsForm x) old new)
-      → IfErr r (λ e. ReadStops IsForm Rejects before after e old new) → (e : FormError) (front more : List ℕ) → Rejects e front
-      → old ≡ Some (front ++ more) → IsErrAnd r (λ f. ((f ≡ e) × (new ≡ Some more)) ⊎ IsFailed IsOutOfMemory f)
-  form_rejected once (Ok y) (c, is_c, consumes) err e front more rejects at =
-      let (left, _, split) = consumed_known (front ++ more) c new at consumes in
-      not_both y e c front left more is_c rejects (sym split)
-  form_rejected once (Err f) ok err e front more rejects at = elim (stopped (front ++ more) same at err) [
-    | inl memory ↦ inr memory
-    | inr (inl (shown, left, also, is_left, split)) ↦
-        let told = once f e shown front left more also rejects (sym split) in
-        inl (told.0, is_left ∙ ap Some told.1)
-    | inr (inr (_, u)) ↦ absurd (u.no_error e front more refl rejects)
-  ]
+-- the clause `truncated` of `read`
+pub form_truncated : {A : Type 0} {IsForm : A → List ℕ → Type 0} {Rejects : FormError → List ℕ → Type 0} {Same : A → A → Type 0}
+    → ((x y : A) → Determine (IsForm x) (IsForm y) (Same x y)) → ((x : A) (e : FormError) → Exclude (IsForm x) (Rejects e))
+    → {before after : ℕ} → after ≡ before → {old : Option (List ℕ)} (new : Option (List ℕ)) (r : Result A FormError)
+    → IfOk r (λ x. ConsumesSome (IsForm x) old new) → IfErr r (λ e. ReadStops IsForm Rejects before after e old new)
+    → (x : A) (bytes part : List ℕ) → IsForm x bytes → IsStrictPrefix part bytes → old ≡ Some part
+    → IsErrAnd r (λ e. IsFailed IsTruncated e ⊎ IsFailed IsOutOfMemory e)
+form_truncated unique not_both same new (Ok y) (c, is_c, consumes) err x bytes part is (more, some, cut) at =
+    let (left, _, split) = Consumes-known part c new (subst (λ (o : Option (List ℕ)). Consumes o c new) at consumes) in
+    let told = unique y x c bytes (left ++ more) [] is_c is (longer part c left bytes more split cut) in
+    absurd (some (no_bytes left more told.1))
+form_truncated unique not_both same new (Err e) ok err x bytes part is (more, some, cut) at = elim (stopped part same at err) [
+  | inl memory ↦ inr memory
+  | inr (inl (shown, left, rejects, _, split)) ↦
+      absurd (not_both x e bytes shown [] (left ++ more) is rejects (sym (longer part shown left bytes more split cut)))
+  | inr (inr (ends, _)) ↦ inl ends
+]
 
 -- the clause `err` of `from_bytes`, from that of `read`
 pub whole_error : {A : Type 0} {IsForm : A → List ℕ → Type 0} {Rejects : FormError → List ℕ → Type 0} {before after : ℕ} {e : FormError}

@@ -1,5 +1,5 @@
 //! Values that fill an input, one after another.
-ghost use Rattle.std.specs.Prelude.{◌≡◌, ◌++◌, ℕ, List, MatchResult, IfOk, IfErr};
+ghost use Rattle.std.specs.Prelude.{◌≡◌, ◌++◌, ◌⊎◌, ℕ, List, MatchResult, IfOk, IfErr};
 ghost use Rattle.multihash.specs.Streams.{AreParts};
 ghost use Rattle.multihash.specs.Refusal.{IsOutOfMemory};
 ghost use Rattle.form.specs.Form.{AreSame, Then};
@@ -44,6 +44,10 @@ pub fn head_and_all_from_bytes<H: Form + Drop, T: Form + Drop>(
     ensures ok { IfOk result (λ x. Then (H.is_form x.0) (AreParts T.is_form x.1.items) bytes.now) }
     ensures found { (head : H) (xs : List T) → Then (H.is_form head) (AreParts T.is_form xs) bytes.now →
         MatchResult result (λ x. H.same x.0 head × AreSame T.same x.1.items xs) (IsFailed IsOutOfMemory) }
+    ensures err { IfErr result (λ e. IsReadError H.is_form H.rejects e bytes.now
+        ⊎ ((head : H) × (xs : List T) × (front : List ℕ) × (rest : List ℕ)
+        × Then (H.is_form head) (AreParts T.is_form xs) front × (bytes.now ≡ front ++ rest)
+        × IsReadError T.is_form T.rejects e rest)) }
 {
     let (head, rest) = read_front::<H>(alloc, bytes)?;
     let items = all_from_bytes::<T>(alloc, rest)?;
