@@ -14,19 +14,27 @@ use std::process::Abort;
 enum Encoding {
     Binary,
     Scale,
-    /// The multihash twice.
     List,
 }
 
 const ALL: [Encoding; 3] = [Encoding::Binary, Encoding::Scale, Encoding::List];
 
-// The code 300 and the digest `AB`, which was encoded by hand.
+// The code 300 and the digest `AB`; in the list 0 and `A`, and 18 and `B`. They were encoded by hand.
 impl Encoding {
     fn bytes(self) -> &'static [u8] {
         match self {
             Encoding::Binary => &[172, 2, 2, 65, 66],
             Encoding::Scale => &[44, 1, 0, 0, 0, 0, 0, 0, 2, 65, 66],
-            Encoding::List => &[172, 2, 2, 65, 66, 172, 2, 2, 65, 66],
+            Encoding::List => &[0, 1, 65, 18, 1, 66],
+        }
+    }
+
+    // The same, and a byte that follows.
+    fn input(self) -> &'static [u8] {
+        match self {
+            Encoding::Binary => &[172, 2, 2, 65, 66, 9],
+            Encoding::Scale => &[44, 1, 0, 0, 0, 0, 0, 0, 2, 65, 66, 9],
+            Encoding::List => &[0, 1, 65, 18, 1, 66, 9],
         }
     }
 
@@ -35,7 +43,7 @@ impl Encoding {
         match self {
             Encoding::Binary => (3, 0, 1),
             Encoding::Scale => (0, 0, 3),
-            Encoding::List => (6, 0, 2),
+            Encoding::List => (4, 0, 2),
         }
     }
 
@@ -53,7 +61,7 @@ impl Encoding {
         match self {
             Encoding::Binary => Ok(Multihash::read(r)? == wanted),
             Encoding::Scale => Ok(Multihash::scale_decode(r)? == wanted),
-            Encoding::List => Ok(read_list(alloc, r, 2)?.as_slice() == [wanted, wanted].as_slice()),
+            Encoding::List => Ok(read_list(alloc, r, 2)?.as_slice() == items()?.as_slice()),
         }
     }
 
@@ -78,7 +86,7 @@ impl Encoding {
                 m.scale_encode(w)?;
                 Ok(())
             }
-            Encoding::List => write_list(&[m, m], w),
+            Encoding::List => write_list(&items()?, w),
         }
     }
 
@@ -91,6 +99,10 @@ impl Encoding {
             self.write(w)
         }
     }
+}
+
+fn items() -> Result<[Multihash<4>; 2], Error> {
+    Ok([Multihash::wrap(0, b"A")?, Multihash::wrap(18, b"B")?])
 }
 
 // One byte of a varint at a time, and the others by one call.
@@ -151,16 +163,42 @@ fn expect_failed_read(
     at: usize,
     why: &'static str,
 ) {
-    let bytes = encoding.bytes();
+    let input = encoding.input();
     for borrowed in [false, true] {
-        let mut reader = FailAt::new(Cuts::new(bytes, 1), at, why);
+        let mut reader = FailAt::new(Cuts::new(input, 1), at, why);
         check!(rt; is_passed_on(&encoding.is_read_by(alloc, &mut reader, borrowed), why), encoding);
         check_eq!(rt; reader.asked, at.saturating_add(1), encoding);
-        check_eq!(rt; reader.cuts.left.len(), bytes.len().saturating_sub(at), encoding);
+        check_eq!(rt; reader.cuts.left.len(), input.len().saturating_sub(at), encoding);
+        // The first call consumed nothing, so all is read by another call.
+        if at == 0 {
+            check!(rt; expect_ok!(rt; encoding.is_read(alloc, &mut reader)), encoding);
+            check_eq!(rt; reader.cuts.left, &[9], encoding);
+        }
     }
     if matches!(encoding, Encoding::Binary) {
-        let mut reader = FailAt::new(Cuts::new(bytes, 1), at, why);
+        let mut reader = FailAt::new(Cuts::new(input, 1), at, why);
         check!(rt; is_passed_on(&Multihash::<4>::read_next(&mut reader), why), at);
+    }
+}
+
+// What follows is not read, nor is a call made that would fail, and each byte is written once.
+#[test]
+fn few_bytes_a_call_are_the_same(rt: HostRuntime) {
+    for encoding in ALL {
+        let wanted = encoding.bytes();
+        for most in [1, 2, 3, 7] {
+            let mut reader = FailAt::new(
+                Cuts::new(encoding.input(), most),
+                wanted.len(),
+                "link down",
+            );
+            check!(&rt; expect_ok!(&rt; encoding.is_read(rt.alloc(), &mut reader)), encoding);
+            check_eq!(&rt; reader.cuts.left, &[9], encoding);
+            let drip = expect_ok!(&rt; Drip::new(rt.alloc(), wanted.len(), most));
+            let mut writer = FailWrite::<false>::new(drip, wanted.len(), "disk gone");
+            check!(&rt; encoding.write(&mut writer).is_ok(), encoding);
+            check_eq!(&rt; writer.drip.held.as_slice(), wanted, encoding);
+        }
     }
 }
 
@@ -337,8 +375,9 @@ fn a_slice_has_the_bytes(rt: HostRuntime) {
             for borrowed in [false, true] {
                 let mut buffer = [0u8; 13];
                 let mut left = &mut buffer[..room];
-                let _outcome = encoding.write_by(&mut left, borrowed);
+                let is_written = encoding.write_by(&mut left, borrowed).is_ok();
                 let len = room.min(wanted.len());
+                check_eq!(&rt; is_written, len == wanted.len(), encoding);
                 check_eq!(&rt; &buffer[..len], &wanted[..len], encoding);
                 check!(&rt; buffer[len..].iter().all(|byte| *byte == 0), encoding);
             }

@@ -1,7 +1,7 @@
 //! JSON values.
 ghost use Rattle.std.specs.Prelude.{◌<◌, ◌^◌};
 
-use crate::page::Page;
+use crate::page::{Found, Page};
 use multihash::Multihash;
 use serde_json::Value;
 use std::alloc::{AllocError, Global};
@@ -36,13 +36,9 @@ pub fn print_json<const S: usize>(page: &mut Page, call: &str, m: &Multihash<S>)
 fn print_text<const S: usize>(page: &mut Page, text: &str)
     requires { S < 2 ^ 16 }
 {
-    page.put("from_value::<");
-    page.put(S);
-    page.put(">(");
-    page.put(text);
-    page.call(")");
+    page.call(format_args!("from_value::<{S}>({text})"));
     if let Ok(value) = Value::from_str(page.alloc, text) {
-        page.put_found(Multihash::<S>::from_value(&value));
+        page.put(Found(Multihash::<S>::from_value(&value), &[]));
     }
     page.end();
 }
@@ -55,10 +51,29 @@ fn print_texts<const S: usize>(page: &mut Page, texts: &str)
     }
 }
 
-fn print_member(page: &mut Page, kind: &str) {
-    if let Ok(text) = format!(in page.alloc; "[0,{kind}]") {
-        print_text::<255>(page, &text);
+const NOT_BYTES: &str = "Failed to deserialize Multihash";
+
+// Printed only if it has another result.
+fn put_if_bytes(page: &mut Page, text: &str) {
+    page.put(NOT_BYTES);
+    page.expect();
+    if let Ok(value) = Value::from_str(page.alloc, text) {
+        page.put(Found(Multihash::<255>::from_value(&value), &[]));
     }
+    page.result(format_args!("; {text}: "));
+}
+
+fn print_kinds(page: &mut Page) {
+    page.call("from_value::<255>(each kind of value, alone and after 0)");
+    page.put(NOT_BYTES);
+    page.result("");
+    for kind in KINDS.split(' ') {
+        put_if_bytes(page, kind);
+        if let Ok(text) = format!(in page.alloc; "[0,{kind}]") {
+            put_if_bytes(page, &text);
+        }
+    }
+    page.end();
 }
 
 fn long_array(alloc: Global) -> Result<Value, AllocError> {
@@ -78,11 +93,8 @@ pub fn print_values(page: &mut Page) {
     print_texts::<2>(page, SHORT);
     page.call("from_value::<2>([0,0] and 100000 members 7)");
     if let Ok(value) = long_array(page.alloc) {
-        page.put_found(Multihash::<2>::from_value(&value));
+        page.put(Found(Multihash::<2>::from_value(&value), &[]));
     }
     page.end();
-    for kind in KINDS.split(' ') {
-        print_text::<255>(page, kind);
-        print_member(page, kind);
-    }
+    print_kinds(page);
 }

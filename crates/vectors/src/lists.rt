@@ -191,6 +191,19 @@ fn bytes_of(alloc: Global, digits: &str) -> Vec<u8> {
     hex::decode(alloc, if digits == "-" { "" } else { digits }).unwrap_or(Vec::new(alloc))
 }
 
+/// A call of the capacity that a column states, of those that the lists have.
+macro_rules! with_capacity {
+    ($page:expr, $column:expr, $call:ident $arguments:tt) => {
+        with_capacity!($page, $column, $call $arguments; 0 1 2 4 16 32 64 128 200 255 256 300)
+    };
+    ($page:expr, $column:expr, $call:ident $arguments:tt; $($capacity:literal)+) => {
+        match $column.parse::<u16>() {
+            $(Ok($capacity) => $call::<$capacity> $arguments,)+
+            _ => $page.put("no such capacity"),
+        }
+    };
+}
+
 fn print_verdict(page: &mut Page, line: &str) {
     let mut columns = line.split('\t');
     let size = columns.next().unwrap_or("");
@@ -198,21 +211,7 @@ fn print_verdict(page: &mut Page, line: &str) {
     let bytes = bytes_of(page.alloc, input);
     page.put(format_args!("{size}\t{input}"));
     page.column();
-    match size {
-        "0" => put_results::<0>(page, &bytes),
-        "1" => put_results::<1>(page, &bytes),
-        "2" => put_results::<2>(page, &bytes),
-        "4" => put_results::<4>(page, &bytes),
-        "16" => put_results::<16>(page, &bytes),
-        "32" => put_results::<32>(page, &bytes),
-        "64" => put_results::<64>(page, &bytes),
-        "128" => put_results::<128>(page, &bytes),
-        "200" => put_results::<200>(page, &bytes),
-        "255" => put_results::<255>(page, &bytes),
-        "256" => put_results::<256>(page, &bytes),
-        "300" => put_results::<300>(page, &bytes),
-        _ => page.put("no such capacity"),
-    }
+    with_capacity!(page, size, put_results(page, &bytes));
     page.end_if_other(line);
 }
 
@@ -282,16 +281,7 @@ fn put_value_of(page: &mut Page, limit: &str, code: &str, digest: &str) {
     page.column();
     let bytes = bytes_of(page.alloc, digest);
     let code = code.parse().unwrap_or(0);
-    match limit {
-        "2" => put_value::<2>(page, code, &bytes),
-        "4" => put_value::<4>(page, code, &bytes),
-        "32" => put_value::<32>(page, code, &bytes),
-        "64" => put_value::<64>(page, code, &bytes),
-        "128" => put_value::<128>(page, code, &bytes),
-        "255" => put_value::<255>(page, code, &bytes),
-        "300" => put_value::<300>(page, code, &bytes),
-        _ => page.put("no such capacity"),
-    }
+    with_capacity!(page, limit, put_value(page, code, &bytes));
 }
 
 fn value_of<const S: usize>(alloc: Global, code: &str, digest: &str) -> Multihash<S>

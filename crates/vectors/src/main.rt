@@ -7,7 +7,6 @@
 #![tactic(auto)]
 
 mod errors;
-mod faults;
 mod json;
 mod lists;
 mod page;
@@ -25,13 +24,11 @@ fn main(rt: HostRuntime) -> Result<()> {
     values::print_default(&mut page);
     values::print_truncated(&mut page);
     values::print_tail(&mut page);
-    values::print_orders(&mut page);
     values::print_same_values(&mut page);
     json::print_values(&mut page);
     streams::print_lists(&mut page);
     streams::print_readers(&mut page);
     streams::print_writers(&mut page);
-    faults::print_faults(&mut page);
     errors::print_errors(&mut page);
     lists::print_lines(&mut page, &verdicts, &values);
     print!(rt; "{}", page.finish()?)

@@ -4,11 +4,9 @@ use std::alloc::Global;
 use std::fmt::{Debug, Display, Write};
 use std::{fmt, io};
 
-/// Rows, each by this method of a page, with its arguments.
+/// Calls with their results, each of which is a row.
 macro_rules! rows {
-    ($page:expr; $($method:ident $call:expr => $($outcome:expr),+;)+) => {
-        { $($page.$method($call, $($outcome),+);)+ }
-    };
+    ($page:expr; $($call:expr => $result:expr;)+) => { { $($page.row($call, $result);)+ } };
 }
 
 pub(crate) use rows;
@@ -25,6 +23,46 @@ impl<T: Debug, E: Display> Display for Outcome<T, E> {
         }
     }
 }
+
+/// A multihash, as its code and its digest.
+#[derive(Clone, Copy)]
+pub struct Pair<const S: usize>(pub Multihash<S>);
+
+impl<const S: usize> Display for Pair<S> {
+    fn fmt<W: fmt::Write>(&self, f: &mut fmt::Formatter<W>) -> fmt::Result {
+        write!(f, "({}, {})", self.0.code(), Bytes(self.0.digest()))
+    }
+}
+
+/// A multihash or the text of an error, and what is left of the input.
+#[derive(Drop)]
+pub struct Found<'a, const S: usize>(pub Result<Multihash<S>, Error>, pub &'a [u8]);
+
+impl<const S: usize> Display for Found<'_, S> {
+    fn fmt<W: fmt::Write>(&self, f: &mut fmt::Formatter<W>) -> fmt::Result {
+        match &self.0 {
+            Ok(m) => write!(f, "{}{}", Pair(*m), Left(self.1)),
+            Err(e) => write!(f, "{e}{}", Left(self.1)),
+        }
+    }
+}
+
+/// What is left of an input.
+#[derive(Clone, Copy)]
+pub struct Left<'a>(pub &'a [u8]);
+
+impl Display for Left<'_> {
+    fn fmt<W: fmt::Write>(&self, f: &mut fmt::Formatter<W>) -> fmt::Result {
+        if self.0.is_empty() {
+            return Ok(());
+        }
+        write!(f, ", left {}", Bytes(self.0))
+    }
+}
+
+/// Bytes in hexadecimal; a few letters as text.
+#[derive(Clone, Copy)]
+pub struct Bytes<'a>(pub &'a [u8]);
 
 // Fewer letters are text, and this many equal bytes are written once.
 const MANY: usize = 16;
@@ -48,6 +86,30 @@ fn count_equal(byte: u8, bytes: &[u8]) -> usize {
     bytes.len()
 }
 
+impl Display for Bytes<'_> {
+    fn fmt<W: fmt::Write>(&self, f: &mut fmt::Formatter<W>) -> fmt::Result {
+        if are_few_letters(self.0) {
+            return write!(f, "\"{}\"", str::from_utf8(self.0).unwrap_or(""));
+        }
+        f.write_str("[")?;
+        let mut left = self.0;
+        for _ in 0..self.0.len() {
+            let Some((first, others)) = left.split_first() else {
+                break;
+            };
+            let blank = if left.len() < self.0.len() { " " } else { "" };
+            write!(f, "{blank}{first:02x}")?;
+            left = others;
+            let count = count_equal(*first, others);
+            if count >= MANY - 1 {
+                write!(f, "*{}", count.saturating_add(1))?;
+                left = others.get(count..).unwrap_or(&[]);
+            }
+        }
+        f.write_str("]")
+    }
+}
+
 /// Rows of calls and their results, each of which is put together of parts.
 ///
 /// No method returns an error, so that no proof has a case for one. Instead `finish` does.
@@ -57,7 +119,7 @@ pub struct Page {
     text: String,
     // The row at hand.
     line: String,
-    // The parts of the heading, the call or the result at hand.
+    // The parts of the call or the result at hand.
     parts: String,
     // The last result of the row.
     last: String,
@@ -88,73 +150,14 @@ impl Page {
         self.failed |= write!(self.parts, "{part}").is_err();
     }
 
-    pub fn put_bytes(&mut self, bytes: &[u8]) {
-        if are_few_letters(bytes) {
-            self.put("\"");
-            self.put(str::from_utf8(bytes).unwrap_or(""));
-            self.put("\"");
-            return;
-        }
-        self.put("[");
-        let mut left = bytes;
-        for _ in 0..bytes.len() {
-            let Some((first, others)) = left.split_first() else {
-                break;
-            };
-            self.put(if left.len() < bytes.len() { " " } else { "" });
-            self.put(format_args!("{first:02x}"));
-            left = others;
-            let count = count_equal(*first, others);
-            if count >= MANY - 1 {
-                self.put("*");
-                self.put(count.saturating_add(1));
-                left = others.get(count..).unwrap_or(&[]);
-            }
-        }
-        self.put("]");
-    }
-
-    pub fn put_pair<const S: usize>(&mut self, m: Multihash<S>) {
-        self.put("(");
-        self.put(m.code());
-        self.put(", ");
-        self.put_bytes(m.digest());
-        self.put(")");
-    }
-
-    /// The value or the text of the error.
-    pub fn put_found<const S: usize>(&mut self, outcome: Result<Multihash<S>, Error>) {
-        match outcome {
-            Ok(m) => self.put_pair(m),
-            Err(e) => self.put(e),
-        }
-    }
-
-    /// What is left of an input.
-    pub fn put_left(&mut self, left: &[u8]) {
-        if !left.is_empty() {
-            self.put(", left ");
-            self.put_bytes(left);
-        }
-    }
-
-    /// All that was written.
-    pub fn put_written(&mut self, bytes: &[u8]) {
-        self.put(", ");
-        self.put_bytes(bytes);
-    }
-
-    /// The parts, and this last one, are a heading.
-    pub fn heading(&mut self, part: &str) {
-        self.put(part);
+    pub fn heading(&mut self, heading: &str) {
         let start = if self.text.is_empty() { "" } else { "\n" };
-        self.failed |= write!(self.text, "{start}# {}\n\n", self.parts).is_err();
-        self.parts.clear();
+        self.failed |= write!(self.text, "{start}# {heading}\n\n").is_err();
     }
 
-    /// The parts, and this last one, are the call of a row.
-    pub fn call(&mut self, part: &str) {
-        self.put(part);
+    /// The call of a row.
+    pub fn call(&mut self, call: impl Display + Drop) {
+        self.put(call);
         self.failed |= write!(self.line, "{:56}  ", self.parts).is_err();
         self.parts.clear();
     }
@@ -200,49 +203,9 @@ impl Page {
         self.last.clear();
     }
 
-    pub fn row(&mut self, call: &str, outcome: impl Display + Drop) {
+    pub fn row(&mut self, call: impl Display + Drop, outcome: impl Display + Drop) {
         self.call(call);
         self.put(outcome);
-        self.end();
-    }
-
-    pub fn bytes(&mut self, call: &str, bytes: &[u8]) {
-        self.call(call);
-        self.put_bytes(bytes);
-        self.end();
-    }
-
-    pub fn pair<const S: usize>(&mut self, call: &str, m: Multihash<S>) {
-        self.call(call);
-        self.put_pair(m);
-        self.end();
-    }
-
-    pub fn encoded(&mut self, call: &str, outcome: Result<Vec<u8>, Error>) {
-        match outcome {
-            Ok(bytes) => self.bytes(call, &bytes),
-            Err(e) => self.row(call, e),
-        }
-    }
-
-    /// A call that reads, and what it left.
-    pub fn found<const S: usize>(
-        &mut self,
-        call: &str,
-        outcome: Result<Multihash<S>, Error>,
-        left: &[u8],
-    ) {
-        self.call(call);
-        self.put_found(outcome);
-        self.put_left(left);
-        self.end();
-    }
-
-    /// A call that writes, and all that it wrote.
-    pub fn written(&mut self, call: &str, outcome: impl Display + Drop, bytes: &[u8]) {
-        self.call(call);
-        self.put(outcome);
-        self.put_written(bytes);
         self.end();
     }
 }

@@ -2,7 +2,7 @@
 ghost use Rattle.std.specs.Prelude.{◌<◌, ◌^◌};
 
 use crate::json::print_json;
-use crate::page::{Outcome, Page, rows};
+use crate::page::{Bytes, Found, Outcome, Page, Pair, rows};
 use multihash::Multihash;
 use std::cmp::Ordering;
 use std::hash::{DefaultHasher, Hash, Hasher};
@@ -14,16 +14,22 @@ pub fn value<const S: usize>(code: u64, digest: &str) -> Multihash<S>
     Multihash::wrap(code, digest.as_bytes()).unwrap_or_default()
 }
 
+fn print_bytes<const S: usize>(page: &mut Page, call: &str, m: &Multihash<S>) {
+    if let Ok(bytes) = m.to_bytes(page.alloc) {
+        page.row(call, Bytes(&bytes));
+    }
+}
+
 fn print_scale<const S: usize>(page: &mut Page, call: &str, m: &Multihash<S>) {
     let mut bytes = Vec::new(page.alloc);
     let count = Outcome(m.scale_encode(&mut bytes));
-    page.written(call, count, &bytes);
+    page.row(call, format_args!("{count}, {}", Bytes(&bytes)));
 }
 
 pub fn print_default(page: &mut Page) {
     page.heading("The empty multihash");
     let (empty, other) = (Multihash::<32>::default(), Multihash::<64>::default());
-    page.encoded("default::<32>().to_bytes()", empty.to_bytes(page.alloc));
+    print_bytes(page, "default::<32>().to_bytes()", &empty);
     page.row(
         "default::<32>().same_as(&default::<64>())",
         empty.same_as(&other),
@@ -55,36 +61,31 @@ fn has_hash_of_pair(code: u64, digest: &str) -> bool {
 
 fn print_inner<const S: usize>(page: &mut Page, call: &str, m: Multihash<S>) {
     let (code, array, size) = m.into_inner();
-    page.call(call);
-    page.put("(");
-    page.put(code);
-    page.put_written(&array);
-    page.put(", ");
-    page.put(size);
-    page.put(")");
-    page.end();
+    page.row(call, format_args!("({code}, {}, {size})", Bytes(&array)));
 }
 
 pub fn print_truncated(page: &mut Page) {
     page.heading("m = wrap::<64>(0, \"foobar\")");
     let m = value::<64>(0, "foobar");
     rows!(page;
-        row "m.size()" => m.size();
-        bytes "m.digest()" => m.digest();
-        pair "m.truncate(3)" => m.truncate(3);
-        pair "m.truncate(9)" => m.truncate(9);
-        pair "m.truncate(2)" => m.truncate(2);
-        pair "m.truncate(5).truncate(2)" => m.truncate(5).truncate(2);
-        pair "m.truncate(2).truncate(5)" => m.truncate(2).truncate(5);
+        "m.size()" => m.size();
+        "m.digest()" => Bytes(m.digest());
+        "m.truncate(3)" => Pair(m.truncate(3));
+        "m.truncate(9)" => Pair(m.truncate(9));
+        "m.truncate(2)" => Pair(m.truncate(2));
+        "m.truncate(5).truncate(2)" => Pair(m.truncate(5).truncate(2));
+        "m.truncate(2).truncate(5)" => Pair(m.truncate(2).truncate(5));
     );
     print_inner(page, "m.truncate(3).into_inner()", m.truncate(3));
     rows!(page;
-        found "m.resize::<2>()" => m.resize::<2>(), &[];
-        row "m.truncate(3) against wrap::<64>(0, \"foo\")" => compared(m.truncate(3), value(0, "foo"));
-        row "m.truncate(1) against wrap::<64>(0, \"f\")" => compared(m.truncate(1), value(0, "f"));
-        row "m.truncate(9) against m" => compared(m.truncate(9), m);
-        row "hash of wrap::<64>(0, \"foo\") is that of (0u64, \"foo\")" => has_hash_of_pair(0, "foo");
-        row "hash of wrap::<64>(18, \"foobar\") is that of the pair" => has_hash_of_pair(18, "foobar");
+        "m.resize::<2>()" => Found(m.resize::<2>(), &[]);
+        "m.truncate(3) against wrap::<64>(0, \"foo\")" => compared(m.truncate(3), value(0, "foo"));
+        "m.truncate(1) against wrap::<64>(0, \"f\")" => compared(m.truncate(1), value(0, "f"));
+        "m.truncate(9) against m" => compared(m.truncate(9), m);
+        "wrap::<4>(0, \"ab\").truncate(1) against wrap::<4>(0, \"a\")"
+            => compared::<4>(value::<4>(0, "ab").truncate(1), value(0, "a"));
+        "hash of wrap::<64>(0, \"foo\") is that of (0u64, \"foo\")" => has_hash_of_pair(0, "foo");
+        "hash of wrap::<64>(18, \"foobar\") is that of the pair" => has_hash_of_pair(18, "foobar");
     );
 }
 
@@ -101,48 +102,25 @@ fn is_same_resized<const R: usize>(m: Multihash<6>) -> bool
 pub fn print_tail(page: &mut Page) {
     page.heading("m = wrap::<6>(0, \"foobar\").truncate(3)");
     let m = value::<6>(0, "foobar").truncate(3);
-    page.encoded("m.to_bytes()", m.to_bytes(page.alloc));
+    print_bytes(page, "m.to_bytes()", &m);
     print_scale(page, "m.scale_encode()", &m);
     print_json(page, "m.to_value()", &m);
     print_inner(page, "m.into_inner()", m);
     let other = value(0, "fooxyz").truncate(3);
     rows!(page;
-        row "m against wrap::<6>(0, \"foo\")" => compared(m, value(0, "foo"));
-        row "m against wrap::<6>(0, \"fooxyz\").truncate(3)" => compared(m, other);
-        pair "m.truncate(5)" => m.truncate(5);
-        found "m.resize::<3>()" => m.resize::<3>(), &[];
-        row "m.resize::<3>().same_as(&m)" => is_same_resized::<3>(m);
-        row "m.resize::<300>().same_as(&m)" => is_same_resized::<300>(m);
+        "m against wrap::<6>(0, \"foo\")" => compared(m, value(0, "foo"));
+        "m against wrap::<6>(0, \"fooxyz\").truncate(3)" => compared(m, other);
+        "m.truncate(5)" => Pair(m.truncate(5));
+        "m.resize::<3>()" => Found(m.resize::<3>(), &[]);
+        "m.resize::<3>().same_as(&m)" => is_same_resized::<3>(m);
+        "m.resize::<300>().same_as(&m)" => is_same_resized::<300>(m);
     );
-}
-
-fn print_order<const S: usize>(page: &mut Page)
-    requires { S < 2 ^ 16 }
-{
-    page.put("Order of values of capacity ");
-    page.put(S);
-    page.heading("");
-    rows!(page;
-        row "wrap(0, \"zzz\") against wrap(1, \"\")" => compared::<S>(value(0, "zzz"), value(1, ""));
-        row "wrap(0, \"b\") against wrap(0, \"aa\")" => compared::<S>(value(0, "b"), value(0, "aa"));
-        row "wrap(0, \"ab\") against wrap(0, \"ac\")" => compared::<S>(value(0, "ab"), value(0, "ac"));
-        row "wrap(0, \"ab\").truncate(1) against wrap(0, \"a\")"
-            => compared::<S>(value::<S>(0, "ab").truncate(1), value(0, "a"));
-        row "wrap(1, \"a\") against wrap(0, \"a\")" => compared::<S>(value(1, "a"), value(0, "a"));
-    );
-}
-
-pub fn print_orders(page: &mut Page) {
-    print_order::<4>(page);
-    print_order::<12>(page);
 }
 
 fn print_same(page: &mut Page, code: u64, digest: &str) {
-    page.put("wrap::<4>(0, \"ab\").same_as(&wrap::<300>");
-    page.put_pair(value::<300>(code, digest));
-    page.call(")");
-    page.put(value::<4>(0, "ab").same_as(&value::<300>(code, digest)));
-    page.end();
+    let other = value::<300>(code, digest);
+    let call = format_args!("wrap::<4>(0, \"ab\").same_as(&wrap::<300>{})", Pair(other));
+    page.row(call, value::<4>(0, "ab").same_as(&other));
 }
 
 pub fn print_same_values(page: &mut Page) {
