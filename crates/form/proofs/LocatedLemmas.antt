@@ -42,90 +42,88 @@ module _ {A : Type 0} {IsForm : A → List ℕ → Type 0} {Rejects : FormError 
   truncated_last x part whole is (more, strict, cut) (y, c, left, is_c, split) =
       strict (no_bytes left more (unique y x c whole (left ++ more) [] is_c is (longer part c left whole more split cut)).1)
 
-  -- the clause `found`
-  pub found_memory : (input : List ℕ) (y : LocatedError) → IsFirstError IsForm Rejects input y → (xs : List A)
-      → AreParts IsForm xs input → IsFailed IsOutOfMemory y.error
-  found_memory input y first xs are = elim first.cause [
-    | inl memory ↦ memory
-    | inr (inl (shown, more, rejects, split, _)) ↦ absurd (first.some (place (λ next.
-        rejected_last y.error shown more rejects (subst (λ (l : List ℕ). Next IsForm l) split next))))
-    | inr (inr (_, u, _)) ↦ absurd (first.some (place (λ next. u.no_form next.0 next.1 next.2 next.4 next.3)))
-  ]
-    where
-      place : ¬ (Next IsForm first.rest) → first.rest ≡ []
-      place last = (same_place first.items xs first.front input first.rest [] first.are_items are
-          (sym first.parts ∙ sym (append-nil input)) last none_next).1
+  module _ (input : List ℕ) (y : LocatedError) (first : IsFirstError IsForm Rejects input y) where
+    -- the error is where no value comes next, or it is out of memory
+    located : (xs : List A) (front rest : List ℕ) → AreParts IsForm xs front → input ≡ front ++ rest → ¬ (Next IsForm rest)
+        → IsFailed IsOutOfMemory y.error ⊎ ((length first.items ≡ length xs) × (first.rest ≡ rest))
+    located xs front rest are cut end = elim first.cause [
+      | inl memory ↦ inl memory
+      | inr (inl (shown, more, rejects, split, _)) ↦ inr (place (λ next.
+          rejected_last y.error shown more rejects (subst (λ (l : List ℕ). Next IsForm l) split next)))
+      | inr (inr (_, u, _)) ↦ inr (place (λ next. u.no_form next.0 next.1 next.2 next.4 next.3))
+    ]
+      where
+        place : ¬ (Next IsForm first.rest) → (length first.items ≡ length xs) × (first.rest ≡ rest)
+        place last = same_place first.items xs first.front front first.rest rest first.are_items are (sym first.parts ∙ cut) last end
 
-  at : (input : List ℕ) (y : LocatedError) (first : IsFirstError IsForm Rejects input y) (xs : List A) (front rest : List ℕ)
-      (offset : ℕ) → length first.items ≡ length xs → first.rest ≡ rest → input ≡ front ++ rest → y.offset ≡ offset
-      → IsAt y (length xs) (length front) offset
-  at input y first xs front rest offset many same cut is = (
-    first.item ∙ many,
-    omega (
-      arith,
-      first.start,
-      ap length same,
-      ap length cut,
-      ap length first.parts,
-      length-append front rest,
-      length-append first.front first.rest,
-    ),
-    is,
-  )
+    -- the clause `found`
+    pub found_memory : (xs : List A) → AreParts IsForm xs input → IsFailed IsOutOfMemory y.error
+    found_memory xs are = elim (located xs input [] are (sym (append-nil input)) none_next) [
+      | inl memory ↦ memory
+      | inr (_, none) ↦ absurd (first.some none)
+    ]
 
-  -- the clause `rejected`
-  pub rejected_at : (input : List ℕ) (y : LocatedError) → IsFirstError IsForm Rejects input y → (xs : List A) (e : FormError)
-      (front shown more : List ℕ) → AreParts IsForm xs front → Rejects e shown → input ≡ front ++ (shown ++ more)
-      → ((y.error ≡ e) × IsAt y (length xs) (length front) (length front + length shown)) ⊎ IsFailed IsOutOfMemory y.error
-  rejected_at input y first xs e front shown more are rejects cut = elim first.cause [
-    | inl memory ↦ inr memory
-    | inr (inl (also, left, is, split, offset)) ↦
-        let (many, same) = place (λ next. rejected_last y.error also left is (subst (λ (l : List ℕ). Next IsForm l) split next)) in
-        let (one, rest) = once y.error e also shown left more is rejects (sym split ∙ same) in
-        inl (
-          one,
-          at input y first xs front (shown ++ more) (length front + length shown) many same cut
-              (omega (
-                arith,
-                offset,
-                ap length same,
-                ap length split,
-                ap length rest,
-                ap length cut,
-                ap length first.parts,
-                length-append front (shown ++ more),
-                length-append shown more,
-                length-append also left,
-                length-append first.front first.rest,
-              )),
-        )
-    | inr (inr (_, u, _)) ↦
-        absurd (u.no_error e shown more (place (λ next. u.no_form next.0 next.1 next.2 next.4 next.3)).1 rejects)
-  ]
-    where
-      place : ¬ (Next IsForm first.rest) → (length first.items ≡ length xs) × (first.rest ≡ shown ++ more)
-      place last = same_place first.items xs first.front front first.rest (shown ++ more) first.are_items are
-          (sym first.parts ∙ cut) last (rejected_last e shown more rejects)
+    at : (xs : List A) (front rest : List ℕ) (offset : ℕ) → length first.items ≡ length xs → first.rest ≡ rest → input ≡ front ++ rest
+        → y.offset ≡ offset → IsAt y (length xs) (length front) offset
+    at xs front rest offset many same cut is = (
+      first.item ∙ many,
+      omega (
+        arith,
+        first.start,
+        ap length same,
+        ap length cut,
+        ap length first.parts,
+        length-append front rest,
+        length-append first.front first.rest,
+      ),
+      is,
+    )
 
-  -- the clause `truncated`
-  pub truncated_at : (input : List ℕ) (y : LocatedError) → IsFirstError IsForm Rejects input y → (xs : List A) (x : A)
-      (front part whole : List ℕ) → AreParts IsForm xs front → IsForm x whole → IsStrictPrefix part whole
-      → input ≡ front ++ part
-      → (IsFailed IsTruncated y.error × IsAt y (length xs) (length front) (length input)) ⊎ IsFailed IsOutOfMemory y.error
-  truncated_at input y first xs x front part whole are is strict cut = elim first.cause [
-    | inl memory ↦ inr memory
-    | inr (inl (also, left, rejects, split, offset)) ↦
-        let (many, same) = place (λ next. rejected_last y.error also left rejects (subst (λ (l : List ℕ). Next IsForm l) split next)) in
-        absurd (not_both x y.error whole also [] (left ++ strict.0) is rejects
-        (sym (longer part also left whole strict.0 (sym same ∙ split) strict.2)))
-    | inr (inr (ends, u, offset)) ↦
-        let (many, same) = place (λ next. u.no_form next.0 next.1 next.2 next.4 next.3) in
-        inl (ends, at input y first xs front part (length input) many same cut offset)
-  ]
-    where
-      place : ¬ (Next IsForm first.rest) → (length first.items ≡ length xs) × (first.rest ≡ part)
-      place last = same_place first.items xs first.front front first.rest part first.are_items are
-          (sym first.parts ∙ cut) last (truncated_last x part whole is strict)
+    -- the clause `rejected`
+    pub rejected_at : (xs : List A) (e : FormError) (front shown more : List ℕ) → AreParts IsForm xs front → Rejects e shown
+        → input ≡ front ++ (shown ++ more)
+        → ((y.error ≡ e) × IsAt y (length xs) (length front) (length front + length shown)) ⊎ IsFailed IsOutOfMemory y.error
+    rejected_at xs e front shown more are rejects cut = elim (located xs front (shown ++ more) are cut (rejected_last e shown more rejects)) [
+      | inl memory ↦ inr memory
+      | inr (many, same) ↦ elim first.cause [
+        | inl memory ↦ inr memory
+        | inr (inl (also, left, is, split, offset)) ↦
+            let (one, rest) = once y.error e also shown left more is rejects (sym split ∙ same) in
+            inl (
+              one,
+              at xs front (shown ++ more) (length front + length shown) many same cut
+                  (omega (
+                    arith,
+                    offset,
+                    ap length same,
+                    ap length split,
+                    ap length rest,
+                    ap length cut,
+                    ap length first.parts,
+                    length-append front (shown ++ more),
+                    length-append shown more,
+                    length-append also left,
+                    length-append first.front first.rest,
+                  )),
+            )
+        | inr (inr (_, u, _)) ↦ absurd (u.no_error e shown more same rejects)
+      ]
+    ]
+
+    -- the clause `truncated`
+    pub truncated_at : (xs : List A) (x : A) (front part whole : List ℕ) → AreParts IsForm xs front → IsForm x whole
+        → IsStrictPrefix part whole → input ≡ front ++ part
+        → (IsFailed IsTruncated y.error × IsAt y (length xs) (length front) (length input)) ⊎ IsFailed IsOutOfMemory y.error
+    truncated_at xs x front part whole are is strict cut = elim (located xs front part are cut (truncated_last x part whole is strict)) [
+      | inl memory ↦ inr memory
+      | inr (many, same) ↦ elim first.cause [
+        | inl memory ↦ inr memory
+        | inr (inl (also, left, rejects, split, offset)) ↦
+            absurd (not_both x y.error whole also [] (left ++ strict.0) is rejects
+            (sym (longer part also left whole strict.0 (sym same ∙ split) strict.2)))
+        | inr (inr (ends, u, offset)) ↦ inl (ends, at xs front part (length input) many same cut offset)
+      ]
+    ]
 
   -- values that fill the input leave no place for an error
   pub none_rejected : (input : List ℕ) (ys xs : List A) → AreParts IsForm ys input → (e : FormError) (front shown more : List ℕ)

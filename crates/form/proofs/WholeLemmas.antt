@@ -1,16 +1,17 @@
 -- Reading a value that comes next, or an input that ends within it: for `whole`, `all`, `laws` and `stream`.
 use Rattle.std.proofs.Common.{◌≡◌, ℕ, ◌<◌, ◌⊎◌, inl, inr, List, [], ◌∷◌, ◌++◌, length, Option, Some, Bool, true, refl}
 use Rattle.std.proofs.Common.{sym, ap, subst, ◌∙◌, append_assoc, append-nil, arith}
-use Rattle.std.specs.Prelude.{◌==◌, false, Result, Ok, Err, MatchResult, IfOk, IfErr, IsErrAnd}
+use Rattle.std.specs.Prelude.{◌==◌, false, Result, Ok, Err, IfOk, IfErr, IsErrAnd}
 use Rattle.std.proofs.lemmas.Bool.{eqb-true, eq-eqb}
+use Rattle.std.proofs.lemmas.List.{nil_from_length}
 use Rattle.multihash.specs.Bytes.{IsStrictPrefix}
-use Rattle.multihash.specs.Reading.{Consumes, CountsReaderFailures}
+use Rattle.multihash.specs.Reading.{Consumes}
 use Rattle.multihash.specs.Consuming.{ConsumesSome}
 use Rattle.multihash.proofs.ReadingLemmas.{Consumes-known}
 use Rattle.multihash.specs.Refusal.{IsOutOfMemory}
 use Rattle.form.specs.Laws.Pairs.{Determine, Exclude}
 use Rattle.form.specs.FormError.{IsFailed, IsTruncated}
-use Rattle.form.specs.Rejecting.{IsUndecided, StopsAt, ReadStops, IsWholeError}
+use Rattle.form.specs.Rejecting.{IsUndecided, StopsAt, ReadStops}
 use Rattle.form.specs.declared.error.FormError.{FormError}
 
 -- a part of some bytes, and what follows it in them
@@ -58,24 +59,6 @@ form_truncated unique not_both same new (Err e) ok err x bytes part is (more, so
   | inr (inr (ends, _)) ↦ inl ends
 ]
 
--- the clause `err` of `from_bytes`, from that of `read`
-pub whole_error : {A : Type 0} {IsForm : A → List ℕ → Type 0} {Rejects : FormError → List ℕ → Type 0} {before after : ℕ} {e : FormError}
-    {input : List ℕ} {new : Option (List ℕ)} → after ≡ before → ReadStops IsForm Rejects before after e (Some input) new
-    → IsWholeError IsForm Rejects e input
-whole_error {input = input} same stops = elim (stopped input same refl stops) [
-  | inl memory ↦ inl memory
-  | inr (inl (shown, left, rejects, _, cut)) ↦ inr (inl (shown, left, rejects, cut))
-  | inr (inr ends) ↦ inr (inr (inl ends))
-]
-
--- the clause `back` of `through`, if the value was written: W is how the writer may fail
-pub read_back : {A E : Type 0} (IsMemory Own Listed W : E → Type 0) (Found : A → Type 0) {before after : ℕ} (r : Result A E)
-    → CountsReaderFailures Own Listed before after r → (after ≡ before → MatchResult r Found IsMemory)
-    → MatchResult r Found (λ e. IsMemory e ⊎ W e ⊎ ((before < after) × Own e))
-read_back IsMemory Own Listed W Found (Ok y) faults found = found faults
-read_back IsMemory Own Listed W Found (Err e) (inl failed) found = inr (inr failed)
-read_back IsMemory Own Listed W Found (Err e) (inr (same, _)) found = inl (found same)
-
 -- what holds of an error holds of the error that a `?` returns, which equals it
 pub if_passed : {T E : Type 0} (P : E → Type 0) (r : Result T E) (e : E) → IsErrAnd r (λ x. x ≡ e) → P e
     → IsErrAnd r P
@@ -88,11 +71,7 @@ known_is a b is = cc
 
 -- a list that `is_empty` is true of
 pub empty_is : (l : List ℕ) (b : Bool) → b ≡ (length l == 0) → b ≡ true → l ≡ []
-empty_is l b is holds = none l (eqb-true (length l) 0 (sym is ∙ holds))
-  where
-    none : (m : List ℕ) → length m ≡ 0 → m ≡ []
-    none [] h = refl
-    none (x ∷ m) h = absurd (omega (arith, h))
+empty_is l b is holds = nil_from_length l (eqb-true (length l) 0 (sym is ∙ holds))
 
 -- a list that `is_empty` is false of
 pub not_empty : (l : List ℕ) (b : Bool) → b ≡ (length l == 0) → b ≡ false → l ≡ [] → ⊥

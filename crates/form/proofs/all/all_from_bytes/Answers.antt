@@ -45,9 +45,3 @@ returns-clause-found g c xs all =
       ))
       | inr (inr over) ↦ absurd (omega (arith, over.1))
     ]
-
-pub returns-in_err-item-clause-err : goal.returns-in_err-item-clause-err
-returns-in_err-item-clause-err g c =
-    let (front, parts, cut) = c.loop-rest.invariant in
-    rw (passed_error c.from_residual.result _ c.from_residual.ensures.1)
-    (c.loop-rest.items.items, front, c.loop-rest.rest.now, parts, cut, c.in_err-item.ensures.err)
