@@ -1,6 +1,4 @@
 pub mod BothLemmas
-pub mod CaseLemmas
-pub mod CountedLemmas
 mod FormExamples
 pub mod FormLemmas
 pub mod LocatedLemmas

@@ -4,13 +4,13 @@ use Rattle.std.proofs.Common.{Some, refl, sym, ap, subst, ◌∙◌, arith}
 use Rattle.multihash.specs.Bytes.{IsStrictPrefix}
 use Rattle.multihash.specs.Streams.{AreParts}
 use Rattle.multihash.specs.Refusal.{IsOutOfMemory}
-use Rattle.form.specs.Laws.Pairs.{Determine, Exclude}
+use Rattle.form.specs.Laws.Parts.{Determine, Exclude}
 use Rattle.form.specs.FormError.{IsFailed, IsTruncated}
 use Rattle.form.specs.Located.{IsAt, IsFirstError}
 use Rattle.form.specs.Rejecting.{IsUndecided, ReadStops}
 use Rattle.form.specs.declared.error.FormError.{FormError}
 use Rattle.form.specs.declared.located.LocatedError.{LocatedError}
-use Rattle.form.proofs.CountedLemmas.{Next, parts_compared}
+use Rattle.form.proofs.WholeLemmas.{Next, parts_compared}
 use Rattle.form.proofs.WholeLemmas.{known_is, longer, no_bytes, stopped}
 
 module _ {A : Type 0} {IsForm : A → List ℕ → Type 0} {Rejects : FormError → List ℕ → Type 0} {Same : A → A → Type 0}

@@ -8,11 +8,10 @@ use Rattle.multihash.specs.Streams.{AreParts}
 use Rattle.multihash.specs.Reading.{Consumes}
 use Rattle.multihash.specs.Consuming.{ConsumesSome}
 use Rattle.multihash.proofs.ReadingLemmas.{Consumes-known, Consumes-none, Consumes-concatenated, prepend_known-append}
-use Rattle.form.specs.Laws.Pairs.{Determine, Exclude}
+use Rattle.form.specs.Laws.Parts.{Determine, Exclude, number_unique}
 use Rattle.form.specs.Form.{Then}
-use Rattle.form.specs.Laws.Parts.{number_unique}
 use Rattle.form.specs.Laws.Rejected.{number_not_both}
-use Rattle.form.specs.Rejecting.{RejectsInTurn, RejectsNumberThen, AreItems, RejectsItem, IsUndecided, StopsAt, ReadStops}
+use Rattle.form.specs.Rejecting.{RejectsInTurn, RejectsNumberThen, AreItems, RejectsItem, RejectsCase, IsUndecided, StopsAt, ReadStops}
 use Rattle.form.specs.declared.error.FormError.{FormError}
 
 module _ {A B : Type 0} {IsA : A → List ℕ → Type 0} {IsB : B → List ℕ → Type 0} {RejectsA RejectsB : FormError → List ℕ → Type 0} where
@@ -179,3 +178,23 @@ nothing_stops some rejects_some {old = Some input} {new = new} failed kept = rec
     ));
   });
 }
+
+-- what follows the tag of a case, if the tag is that of the case, and if it is another one
+module _ {A B : Type 0} {M n : ℕ} {IsA : A → List ℕ → Type 0} {IsB : B → List ℕ → Type 0} {Rejects : FormError → List ℕ → Type 0}
+    (RejectsOther : ℕ → FormError → List ℕ → Type 0) {before after : ℕ} {e : FormError} {old new : Option (List ℕ)}
+    (form : (y : B) (bytes : List ℕ) → IsB y bytes → (x : A) × IsA x bytes) where
+  pub own_stops : n ≡ M → ReadStops IsA Rejects before after e old new
+      → ReadStops IsB (RejectsCase Rejects RejectsOther M n) before after e old new
+  own_stops is = stops_as form (λ f bytes rejects. inl (is, rejects)) own
+    where
+      own : (f : FormError) (bytes : List ℕ) → RejectsCase Rejects RejectsOther M n f bytes → Rejects f bytes
+      own f bytes (inl (_, rejects)) = rejects
+      own f bytes (inr (not, _)) = absurd (not is)
+
+  pub other_stops : ¬ (n ≡ M) → ReadStops IsA (RejectsOther n) before after e old new
+      → ReadStops IsB (RejectsCase Rejects RejectsOther M n) before after e old new
+  other_stops not = stops_as form (λ f bytes rejects. inr (not, rejects)) other
+    where
+      other : (f : FormError) (bytes : List ℕ) → RejectsCase Rejects RejectsOther M n f bytes → RejectsOther n f bytes
+      other f bytes (inl (is, _)) = absurd (not is)
+      other f bytes (inr (_, rejects)) = rejects

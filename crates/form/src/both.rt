@@ -21,7 +21,7 @@ pub struct Both<A, B> {
 }
 
 impl<A: Form + Drop, B: Form> Form for Both<A, B> {
-    ghost use Rattle.form.specs.Laws.Pairs.{then_exists, then_unique, then_one, then_some};
+    ghost use Rattle.form.specs.Laws.Parts.{then_exists, then_unique, then_one, then_some};
     ghost use Rattle.form.specs.Rejecting.{RejectsInTurn};
     ghost use Rattle.form.specs.Laws.Rejected.{turn_not_both, turn_unique, turn_some, turn_has};
 

@@ -24,8 +24,7 @@ impl<C: Cases> Form for Choice<C> {
     ghost use Rattle.form.specs.Form.{Then};
     ghost use Rattle.form.specs.FormError.{IsFailed};
     ghost use Rattle.form.specs.Rejecting.{RejectsNumberThen};
-    ghost use Rattle.form.specs.Laws.Pairs.{then_exists, then_some};
-    ghost use Rattle.form.specs.Laws.Parts.{number_exists};
+    ghost use Rattle.form.specs.Laws.Parts.{then_exists, then_some, number_exists};
     ghost use Rattle.form.specs.Laws.Rejected.{from_not_both, from_unique, from_some, from_not_truncated};
     ghost use Rattle.form.specs.Laws.Cases.{choice_unique, choice_one};
 

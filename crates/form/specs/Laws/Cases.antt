@@ -2,8 +2,7 @@
 use Rattle.std.proofs.Common.{◌≡◌, ◌<◌, inl, inr, ℕ, List, refl, sym, ◌∙◌}
 use Rattle.multihash.specs.Varint.{IsVarint, varint_limit}
 use Rattle.form.specs.Form.{Then}
-use Rattle.form.specs.Laws.Pairs.{Determine, Exclude, next_unique, then_one}
-use Rattle.form.specs.Laws.Parts.{number_unique, number_one}
+use Rattle.form.specs.Laws.Parts.{Determine, Exclude, next_unique, then_one, number_unique, number_one}
 use Rattle.form.specs.Laws.Rejected.{IsNotTruncated, here_unique}
 use Rattle.form.specs.Rejecting.{RejectsCase, RejectsNoCase}
 use Rattle.form.specs.Case.{case_tag, IsCaseValue, AreSameCase}

@@ -1,11 +1,11 @@
--- The laws of each form: an encoding exists, is unique, is the only one of its value, and is not empty.
-use Rattle.std.proofs.Common.{◌≡◌, ℕ, ◌<◌, ◌^◌, List, [], ◌∷◌, ◌++◌, length, refl, sym, ap, ◌∙◌, subst, arith}
+-- The laws of encodings: one exists, is unique, is the only one of its value, and is not empty; for two parts, one after the
+-- other, from those of each, and for each form.
+use Rattle.std.proofs.Common.{◌≡◌, ℕ, ◌<◌, ◌^◌, List, [], ◌∷◌, ◌++◌, length, length-append, refl, sym, ap, ◌∙◌, append_assoc, subst, arith}
 use Rattle.std.specs.Int.{bytes_low_first, bytes_high_first}
 use Rattle.byteorder.specs.Endian.{big_from, little_from}
 use Rattle.byteorder.specs.Numbers.{big_number-reads_back, little_number-reads_back, length-bytes_high_first, length-bytes_low_first}
 use Rattle.multihash.specs.Streams.{AreParts}
 use Rattle.form.specs.Form.{Then, IsBlock, AreSame}
-use Rattle.form.specs.Laws.Pairs.{Determine, then_exists, then_unique, next_unique, then_one, then_some}
 use Rattle.multihash.specs.Varint.{IsVarint, varint_limit}
 use Rattle.multihash.proofs.VarintLemmas.{varint_unique, varint_same, varint_some}
 use Rattle.multihash.proofs.VarintWriteLemmas.{varint_exists}
@@ -14,6 +14,51 @@ use Rattle.multihash.specs.Pair.{Pair}
 use Rattle.multihash.specs.Encoding.{IsEncoding, encoding_of}
 use Rattle.multihash.proofs.EncodingLemmas.{same_cut, encoding_of_value, encoding_unique, encoding_same}
 use Rattle.multihash.proofs.StreamLemmas.{encoding_some}
+
+-- ---- two parts
+
+-- if bytes of which P holds and bytes of which Q holds start one input, S holds, and the same follows both
+abbrev pub Determine : (P Q : List ℕ → Type 0) → Type 0 → Type 0
+Determine P Q S = (a b r s : List ℕ) → P a → Q b → a ++ r ≡ b ++ s → S × (r ≡ s)
+
+-- no input starts with bytes of which P holds and with bytes of which Q holds
+abbrev pub Exclude : (P Q : List ℕ → Type 0) → Type 0
+Exclude P Q = (a b r s : List ℕ) → P a → Q b → a ++ r ≡ b ++ s → ⊥
+
+-- an encoding exists if one of each part exists
+pub then_exists : {P Q : List ℕ → Type 0} → (a : List ℕ) × P a → (b : List ℕ) × Q b → (bytes : List ℕ) × Then P Q bytes
+then_exists (a, is_a) (b, is_b) =
+    (a ++ b, record { first = a; second = b; is_first = is_a; is_second = is_b; parts = refl })
+
+-- two encodings determine S and T if their parts do
+pub then_unique : {P Q P' Q' : List ℕ → Type 0} {S T : Type 0} → Determine P P' S → (S → Determine Q Q' T)
+    → Determine (Then P Q) (Then P' Q') (S × T)
+then_unique one two a b r s x y cut =
+    let joined : x.first ++ (x.second ++ r) ≡ y.first ++ (y.second ++ s) =
+    sym (append_assoc x.first x.second r) ∙ ap (λ (l : List ℕ). l ++ r) (sym x.parts) ∙ cut
+    ∙ ap (λ (l : List ℕ). l ++ s) y.parts ∙ append_assoc y.first y.second s in
+    let told = one x.first y.first (x.second ++ r) (y.second ++ s) x.is_first y.is_first joined in
+    let rest = two told.0 x.second y.second r s x.is_second y.is_second told.1 in
+    ((told.0, rest.0), rest.1)
+
+-- and so T alone
+pub next_unique : {P Q P' Q' : List ℕ → Type 0} {S T : Type 0} → Determine P P' S → (S → Determine Q Q' T)
+    → Determine (Then P Q) (Then P' Q') T
+next_unique one two a b r s x y cut = let told = then_unique one two a b r s x y cut in (told.0.1, told.1)
+
+-- there is only one encoding if each part has only one
+pub then_one : {P Q P' Q' : List ℕ → Type 0} (a b : List ℕ) → ((c d : List ℕ) → P c → P' d → c ≡ d)
+    → ((c d : List ℕ) → Q c → Q' d → c ≡ d) → Then P Q a → Then P' Q' b → a ≡ b
+then_one a b one two x y =
+    cc (x.parts, y.parts, one x.first y.first x.is_first y.is_first, two x.second y.second x.is_second y.is_second)
+
+-- the encoding is not empty if the first part's is not
+pub then_some : {P Q : List ℕ → Type 0} → ((a : List ℕ) → P a → 0 < length a) → (bytes : List ℕ) → Then P Q bytes
+    → 0 < length bytes
+then_some some bytes x =
+    omega (arith, some x.first x.is_first, ap length x.parts, length-append x.first x.second)
+
+-- ---- each form
 
 -- a multihash has an encoding
 pub multihash_exists : {S : ℕ} (m : Fields S) → (bytes : List ℕ) × IsEncoding (pair_of m) bytes

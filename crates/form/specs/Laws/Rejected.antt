@@ -16,8 +16,7 @@ use Rattle.multihash.proofs.SettlingLemmas.{compare_prefixes, error_kept, error_
 use Rattle.multihash.proofs.CallingLemmas.{front_error_unique, encoding_no_error, error_of_unique}
 use Rattle.form.specs.Form.{Then, IsBlock}
 use Rattle.form.specs.FormError.{IsFailed, IsTruncated}
-use Rattle.form.specs.Laws.Pairs.{Determine, Exclude, next_unique, then_some}
-use Rattle.form.specs.Laws.Parts.{number_unique, number_some}
+use Rattle.form.specs.Laws.Parts.{Determine, Exclude, next_unique, then_some, number_unique, number_some}
 use Rattle.form.specs.Rejecting.{IsShortest, ShowsMalformed, ShowsError, RejectsNumber, RejectsMultihash}
 use Rattle.form.specs.Rejecting.{RejectsNumberThen, RejectsItem, RejectsOtherTag, RejectsTooLong, RejectsCounted}
 use Rattle.form.specs.declared.error.FormError.{FormError}

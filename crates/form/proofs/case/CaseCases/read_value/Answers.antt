@@ -1,4 +1,4 @@
--- The tag decides what is read, the value of this case or one of the others, and `CaseLemmas` has what an error of either shows.
+-- The tag decides what is read, the value of this case or one of the others, and `StopLemmas` has what an error of either shows.
 use Rattle.std.proofs.Common.{◌≡◌, ℕ, List, sym, ◌∙◌, arith}
 use Rattle.multihash.proofs.OutcomeLemmas.{passed_error}
 use Rattle.form.specs.Case.{case_tag, IsCaseValue}
@@ -6,7 +6,7 @@ use Rattle.form.specs.Rejecting.{IsCase}
 use Rattle.form.specs.declared.case.Case.{Case}
 use Rattle.form.specs.declared.case.Case.TheVariants.{This, Other}
 use Rattle.form.specs.declared.case.Others.{Others}
-use Rattle.form.proofs.CaseLemmas.{own_stops, other_stops}
+use Rattle.form.proofs.StopLemmas.{own_stops, other_stops}
 use Rattle.form.proofs.case.CaseCases.read_value.Goals as goal
 
 module _ {A C : Type 0} {M : ℕ} {bound : _} (n : ℕ) (tag_of : C → ℕ) (IsA : A → List ℕ → Type 0)

@@ -1,7 +1,7 @@
 use Rattle.std.proofs.Common.{◌≡◌, arith}
 use Rattle.multihash.proofs.OutcomeLemmas.{passed_error}
 use Rattle.form.specs.Rejecting.{RejectsNoCase}
-use Rattle.form.proofs.CaseLemmas.{own_stops}
+use Rattle.form.proofs.StopLemmas.{own_stops}
 use Rattle.form.proofs.case.TaggedCases.read_value.Goals as goal
 
 pub returns-in_err-value-clause-err : goal.returns-in_err-value-clause-err

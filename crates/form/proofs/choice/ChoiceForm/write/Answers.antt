@@ -1,3 +1,4 @@
+-- A choice is its tag and then its value, so writing stops as that of two parts (`BothLemmas`).
 use Rattle.std.proofs.lemmas.Result.{on_ok_weaker, on_err_weaker}
 use Rattle.multihash.proofs.OutcomeLemmas.{OnErr-always}
 use Rattle.form.proofs.BothLemmas.{then_stops_first, then_stops_second, then_written}

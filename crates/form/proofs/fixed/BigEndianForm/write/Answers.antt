@@ -1,3 +1,4 @@
+-- The last N of the 8 bytes of a number are its lowest N, as `byteorder` shows.
 use Rattle.std.proofs.Common.{◌-◌, ◌∙◌, ℕ, List, ap}
 use Rattle.std.specs.Prelude.{take, drop}
 use Rattle.multihash.proofs.OutcomeLemmas.{OnErr-always}

@@ -1,3 +1,4 @@
+-- The first N of the 8 bytes of a number are its lowest N, as `byteorder` shows.
 use Rattle.std.proofs.Common.{◌∙◌, ap}
 use Rattle.std.specs.Prelude.{take}
 use Rattle.multihash.proofs.OutcomeLemmas.{OnErr-always}

@@ -9,10 +9,10 @@ use Rattle.multihash.specs.Reading.{Consumes}
 use Rattle.multihash.specs.Streams.{AreParts}
 use Rattle.multihash.proofs.ReadingLemmas.{Consumes-known, Consumes-none, Consumes-concatenated}
 use Rattle.multihash.proofs.StreamLemmas.{parts_push}
-use Rattle.form.specs.Laws.Pairs.{Determine}
+use Rattle.form.specs.Laws.Parts.{Determine}
 use Rattle.form.specs.FormError.{IsFailed}
 use Rattle.form.specs.Stream.{rest_from, AppendsValues, AppendsSame}
-use Rattle.form.proofs.CountedLemmas.{Next, parts_compared}
+use Rattle.form.proofs.WholeLemmas.{Next, parts_compared}
 use Rattle.form.proofs.StopLemmas.{stops_later}
 use Rattle.form.proofs.stream.Stream.read_up_to.Goals as goal
 
