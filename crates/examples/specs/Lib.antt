@@ -1,3 +1,2 @@
 pub mod Content
-pub mod Node
 pub mod PeerId

@@ -11,7 +11,6 @@ ghost use Rattle.form.specs.FormError.{IsFailed, IsTruncated};
 ghost use Rattle.form.specs.Rejecting.{IsReadError, ReadStops};
 ghost use Rattle.form.specs.Stream.{rest_from, AppendsUpTo, AppendsSame};
 ghost use Rattle.form.specs.declared.error.FormError.TheVariants.{Trailing};
-ghost use Rattle.examples.specs.Node.{IsNode};
 
 use form::{
     BigEndian, Block, Both, Bytes, Case, Choice, Counted, Form, FormError, LittleEndian, Number,
@@ -140,23 +139,6 @@ pub fn read_entries<R: Read>(
         × (rest_from log.new.ahead (R.rest log.new.inner) ≡ Some more)) (IsFailed IsOutOfMemory) }
 {
     log.read_up_to::<LogEntry>(alloc, n, list)
-}
-
-/// Appends the encoding of a node: the version, the number of links, the links, the length of the content
-/// and the content.
-///
-/// # Errors
-///
-/// The writer's error. A strict prefix of the encoding has been appended then.
-pub fn write_node<W: Write>(node: &Node, w: &mut W) -> Result<(), FormError>
-    ensures ok { OnOk result (AppendsSome W.appended (IsNode node.now.first.value
-        node.now.second.first.items.items node.now.second.second.bytes.items) w.old w.new) }
-    ensures err { OnErr result (AppendsPrefixOfSome W.appended (IsNode node.now.first.value
-        node.now.second.first.items.items node.now.second.second.bytes.items) w.old w.new) }
-    ensures faults { CountsWriterFailures (λ P. IsFailed (IsIo P)) W.allocates
-        (W.failures w.old) (W.failures w.new) (W.full w.new) result }
-{
-    node.write(w)
 }
 
 /// Writes a node to a writer, and reads one from a reader whose known input is what was appended and then

@@ -49,7 +49,7 @@ impl From<Error> for PeerError {
 ///
 /// # Errors
 ///
-/// The variant of [`PeerError`] that applies: no two do.
+/// The variant of [`PeerError`] that applies.
 #[tactic(auto, using(multihash::proofs::CallingLemmas::head_of_encoding))]
 pub fn read_peer(bytes: &[u8]) -> Result<Multihash<42>, PeerError>
     ensures ok { IfOk result (λ peer. IsPeer (pair_of peer) × IsEncoding (pair_of peer) bytes.now) }
@@ -68,12 +68,6 @@ pub fn read_peer(bytes: &[u8]) -> Result<Multihash<42>, PeerError>
     }
     Ok(Multihash::wrap(code, digest).unwrap())
 }
-
-/// Bytes that are no identifier have one error.
-#[tactic(auto, using(crate::proofs::PeerLemmas::fails_once))]
-pub fn one_error()
-    ensures { (bytes : List ℕ) (e f : PeerError) → PeerFails bytes e → PeerFails bytes f → e ≡ f }
-{}
 
 /// Whether the bytes are the peer's encoding.
 pub fn is_peer<const S: usize>(peer: &Multihash<S>, bytes: &[u8]) -> bool

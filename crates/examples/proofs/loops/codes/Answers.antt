@@ -1,19 +1,13 @@
 -- The loop keeps that the bytes consumed so far are the encodings of the pairs whose codes it has; an encoding is not empty, so
 -- as many turns as there are bytes are enough.
-use Rattle.std.proofs.Common.{◌≡◌, [], ◌∷◌, ◌++◌, length, refl, sym, ap, ◌∙◌, subst, arith, rules, append-nil, append_assoc, length-append}
-use Rattle.std.proofs.lemmas.List.{map_push, nil_from_length}
+use Rattle.std.proofs.Common.{◌≡◌, [], ◌∷◌, ◌++◌, sym, ap, ◌∙◌, arith, rules, append_assoc, length-append}
+use Rattle.std.proofs.lemmas.List.{map_push}
 use Rattle.multihash.specs.Pair.{Pair}
 use Rattle.multihash.specs.Encoding.{IsEncoding}
-use Rattle.multihash.specs.Streams.{AreConcatenated}
 use Rattle.multihash.specs.Multihash.{pair_of}
 use Rattle.multihash.proofs.ReadingLemmas.{Consumes-cut}
 use Rattle.multihash.proofs.StreamLemmas.{parts_push, encoding_some}
 use Rattle.examples.proofs.loops.codes.Goals as goal
-
-pub loop-init : goal.loop-init
-loop-init c =
-    let none : c.new-codes.result.items ≡ [] = search rules in
-    ([], [], refl, none, refl, omega arith)
 
 pub loop-preserved : goal.loop-preserved
 loop-preserved c =
@@ -31,17 +25,3 @@ loop-preserved c =
       cut ∙ (ap (λ z. front ++ z) split ∙ sym (append_assoc front encoding c.read_next.new.r.now)),
       omega (arith, count, length-append front encoding, encoding_some pair encoding encodes),
     )
-
-pub returns-in_default : goal.returns-in_default
-returns-in_default c =
-    let (pairs, front, concatenated, codes, cut, count) = c.loop.invariant in
-    let whole : front ≡ c.args.bytes.now = search rules in
-    (pairs, subst (AreConcatenated pairs) whole concatenated, codes)
-
-pub returns : goal.returns
-returns c =
-    let (pairs, front, concatenated, codes, cut, count) = c.loop.invariant in
-    let rest = c.loop.left.now in
-    let none = nil_from_length rest (omega (arith, count, ap length cut, length-append front rest)) in
-    let whole : front ≡ c.args.bytes.now = sym (cut ∙ (ap (λ z. front ++ z) none ∙ append-nil front)) in
-    (pairs, subst (AreConcatenated pairs) whole concatenated, codes)

@@ -20,9 +20,6 @@ left_after S size input rest left h over took =
     let cut = Consumes-cut input took.front left took.consumes in
     (same_cut took.front front left rest (ap length same) (sym cut ∙ (h.cut ∙ sym (append_assoc h.code_bytes h.size_bytes rest)))).1
 
-pub returns-clause-verdict : goal.returns-clause-verdict
-returns-clause-verdict g c = c.read-outcome.ensures.verdict refl
-
 pub returns-clause-ok : goal.returns-clause-ok
 returns-clause-ok g c =
     let read = c.read-outcome in
