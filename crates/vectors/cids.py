@@ -14,7 +14,7 @@ import sys
 from collections.abc import Iterator
 from pathlib import Path
 
-from verdicts import LONGEST_DIGEST, RULES, Rejected, changed, error_of, varint
+from verdicts import LONGEST_DIGEST, RULES, Rejected, changed, varint, write_or_compare
 
 STORED = Path(__file__).with_name("data") / "cids.tsv"
 COLUMNS = ("text", "result", "bytes")
@@ -108,7 +108,7 @@ def made_of(stored: str) -> str:
     """Makes the list of the stored texts."""
     texts = [unescaped(line.split("\t")[0]) for line in stored.splitlines()[1:]]
     if len({*texts}) < len(texts):
-        raise ValueError("a text is there twice")
+        raise SystemExit("a text is there twice")
     return "\n".join(["\t".join(COLUMNS), *map(line_of, texts), ""])
 
 
@@ -142,18 +142,13 @@ def drawn(seed: int, count: int) -> Iterator[str]:
 
 def main() -> int:
     match sys.argv[1:]:
-        case ["--write"]:
-            STORED.write_text(made_of(STORED.read_text("utf-8")), "utf-8")
+        case [] | ["--write"] as words:
+            return write_or_compare({STORED: made_of}, bool(words))
         case ["--draw", seed, count]:
             sys.stdout.writelines(f"{line}\n" for line in drawn(int(seed), int(count)))
-        case [_, *_]:
-            print(__doc__, file=sys.stderr)
-            return 2
-        case _:
-            error = error_of(STORED, made_of)
-            print(error, end="\n" * bool(error))
-            return 1 if error else 0
-    return 0
+            return 0
+    print(__doc__, file=sys.stderr)
+    return 2
 
 
 if __name__ == "__main__":

@@ -1,4 +1,4 @@
-//! Tests of `examples` and `form`: known values, and a reader over one of `std`.
+//! Known values of `examples` and `form`, a reader over one of `std`, what `Debug` prints, and traits that callers need.
 ghost use Rattle.std.specs.Prelude.{◌<◌};
 
 use crate::expect::{check, check_eq, expect_ok};
@@ -7,12 +7,14 @@ use examples::std_reader::StdReader;
 use examples::{loops, parts};
 use fakes::{Cuts, FailAt};
 use form::{
-    Case, FormError, LocatedError, Stream, all_from_bytes, first_error, from_bytes, to_bytes,
-    write_items,
+    Bytes, Case, FormError, LocatedError, Number, Stream, all_from_bytes, first_error, from_bytes,
+    to_bytes, write_items,
 };
-use multihash::Multihash;
-use multihash::no_std_io::Read;
+use multihash::no_std_io::{self, Read};
+use multihash::{Head, Multihash, MultihashGeneric};
 use std::alloc::Global;
+use std::error::Error;
+use std::fmt::Debug;
 use std::process::Abort;
 
 // The identifier (CID) of `aaaa` as raw bytes, with its SHA-256 from another implementation.
@@ -212,4 +214,39 @@ fn a_known_car_header_is_read(rt: HostRuntime) {
     let (at, rest) = (header.second.first.value, &header.second.second);
     check!(&rt; at == 0x33 && rest.first.value == 0x0102 && rest.second.value == 0);
     check_eq!(&rt; expect_ok!(&rt; to_bytes(alloc, &header)).as_slice(), bytes.as_slice());
+}
+
+fn expect_shown<D: Debug>(rt: &impl Abort, alloc: Global, shown: &D, wanted: &str) {
+    let found = expect_ok!(rt; format!(in alloc; "{shown:?}"));
+    check_eq!(rt; found.as_str(), wanted);
+}
+
+fn have<A: Error, B: Error, C: Error, D: Copy + Eq, E: Copy, F: Copy>() {}
+
+// The bytes that `truncate` left in the buffer are not shown.
+#[test]
+fn known_values_are_shown(rt: HostRuntime) {
+    let alloc = rt.alloc();
+    let rt = &rt;
+    // The aliases name these types.
+    let wrapped: multihash::Result<MultihashGeneric<9>> = Multihash::<9>::wrap(18, b"foobar");
+    let cut = expect_ok!(rt; wrapped).truncate(3);
+    let wanted = "Multihash { code: 18, size: 3, digest: [102, 111, 111] }";
+    expect_shown(rt, alloc, &cut, wanted);
+    let lines = expect_ok!(rt; format!(in alloc; "{:#?}", cut.truncate(1)));
+    let wanted = "Multihash {\n    code: 18,\n    size: 1,\n    digest: [\n        102,\n    ],\n}";
+    check_eq!(rt; lines.as_str(), wanted);
+    have::<no_std_io::Error, multihash::Error, FormError, Head, Number, Bytes<1>>();
+    let long = expect_ok!(rt; Multihash::<64>::wrap(18, &[65; 64]));
+    let digest = expect_ok!(rt; format!(in alloc; "size: 64, digest: {:?} }}", [65; 64]));
+    let shown = expect_ok!(rt; format!(in alloc; "{long:?}"));
+    check!(rt; shown.ends_with(digest.as_str()));
+    let head = expect_ok!(rt; Head::read_front(&[18, 3, 7]));
+    let wanted = "Head { code: 18, digest_len: 3, digest_offset: 2 }";
+    expect_shown(rt, alloc, &head, wanted);
+    let other = Head {
+        digest_offset: 1,
+        ..head
+    };
+    check!(rt; head == head && other != head);
 }

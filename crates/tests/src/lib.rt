@@ -9,5 +9,3 @@ mod calls;
 mod expect;
 #[cfg(test)]
 mod memory;
-#[cfg(test)]
-mod values;

@@ -7,7 +7,6 @@
 #![tactic(auto)]
 
 mod errors;
-mod json;
 mod lists;
 mod page;
 mod streams;
@@ -25,7 +24,7 @@ fn main(rt: HostRuntime) -> Result<()> {
     values::print_truncated(&mut page);
     values::print_tail(&mut page);
     values::print_same_values(&mut page);
-    json::print_values(&mut page);
+    values::print_json_values(&mut page);
     streams::print_lists(&mut page);
     streams::print_readers(&mut page);
     streams::print_writers(&mut page);
