@@ -10,8 +10,7 @@ use Rattle.form.specs.Located.{IsAt, IsFirstError}
 use Rattle.form.specs.Rejecting.{IsUndecided, ReadStops}
 use Rattle.form.specs.declared.error.FormError.{FormError}
 use Rattle.form.specs.declared.located.LocatedError.{LocatedError}
-use Rattle.form.proofs.WholeLemmas.{Next, parts_compared}
-use Rattle.form.proofs.WholeLemmas.{known_is, longer, no_bytes, stopped}
+use Rattle.form.proofs.WholeLemmas.{Next, parts_compared, known_is, longer, no_bytes, stopped}
 
 module _ {A : Type 0} {IsForm : A → List ℕ → Type 0} {Rejects : FormError → List ℕ → Type 0} {Same : A → A → Type 0}
     (unique : (x y : A) → Determine (IsForm x) (IsForm y) (Same x y))

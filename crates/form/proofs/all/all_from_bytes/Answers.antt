@@ -4,8 +4,7 @@ use Rattle.std.proofs.Common.{◌≡◌, ◌++◌, ℕ, List, [], ◌∷◌, len
 use Rattle.std.proofs.Common.{sym, ap, ◌∙◌, arith, rules}
 use Rattle.multihash.proofs.OutcomeLemmas.{passed_error}
 use Rattle.multihash.proofs.StreamLemmas.{parts_push}
-use Rattle.form.proofs.WholeLemmas.{parts_compared}
-use Rattle.form.proofs.WholeLemmas.{empty_is, not_empty}
+use Rattle.form.proofs.WholeLemmas.{parts_compared, empty_is, not_empty}
 use Rattle.form.proofs.all.all_from_bytes.Goals as goal
 
 pub returns-in_err-item-clause-found : goal.returns-in_err-item-clause-found

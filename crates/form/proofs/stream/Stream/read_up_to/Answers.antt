@@ -1,6 +1,6 @@
 -- The loop keeps that the values so far were consumed, one after another; if the bytes of other values come first, these are the
 -- same, or there is one more that comes next (`parts_compared`).
-use Rattle.std.proofs.Common.{◌≡◌, ◌<◌, ◌⊎◌, ◌++◌, ℕ, List, [], ◌∷◌, inl, inr, length, length-append, append_assoc}
+use Rattle.std.proofs.Common.{◌≡◌, ◌<◌, ◌≤◌, ◌⊎◌, ◌++◌, ℕ, List, [], ◌∷◌, inl, inr, length, length-append, append_assoc}
 use Rattle.std.proofs.Common.{append-nil, refl, sym, ap, subst, ◌∙◌, arith, rules, Option, Some}
 use Rattle.multihash.proofs.OutcomeLemmas.{passed_error, if_given}
 use Rattle.std.specs.Io.KnownBytes.{IsAtEnd}
@@ -88,66 +88,51 @@ returns-clause-ok g c = record {
   number = inl (omega (arith, c.loop.invariant.count, c.loop-test.false, c.loop.auto.counter-end));
 }
 
--- the values so far, compared with those that come next
-module _ {A : Type 0} {IsForm : A → List ℕ → Type 0} {Same : A → A → Type 0}
-    (unique : (x y : A) → Determine (IsForm x) (IsForm y) (Same x y))
-    (some : (x : A) (bytes : List ℕ) → IsForm x bytes → 0 < length bytes) {before after : List A} {old mid : Option (List ℕ)}
-    (reads : AppendsValues IsForm before after old mid) (xs : List A) (bytes more : List ℕ) (are : AreParts IsForm xs bytes)
-    (at : old ≡ Some (bytes ++ more)) (n : ℕ) (number : (length xs ≡ n) ⊎ ((length xs < n) × (more ≡ []))) where
-  -- fewer than n were read: they are all, at the end of the input, or another one comes next
-  fewer_found : length reads.values < n
-      → (AppendsSame Same xs before after × (mid ≡ Some more) × (more ≡ [])) ⊎ ((left : List ℕ) × (mid ≡ Some left) × Next IsForm left)
-  fewer_found few =
-      let (c, is_c, consumes) = reads.consumed in
-      let (left, is_left, cut) = Consumes-known (bytes ++ more) c mid (subst (λ (o : Option (List ℕ)). Consumes o c mid) at consumes) in
-      elim (parts_compared unique some reads.values xs c left bytes more is_c are (sym cut)) [
-        | inl (same, rest, long) ↦ elim number [
-          | inl all ↦ absurd (omega (arith, few, all, long))
-          | inr (_, none) ↦ inl ((reads.values, reads.appended, same), is_left ∙ ap Some rest, none)
-        ]
-        | inr (inl (_, next)) ↦ inr (left, is_left, next)
-        | inr (inr (over, follows)) ↦ elim number [
-          | inl all ↦ absurd (omega (arith, few, all, over))
-          | inr (_, none) ↦ absurd (omega (arith, follows, ap length none))
-        ]
+-- the values so far, compared with those that come next: they are all that are asked for, or another one comes next
+compared : {A : Type 0} {IsForm : A → List ℕ → Type 0} {Same : A → A → Type 0}
+    → ((x y : A) → Determine (IsForm x) (IsForm y) (Same x y)) → ((x : A) (bytes : List ℕ) → IsForm x bytes → 0 < length bytes)
+    → {before after : List A} {old mid : Option (List ℕ)} (reads : AppendsValues IsForm before after old mid)
+    → (xs : List A) (bytes more : List ℕ) → AreParts IsForm xs bytes → old ≡ Some (bytes ++ more)
+    → (n : ℕ) → (length xs ≡ n) ⊎ ((length xs < n) × (more ≡ [])) → length reads.values ≤ n
+    → (AppendsSame Same xs before after × (mid ≡ Some more) × ((length reads.values ≡ n) ⊎ (more ≡ [])))
+    ⊎ ((length reads.values < n) × (left : List ℕ) × (mid ≡ Some left) × Next IsForm left)
+compared unique some {mid = mid} reads xs bytes more are at n number most =
+    let (c, is_c, consumes) = reads.consumed in
+    let (left, is_left, cut) = Consumes-known (bytes ++ more) c mid (subst (λ (o : Option (List ℕ)). Consumes o c mid) at consumes) in
+    elim (parts_compared unique some reads.values xs c left bytes more is_c are (sym cut)) [
+      | inl (same, rest, long) ↦ inl (
+        (reads.values, reads.appended, same),
+        is_left ∙ ap Some rest,
+        elim number [ inl all ↦ inl (long ∙ all) | inr (_, none) ↦ inr none ],
+      )
+      | inr (inl (few, next)) ↦
+          inr (elim number [ inl all ↦ omega (arith, few, all) | inr (less, _) ↦ omega (arith, few, less) ], left, is_left, next)
+      | inr (inr (over, follows)) ↦ elim number [
+        | inl all ↦ absurd (omega (arith, most, all, over))
+        | inr (_, none) ↦ absurd (omega (arith, follows, ap length none))
       ]
-
-  -- n were read
-  all_found : length reads.values ≡ n → AppendsSame Same xs before after × (mid ≡ Some more)
-  all_found many =
-      let (c, is_c, consumes) = reads.consumed in
-      let (left, is_left, cut) = Consumes-known (bytes ++ more) c mid (subst (λ (o : Option (List ℕ)). Consumes o c mid) at consumes) in
-      elim (parts_compared unique some reads.values xs c left bytes more is_c are (sym cut)) [
-        | inl (same, rest, _) ↦ ((reads.values, reads.appended, same), is_left ∙ ap Some rest)
-        | inr (inl (few, _)) ↦ elim number [
-          | inl all ↦ absurd (omega (arith, few, all, many))
-          | inr (less, _) ↦ absurd (omega (arith, few, less, many))
-        ]
-        | inr (inr (over, follows)) ↦ elim number [
-          | inl all ↦ absurd (omega (arith, many, all, over))
-          | inr (_, none) ↦ absurd (omega (arith, follows, ap length none))
-        ]
-      ]
+    ]
 
 pub returns-in_err-value-clause-found : goal.returns-in_err-value-clause-found
 returns-in_err-value-clause-found g c xs bytes more are at number same =
     let before = c.loop.invariant in
     let unfailed = same ∙ sym before.unfailed in
     rw (passed_error c.from_residual.result _ c.from_residual.ensures.1)
-    (elim (fewer_found g.met.T.Form.unique g.met.T.Form.some before.reads xs bytes more are at c.args.n number
+    (elim (compared g.met.T.Form.unique g.met.T.Form.some before.reads xs bytes more are at c.args.n number
     (omega (arith, before.count, c.loop-test.true))) [
-      | inl (_, ended, none) ↦ absurd (c.in_err-value.ensures.end.always unfailed (ended ∙ ap Some none))
-      | inr (left, is_left, (x, part, rest, is, cut)) ↦ c.in_err-value.ensures.found x part rest is (is_left ∙ ap Some cut) unfailed
+      | inl (_, ended, inl all) ↦ absurd (omega (arith, before.count, c.loop-test.true, all))
+      | inl (_, ended, inr none) ↦ absurd (c.in_err-value.ensures.end.always unfailed (ended ∙ ap Some none))
+      | inr (_, left, is_left, (x, part, rest, is, cut)) ↦ c.in_err-value.ensures.found x part rest is (is_left ∙ ap Some cut) unfailed
     ])
 
 pub returns-in-None-clause-found : goal.returns-in-None-clause-found
 returns-in-None-clause-found g c xs bytes more are at number same =
     let before = c.loop.invariant in
     let ended = rw c.in-None.is at c.in_ok-value.ensures.end.none in
-    elim (fewer_found g.met.T.Form.unique g.met.T.Form.some before.reads xs bytes more are at c.args.n number
+    elim (compared g.met.T.Form.unique g.met.T.Form.some before.reads xs bytes more are at c.args.n number
     (omega (arith, before.count, c.loop-test.true))) [
       | inl (appends, rest, _) ↦ (appends, ended.1 ∙ rest)
-      | inr (left, is_left, (x, part, rest, is, cut)) ↦ absurd (omega (
+      | inr (_, left, is_left, (x, part, rest, is, cut)) ↦ absurd (omega (
         arith,
         g.met.T.Form.some x part is,
         ap length (subst IsAtEnd is_left ended.0),
@@ -158,5 +143,9 @@ returns-in-None-clause-found g c xs bytes more are at number same =
 
 pub returns-clause-found : goal.returns-clause-found
 returns-clause-found g c xs bytes more are at number same =
-    all_found g.met.T.Form.unique g.met.T.Form.some c.loop.invariant.reads xs bytes more are at c.args.n number
-    (omega (arith, c.loop.invariant.count, c.loop-test.false, c.loop.auto.counter-end))
+    let before = c.loop.invariant in
+    elim (compared g.met.T.Form.unique g.met.T.Form.some before.reads xs bytes more are at c.args.n number
+    (omega (arith, before.count, c.loop.auto.counter-end))) [
+      | inl (appends, rest, _) ↦ (appends, rest)
+      | inr (few, _, _, _) ↦ absurd (omega (arith, few, before.count, c.loop-test.false))
+    ]
