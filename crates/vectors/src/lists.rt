@@ -3,7 +3,6 @@
 //! differs is printed after the others.
 ghost use Rattle.std.specs.Prelude.{◌<◌, ◌^◌};
 
-use crate::errors::kind_of;
 use crate::page::Page;
 use crate::values::compared;
 use fakes::Cuts;
@@ -69,6 +68,25 @@ fn put_hex(page: &mut Page, bytes: &[u8]) {
     page.put(if bytes.is_empty() { "-" } else { "" });
     for byte in bytes {
         page.put(format_args!("{byte:02x}"));
+    }
+}
+
+// The name of the kind of an error that an input has.
+fn kind_of(e: &Error) -> &'static str {
+    if e.is_insufficient() {
+        "insufficient"
+    } else if e.is_overflow() {
+        "overflow"
+    } else if e.is_not_minimal() {
+        "not_minimal"
+    } else if e.invalid_code().is_some() {
+        "invalid_code"
+    } else if e.invalid_size().is_some() {
+        "invalid_size"
+    } else if e.io().is_some_and(|io| io.is_unexpected_eof()) {
+        "unexpected_eof"
+    } else {
+        "another error"
     }
 }
 

@@ -6,7 +6,6 @@
 //! its digest. What a reader has left follows the result, unless nothing is left, and so do the bytes that were written.
 #![tactic(auto)]
 
-mod errors;
 mod lists;
 mod page;
 mod streams;
@@ -28,7 +27,7 @@ fn main(rt: HostRuntime) -> Result<()> {
     streams::print_lists(&mut page);
     streams::print_readers(&mut page);
     streams::print_writers(&mut page);
-    errors::print_errors(&mut page);
+    streams::print_errors(&mut page);
     lists::print_lines(&mut page, &verdicts, &values);
     print!(rt; "{}", page.finish()?)
 }

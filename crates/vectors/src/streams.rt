@@ -1,12 +1,13 @@
-//! Lists, readers and writers.
+//! Lists, readers and writers, and the text of each error with the tests of its kind that are true.
 ghost use Rattle.std.specs.Prelude.{◌<◌, ◌^◌};
 
 use crate::page::{Bytes, Found, Left, Outcome, Page, Pair, rows};
 use crate::values::value;
-use fakes::{Cuts, Drip, FailAt};
+use fakes::{Cuts, Drip, FailAt, OUT_OF_MEMORY};
 use multihash::list::{read_list, write_list};
-use multihash::no_std_io::{Read, Write};
+use multihash::no_std_io::{self, Read, Write};
 use multihash::{Error, Multihash};
+use serde_json::Value;
 use std::fmt::{self, Display};
 
 // The encodings of (0, "A") and (18, "B"), and a byte.
@@ -161,4 +162,53 @@ pub fn print_writers(page: &mut Page) {
     print_write_to_slice::<4>(page, b"ABC", 5);
     print_write_to_slice::<4>(page, &[], 2);
     print_write_to_slice::<300>(page, &[0; 255], 258);
+}
+
+// A macro, since a test is no value.
+macro_rules! put_tests {
+    ($page:expr, $e:expr; $($test:ident)+) => {
+        { $($page.put(if $e.$test() { concat!(" ", stringify!($test)) } else { "" });)+ }
+    };
+}
+
+fn print_error<T: Drop>(page: &mut Page, call: &str, outcome: Result<T, Error>) {
+    page.call(call);
+    if let Err(e) = &outcome {
+        page.put(e);
+        let (size, code) = (e.invalid_size().is_some(), e.invalid_code().is_some());
+        page.put(if size { " invalid_size" } else { "" });
+        page.put(if code { " invalid_code" } else { "" });
+        put_tests!(page, e; is_insufficient is_overflow is_not_minimal is_not_bytes);
+        if let Some(io) = e.io() {
+            page.put(" io");
+            put_tests!(page, io; is_unexpected_eof is_write_zero is_out_of_memory is_other);
+        }
+    }
+    page.end();
+}
+
+macro_rules! errors {
+    ($page:expr; $($call:expr => $outcome:expr),+ $(,)?) => { { $(print_error($page, $call, $outcome);)+ } };
+}
+
+type Mh = Multihash<0>;
+
+pub fn print_errors(page: &mut Page) {
+    page.heading("Errors: the text, and the tests that apply");
+    let mut reader = FailAt::new(Cuts::new(&[], 1), 0, OUT_OF_MEMORY);
+    let mut other = FailAt::new(Cuts::new(&[], 1), 0, "link down");
+    let own: Result<(), _> = Err(Error::from(no_std_io::Error::other("x")));
+    errors!(page;
+        "wrap::<0>(0, \"A\")" => Mh::wrap(0, b"A"),
+        "wrap::<0>(9223372036854775808, [])" => Mh::wrap(1 << 63, &[]),
+        "from_bytes::<0>([])" => Mh::from_bytes(&[]),
+        "from_bytes::<0>([80*16])" => Mh::from_bytes(&[128; 16]),
+        "from_bytes::<0>([80 00])" => Mh::from_bytes(&[128, 0]),
+        "from_value::<0>(null)" => Mh::from_value(&Value::Null),
+        "from_bytes::<1>([00 01])" => Multihash::<1>::from_bytes(&[0, 1]),
+        "default::<0>().write(a slice of 0)" => Mh::default().write(&mut [].as_mut_slice()),
+        "a reader's out_of_memory()" => Mh::read(&mut reader),
+        "a reader's other(\"link down\")" => Mh::read(&mut other),
+        "from(no_std_io::Error::other(\"x\"))" => own,
+    );
 }
