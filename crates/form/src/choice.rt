@@ -21,10 +21,11 @@ impl<C: Cases> Form for Choice<C> {
     ghost use Rattle.multihash.specs.Varint.{IsVarint};
     ghost use Rattle.multihash.specs.Refusal.{IsAnyVarintError};
     ghost use Rattle.multihash.proofs.VarintLemmas.{varint_some};
+    ghost use Rattle.multihash.proofs.VarintWriteLemmas.{varint_exists};
     ghost use Rattle.form.specs.Form.{Then};
     ghost use Rattle.form.specs.FormError.{IsFailed};
     ghost use Rattle.form.specs.Rejecting.{RejectsNumberThen};
-    ghost use Rattle.form.specs.Laws.Parts.{then_exists, then_some, number_exists};
+    ghost use Rattle.form.specs.Laws.Parts.{then_exists, then_some};
     ghost use Rattle.form.specs.Laws.Rejected.{from_not_both, from_unique, from_some, from_not_truncated};
     ghost use Rattle.form.specs.Laws.Cases.{choice_unique, choice_one};
 
@@ -47,7 +48,7 @@ impl<C: Cases> Form for Choice<C> {
         Ok(Choice { case })
     }
 
-    ghost exists = { λ x. then_exists (number_exists (C.tag_of x.case) (C.in_range x.case)) (C.exists x.case) };
+    ghost exists = { λ x. then_exists (varint_exists (C.tag_of x.case) (C.in_range x.case)) (C.exists x.case) };
 
     ghost unique = { λ x y. choice_unique C.tag_of C.unique x.case y.case };
 

@@ -32,10 +32,12 @@ impl Number {
 
 impl Form for Number {
     ghost use Rattle.multihash.specs.Varint.{IsVarint};
+    ghost use Rattle.multihash.proofs.VarintLemmas.{varint_some};
+    ghost use Rattle.multihash.proofs.VarintWriteLemmas.{varint_exists};
     ghost use Rattle.multihash.specs.Refusal.{IsAnyVarintError};
     ghost use Rattle.form.specs.FormError.{IsFailed};
     ghost use Rattle.form.specs.Rejecting.{RejectsNumber};
-    ghost use Rattle.form.specs.Laws.Parts.{number_exists, number_unique, number_one, number_some};
+    ghost use Rattle.form.specs.Laws.Parts.{number_unique, number_one};
     ghost use Rattle.form.specs.Laws.Rejected.{number_not_both, number_rejects_unique, number_rejects_some, number_not_truncated};
 
     ghost is_form = { λ x. IsVarint x.value };
@@ -56,7 +58,7 @@ impl Form for Number {
         Ok(Number { value })
     }
 
-    ghost exists = { λ x. number_exists x.value x.in_range };
+    ghost exists = { λ x. varint_exists x.value x.in_range };
 
     ghost unique = { λ x y. number_unique x.value y.value };
 
@@ -70,5 +72,5 @@ impl Form for Number {
 
     ghost one = { λ x y. number_one x.value y.value };
 
-    ghost some = { λ x. number_some x.value };
+    ghost some = { λ x. varint_some x.value };
 }

@@ -18,11 +18,13 @@ pub struct Tag<const N: u64> {
 
 impl<const N: u64> Form for Tag<N> {
     ghost use Rattle.multihash.specs.Varint.{IsVarint};
+    ghost use Rattle.multihash.proofs.VarintLemmas.{varint_some};
+    ghost use Rattle.multihash.proofs.VarintWriteLemmas.{varint_exists};
     ghost use Rattle.multihash.specs.Refusal.{IsAnyVarintError};
     ghost use Rattle.form.specs.FormError.{IsFailed};
     ghost use Rattle.form.specs.declared.error.FormError.TheVariants.{OtherTag};
     ghost use Rattle.form.specs.Rejecting.{RejectsNumberThen, RejectsOtherTag};
-    ghost use Rattle.form.specs.Laws.Parts.{number_exists, tag_unique, tag_one, number_some};
+    ghost use Rattle.form.specs.Laws.Parts.{tag_unique, tag_one};
     ghost use Rattle.form.specs.Laws.Rejected.{tag_not_both, tag_rejects_unique, from_some, tag_not_truncated};
 
     ghost is_form = { λ _. IsVarint N };
@@ -48,7 +50,7 @@ impl<const N: u64> Form for Tag<N> {
         Ok(Tag {})
     }
 
-    ghost exists = { λ x. number_exists N x.in_range };
+    ghost exists = { λ x. varint_exists N x.in_range };
 
     ghost unique = { λ _ _. tag_unique N };
 
@@ -62,5 +64,5 @@ impl<const N: u64> Form for Tag<N> {
 
     ghost one = { λ _ _. tag_one N };
 
-    ghost some = { λ _. number_some N };
+    ghost some = { λ _. varint_some N };
 }

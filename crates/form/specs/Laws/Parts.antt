@@ -79,21 +79,13 @@ multihash_one m n a b same x y =
 pub multihash_some : {S : ℕ} (m : Fields S) (bytes : List ℕ) → IsEncoding (pair_of m) bytes → 0 < length bytes
 multihash_some m = encoding_some (pair_of m)
 
--- a number in range has a varint
-pub number_exists : (n : ℕ) → n < varint_limit → (bytes : List ℕ) × IsVarint n bytes
-number_exists = varint_exists
-
--- two at the start of one input are equal
+-- two varints at the start of one input are equal
 pub number_unique : (m n : ℕ) → Determine (IsVarint m) (IsVarint n) (m ≡ n)
 number_unique m n a b r s x y cut = let t = varint_unique m n a b r s x y cut in (t.0, t.2)
 
 -- and a number has one varint
 pub number_one : (m n : ℕ) (a b : List ℕ) → m ≡ n → IsVarint m a → IsVarint n b → a ≡ b
 number_one m n a b same x y = varint_same m a b x (subst (λ k. IsVarint k b) (sym same) y)
-
--- and it is not empty
-pub number_some : (n : ℕ) (bytes : List ℕ) → IsVarint n bytes → 0 < length bytes
-number_some = varint_some
 
 -- a tag has only one value
 pub tag_unique : (n : ℕ) → Determine (IsVarint n) (IsVarint n) (Unit {0})

@@ -10,13 +10,14 @@ use Rattle.multihash.specs.Refusal.{Refusal, of_varint}
 use Rattle.multihash.specs.Encoding.{IsEncoding}
 use Rattle.multihash.specs.Streams.{AreParts}
 use Rattle.multihash.specs.Bytes.{IsStrictPrefix}
+use Rattle.multihash.proofs.VarintLemmas.{varint_some}
 use Rattle.multihash.proofs.EncodingLemmas.{same_cut}
 use Rattle.multihash.proofs.VerdictLemmas.{verdict_unique}
 use Rattle.multihash.proofs.SettlingLemmas.{compare_prefixes, error_kept, error_of_part, verdict_kept}
 use Rattle.multihash.proofs.CallingLemmas.{front_error_unique, encoding_no_error, error_of_unique}
 use Rattle.form.specs.Form.{Then, IsBlock}
 use Rattle.form.specs.FormError.{IsFailed, IsTruncated}
-use Rattle.form.specs.Laws.Parts.{Determine, Exclude, next_unique, then_some, number_unique, number_some}
+use Rattle.form.specs.Laws.Parts.{Determine, Exclude, next_unique, then_some, number_unique}
 use Rattle.form.specs.Rejecting.{IsShortest, ShowsMalformed, ShowsError, RejectsNumber, RejectsMultihash}
 use Rattle.form.specs.Rejecting.{RejectsNumberThen, RejectsItem, RejectsOtherTag, RejectsTooLong, RejectsCounted}
 use Rattle.form.specs.declared.error.FormError.{FormError}
@@ -179,7 +180,7 @@ module _ {A : Type 0} {IsFirst : A → List ℕ → Type 0} {P : List ℕ → Ty
 
 module _ (e : FormError) {Q : ℕ → List ℕ → Type 0} where
   pub from_some : (bytes : List ℕ) → InTurn IsVarint (RejectsNumber e) Q bytes → 0 < length bytes
-  from_some = turn_some number_some (number_rejects_some e)
+  from_some = turn_some varint_some (number_rejects_some e)
 
   pub from_not_truncated : ((n : ℕ) (a : List ℕ) → Q n a → IsNotTruncated e) → (bytes : List ℕ)
       → InTurn IsVarint (RejectsNumber e) Q bytes → IsNotTruncated e
