@@ -1,4 +1,4 @@
--- What `err` and `faults` of `read` state, from the contracts of the library's calls: for `read` of each part.
+-- What `err` of `read` states, from the contracts of the library's calls: for `read` of each part.
 use Rattle.std.proofs.Common.{◌≡◌, ℕ, ◌<◌, ◌⊎◌, ap, inl, inr, List, [], length, length-append, Option, Some, refl, sym}
 use Rattle.std.proofs.Common.{subst, ◌∙◌, append-nil, arith}
 use Rattle.std.specs.Prelude.{None}
@@ -8,7 +8,7 @@ use Rattle.multihash.specs.Encoding.{IsEncoding}
 use Rattle.multihash.specs.Verdict.{Verdict, accepted, invalid_size, invalid_code, malformed, unexpected_eof, HasVerdict, IsIncomplete}
 use Rattle.multihash.specs.Settling.{Settles, IsShortestSettling}
 use Rattle.multihash.specs.Outcome.{IsErrorOf}
-use Rattle.multihash.specs.Refusal.{Refusal, of_varint, of_io, IsReaderError, IsAnyVarintError, IsVarintError}
+use Rattle.multihash.specs.Refusal.{Refusal, of_varint, of_io, IsAnyVarintError, IsVarintError}
 use Rattle.multihash.specs.Multihash.{Fields, pair_of}
 use Rattle.multihash.proofs.EncodingLemmas.{digest_fits}
 use Rattle.multihash.proofs.VerdictLemmas.{verdict_unique}
@@ -194,12 +194,3 @@ module _ {A : Type 0} {IsForm : A → List ℕ → Type 0} where
       cause = inr (inr (ends, record { no_form = λ x front rest cut is. none x front is; no_error = λ e front rest cut rejects. rejects }));
     });
   }
-
--- ---- faults
-
--- the clause `faults`, of an error that `?` converts
-pub faults_as : {before after : ℕ} (Listed : Refusal → Type 0) {e : Refusal}
-    → ((before < after) × IsReaderError e) ⊎ ((after ≡ before) × Listed e)
-    → ((before < after) × IsFailed IsReaderError (Failed e)) ⊎ ((after ≡ before) × IsFailed Listed (Failed e))
-faults_as Listed {e = e} (inl (up, own)) = inl (up, (e, refl, own))
-faults_as Listed {e = e} (inr (same, listed)) = inr (same, (e, refl, listed))

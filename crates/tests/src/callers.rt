@@ -2,7 +2,7 @@
 ghost use Rattle.std.specs.Prelude.{◌<◌};
 
 use crate::expect::{check, check_eq, expect_ok};
-use examples::content::{UnknownCode, hash_of, is_damaged, verify};
+use examples::content::{UnknownCode, is_damaged, verify};
 use examples::std_reader::StdReader;
 use examples::{loops, parts};
 use fakes::{Cuts, FailAt};
@@ -91,16 +91,12 @@ const LOG: [u8; 73] = [
 ];
 
 #[test]
-fn a_known_content_is_hashed(rt: HostRuntime) {
-    check_eq!(&rt; Some(hash_of::<32>(b"one")), Multihash::from_bytes(&LOG[..34]).ok());
-    check_eq!(&rt; Some(hash_of::<32>(b"")), Multihash::from_bytes(&LOG[38..72]).ok());
-}
-
-#[test]
 fn a_known_content_is_verified(rt: HostRuntime) {
     let one = expect_ok!(&rt; Multihash::<64>::from_bytes(&LOG[..34]));
     check_eq!(&rt; verify(&one, b"one"), Ok(true));
     check_eq!(&rt; verify(&one, b"two"), Ok(false));
+    let none = expect_ok!(&rt; Multihash::<32>::from_bytes(&LOG[38..72]));
+    check_eq!(&rt; verify(&none, b""), Ok(true));
     let other = expect_ok!(&rt; Multihash::<64>::wrap(0x13, one.digest()));
     check_eq!(&rt; verify(&other, b"one"), Err(UnknownCode { code: 0x13 }));
     check!(&rt; is_damaged(&one, b"two") && !is_damaged(&one, b"one") && !is_damaged(&other, b"two"));
