@@ -8,7 +8,7 @@ mod show;
 use std::process::ExitCode;
 
 fn main(rt: HostRuntime) -> ExitCode {
-    run::run(
+    run::exit_code(
         rt.alloc(),
         &mut rt.stdin(),
         &mut rt.stdout(),

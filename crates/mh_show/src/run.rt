@@ -75,8 +75,32 @@ pub fn run<I: Read, O: Write, E: Write>(
     input: &mut I,
     out: &mut O,
     err: &mut E,
-) -> ExitCode
+) -> u8
     // No contract can say when a reader or a writer fails, nor when an allocation does.
+    ensures status { result ≤ 1 }
+    ensures shown { result ≡ 0 → ShowsInput (I.remaining input.old) (I.remaining input.new)
+        (O.contents out.old) (O.contents out.new) }
+    ensures quiet { result ≡ 0 → err.new ≡ err.old }
+    ensures told { result ≡ 1 → (e : RunError) × EndsRun (out.new ≡ out.old) (I.remaining input.old)
+        (I.remaining input.new) (O.contents out.old) (O.contents out.new) e
+        × ReportsError (E.contents err.old) (E.contents err.new) e }
+{
+    match show_input(alloc, input, out) {
+        Ok(()) => 0,
+        Err(e) => {
+            tell(alloc, err, &e);
+            1
+        }
+    }
+}
+
+/// Does what [`run`] does, and returns the status as the exit code of the process.
+pub fn exit_code<I: Read, O: Write, E: Write>(
+    alloc: Global,
+    input: &mut I,
+    out: &mut O,
+    err: &mut E,
+) -> ExitCode
     ensures status { exit_status result ≤ 1 }
     ensures shown { exit_status result ≡ 0 → ShowsInput (I.remaining input.old) (I.remaining input.new)
         (O.contents out.old) (O.contents out.new) }
@@ -85,13 +109,7 @@ pub fn run<I: Read, O: Write, E: Write>(
         (I.remaining input.new) (O.contents out.old) (O.contents out.new) e
         × ReportsError (E.contents err.old) (E.contents err.new) e }
 {
-    match show_input(alloc, input, out) {
-        Ok(()) => ExitCode::SUCCESS,
-        Err(e) => {
-            tell(alloc, err, &e);
-            ExitCode::from(1)
-        }
-    }
+    ExitCode::from(run(alloc, input, out, err))
 }
 
 fn show_input<I: Read, O: Write>(alloc: Global, input: &mut I, out: &mut O) -> Result<(), RunError>

@@ -6,7 +6,7 @@ use super::run;
 use crate::show::{ShowError, show};
 use std::io;
 use std::io::{ErrorKind, Read, Write};
-use std::process::{Abort, ExitCode};
+use std::process::Abort;
 
 const EXAMPLE: &[u8] = b"1603aabbcc";
 
@@ -130,7 +130,7 @@ fn expect_run(
     let (status, written, reason) = wanted;
     let ended = run(rt.alloc(), &mut input, &mut out, &mut err);
     assert_eq!(rt; (out.written(), err.written()), (written, reason));
-    assert_eq!(rt; ended, ExitCode::from(status));
+    assert_eq!(rt; ended, status);
     assert_eq!(rt; (input.calls, out.calls, err.calls), calls);
 }
 
