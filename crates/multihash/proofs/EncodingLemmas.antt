@@ -139,10 +139,6 @@ is_encoding_of p code size = record {
   encoded = refl;
 }
 
--- each encoding of a pair is `encoding_of` the pair
-pub encoding_is : (p : Pair) (bytes : List ℕ) → IsEncoding p bytes → bytes ≡ encoding_of p
-encoding_is p bytes e = encoding_same p bytes (encoding_of p) e (is_encoding_of p e.is_code.in_range e.is_size.in_range)
-
 -- each value has an encoding, `encoding_of` its pair
 pub encoding_of_value : {S : ℕ} (m : Fields S) → IsEncoding (pair_of m) (encoding_of (pair_of m))
 encoding_of_value m = is_encoding_of (pair_of m) m.in_range (omega (arith, digest_fits m))

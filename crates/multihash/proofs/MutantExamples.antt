@@ -1,7 +1,7 @@
 -- That the public contracts exclude what a mutant of `must-fail` returns: for one input of each, by the clauses of the call
 -- alone. The name of a lemma is that of its mutant. Where the right body in the place of the wrong one is proved, the
 -- prover's answer to the mutant is evidence by itself, and there is no lemma.
-use Rattle.std.proofs.Common.{◌≡◌, ◌≢◌, ℕ, Bool, List, [], ◌∷◌, ◌++◌, length, true, ltb, refl, sym, ap, subst, arith, inl, inr, length-append, ◌∙◌}
+use Rattle.std.proofs.Common.{◌≡◌, ◌≢◌, ◌<◌, ◌⊎◌, ℕ, Bool, List, [], ◌∷◌, ◌++◌, length, true, ltb, refl, sym, ap, subst, arith, inl, inr, length-append, ◌∙◌}
 use Rattle.std.specs.Prelude.{Some, Result, Ok, Err}
 use Rattle.std.specs.List.{list_all}
 use Rattle.multihash.specs.Bytes.{place_value}
@@ -16,12 +16,39 @@ use Rattle.multihash.specs.Writing.{CountsWriterFailures}
 use Rattle.multihash.specs.Scale.{IsScale, HasScaleVerdict, ConsumesAtScaleError}
 use Rattle.multihash.specs.Json.{IsJsonList, number_array}
 use Rattle.multihash.proofs.JsonLemmas.{array_unique}
-use Rattle.multihash.proofs.KnownExamples.{all_below, known, pair, zeros, all_255, scale_known}
+use Rattle.std.specs.List.{All}
+use Rattle.std.proofs.lemmas.Bool.{ltb-true, and_parts}
+use Rattle.std.proofs.lemmas.List.Elements.{All-nil, All-cons}
+use Rattle.multihash.specs.Pair.{Pair}
+use Rattle.multihash.specs.Refusal.{IsEof, IsReaderError}
 use Rattle.multihash.proofs.ReadingLemmas.{all_read}
-use Rattle.multihash.proofs.ScaleLemmas.{scale_verdict_unique}
+use Rattle.multihash.proofs.ScaleLemmas.{scale_verdict_unique, scale_found, has_scale_found}
 use Rattle.multihash.proofs.SettlingLemmas.{late_settles, verdict_kept}
 use Rattle.multihash.proofs.VarintLemmas.{varint_some}
-use Rattle.multihash.proofs.VerdictLemmas.{verdict_unique, whole_verdict_unique, found, whole_found, has_whole_found}
+use Rattle.multihash.proofs.VerdictLemmas.{verdict_unique, whole_verdict_unique, found, has_found, whole_found, has_whole_found}
+
+-- ---- inputs and their verdicts
+
+-- a fact on each number of a list, computed
+all_below : (bound : ℕ) (xs : List ℕ) → list_all (λ x. ltb x bound) xs ≡ true → All (λ x. x < bound) xs
+all_below bound [] e = All-nil (λ x. x < bound)
+all_below bound (x ∷ xs) e =
+    let parts = and_parts (ltb x bound) (list_all (λ y. ltb y bound) xs) e in
+    All-cons (λ y. y < bound) x xs (ltb-true x bound parts.0) (all_below bound xs parts.1)
+
+abbrev pub pair : ℕ → List ℕ → Pair
+pair code digest = record { code = code; digest = digest }
+
+-- the eight bytes of the code 0 in SCALE, and eight bytes that are each as large as possible
+abbrev pub zeros : List ℕ
+zeros = 0 ∷ 0 ∷ 0 ∷ 0 ∷ 0 ∷ 0 ∷ 0 ∷ 0 ∷ []
+
+abbrev all_255 : List ℕ
+all_255 = 255 ∷ 255 ∷ 255 ∷ 255 ∷ 255 ∷ 255 ∷ 255 ∷ 255 ∷ []
+
+-- the verdict of an input, computed
+known : (S : ℕ) (x : List ℕ) → list_all (λ b. ltb b 256) x ≡ true → HasVerdict S x (found S x)
+known S x bytes = has_found S x (all_below 256 x bytes)
 
 -- ---- what a call may return
 
@@ -158,16 +185,20 @@ scale_reads_past_digest m empty (bytes, is, consumes) =
       length-append is.code (length (pair_of m).digest ∷ (pair_of m).digest),
     )
 
+-- an input that was consumed to its end before an unexpected end of file, or before the reader failed, is truncated
+pub truncated_input : (x : List ℕ) (e : Refusal) → list_all (λ b. ltb b 256) x ≡ true → ConsumesAtScaleError 4 e (Some x) (Some [])
+    → IsEof e ⊎ IsReaderError e → unexpected_eof ≡ scale_found 4 x
+truncated_input x e bytes h io =
+    let all = sym (all_read x h.consumed (Some []) h.consumes refl) in
+    scale_verdict_unique 4 x unexpected_eof (scale_found 4 x) (subst (λ (z : List ℕ). HasScaleVerdict 4 z unexpected_eof) all (h.truncated io))
+    (has_scale_found 4 x (all_below 256 x bytes))
+
 -- the reader failed before the digest's one byte, which was consumed after that
 scale_reads_after_failure : (text : List ℕ) → ¬
     (ConsumesAtScaleError 4 (of_io (Other text)) (Some (zeros ++ 0x01 ∷ 0x07 ∷ [])) (Some []))
 unfolding place_value
 scale_reads_after_failure text h =
-    let all = all_read (zeros ++ 0x01 ∷ 0x07 ∷ []) h.consumed (Some []) h.consumes refl in
-    let same : unexpected_eof ≡ accepted (pair 0 (0x07 ∷ [])) =
-    scale_verdict_unique 4 h.consumed unexpected_eof (accepted (pair 0 (0x07 ∷ []))) (h.truncated (inr (Other text, refl, inl (text, refl))))
-    (subst (λ (z : List ℕ). HasScaleVerdict 4 z (accepted (pair 0 (0x07 ∷ [])))) all (scale_known 4 (zeros ++ 0x01 ∷ 0x07 ∷ []) refl)) in
-    cc
+    let same = truncated_input (zeros ++ 0x01 ∷ 0x07 ∷ []) (of_io (Other text)) refl h (inr (Other text, refl, inl (text, refl))) in cc
 
 -- ---- JSON
 

@@ -1,6 +1,6 @@
 -- What parts of definitions reject by themselves, where no other proof needs the part: laws of readers and writers, which
--- are premises; how `scale_decode` fails; and which slice was filled.
-use Rattle.std.proofs.Common.{◌≡◌, ◌≢◌, ◌<◌, ◌≤◌, ℕ, false, List, [], ◌∷◌, ◌++◌, length, get_or, refl, sym, ap, ◌∙◌, subst, arith, inl, inr}
+-- are premises; how `scale_decode` fails; which slice was filled; values and pairs.
+use Rattle.std.proofs.Common.{◌^◌, ◌≡◌, ◌≢◌, ◌<◌, ◌≤◌, ℕ, false, List, [], ◌∷◌, ◌++◌, length, get_or, refl, sym, ap, ◌∙◌, subst, arith, inl, inr}
 use Rattle.std.specs.Prelude.{Option, Some, None, Result, Ok, Err}
 use Rattle.std.proofs.lemmas.Bool.{false≢true}
 use Rattle.std.proofs.lemmas.List.{append_cancel_right}
@@ -12,8 +12,10 @@ use Rattle.multihash.specs.Scale.{HasScaleVerdict, ConsumesAtScaleError}
 use Rattle.multihash.specs.Writing.{IsWriterFault, AppendsPrefix, WriteLaws, WriteAllLaws, AppendsAtEnd}
 use Rattle.multihash.specs.Filling.{Fills}
 use Rattle.multihash.specs.declared.no_std_io.slice_writer.SliceWriter.{SliceWriter}
-use Rattle.multihash.proofs.KnownExamples.{pair, zeros, scale_empty_digest_of_4, scale_size_first}
-use Rattle.multihash.proofs.ScaleLemmas.{scale_verdict_unique}
+use Rattle.multihash.proofs.MutantExamples.{pair, zeros, truncated_input}
+use Rattle.multihash.specs.Bytes.{place_value, ExactlyOne}
+use Rattle.multihash.specs.Pair.{IsPair}
+use Rattle.std.proofs.lemmas.List.Elements.{All-head}
 
 abbrev other : Fault
 other = Other []
@@ -175,18 +177,6 @@ full_at_capacity_alone h = elim h.faults [ inl own ↦ no_own_full 0 0 own | inr
 
 -- ---- how `scale_decode` fails
 
--- if the rest is known before and after a call, so are the bytes consumed
-consumed_is : (a b consumed : List ℕ) → Consumes (Some (a ++ b)) consumed (Some b) → consumed ≡ a
-consumed_is a b consumed h = append_cancel_right consumed a b (sym (ap told h))
-
--- no more is left than there was
-returns_no_byte : (consumed : List ℕ) → ¬ (Consumes (Some []) consumed (Some (7 ∷ [])))
-returns_no_byte [] h = omega (arith, ap (λ (o : Option (List ℕ)). length (told o)) h)
-returns_no_byte (b ∷ consumed) h = omega (arith, ap (λ (o : Option (List ℕ)). length (told o)) h)
-
-decoding_takes_its_own : ¬ (ConsumesAtScaleError 4 of_not_bytes (Some []) (Some (7 ∷ [])))
-decoding_takes_its_own h = returns_no_byte h.consumed h.consumes
-
 -- a size that fits is not rejected, nor a code in range
 consumes_no_size_that_fits : ¬ (ConsumesAtScaleError 4 (of_size 3) (Some (zeros ++ 3 ∷ [])) (Some []))
 consumes_no_size_that_fits h = omega (arith, (h.size 3 refl).0.2)
@@ -194,23 +184,10 @@ consumes_no_size_that_fits h = omega (arith, (h.size 3 refl).0.2)
 consumes_no_code_in_range : ¬ (ConsumesAtScaleError 4 (of_code 0) (Some zeros) (Some []))
 consumes_no_code_in_range h = let (bytes, rest, is_code, above, cut) = (h.code 0 refl).0 in omega (arith, above)
 
--- if all of an input was consumed, its verdict is the one of the error
-claimed : (a consumed : List ℕ) (v w : Verdict) → Consumes (Some (a ++ [])) consumed (Some [])
-    → HasScaleVerdict 4 consumed v → HasScaleVerdict 4 a w → v ≡ w
-claimed a consumed v w consumes has own =
-    scale_verdict_unique 4 a v w (subst (λ (z : List ℕ). HasScaleVerdict 4 z v) (consumed_is a [] consumed consumes) has) own
-
 -- no unexpected end of file for a complete pair
 ends_not_after_pair : ¬ (ConsumesAtScaleError 4 (of_io eof) (Some (zeros ++ 0 ∷ [])) (Some []))
-ends_not_after_pair h =
-    let same = claimed (zeros ++ 0 ∷ []) h.consumed unexpected_eof (accepted (pair 0 [])) h.consumes
-    (h.truncated (inl (eof, refl, refl))) scale_empty_digest_of_4 in cc
-
--- a reader is not called after a size that is rejected
-fails_not_after_size : ¬ (ConsumesAtScaleError 4 (of_io other) (Some (zeros ++ 5 ∷ [])) (Some []))
-fails_not_after_size h =
-    let same = claimed (zeros ++ 5 ∷ []) h.consumed unexpected_eof (invalid_size 5) h.consumes
-    (h.truncated (inr (other, refl, inl ([], refl)))) scale_size_first in cc
+unfolding place_value
+ends_not_after_pair h = let same = truncated_input (zeros ++ 0 ∷ []) (of_io eof) refl h (inl (eof, refl, refl)) in cc
 
 -- ---- a writer over a slice
 
@@ -218,3 +195,14 @@ fails_not_after_size h =
 fills_no_other_slice : (old new : SliceWriter) (bytes : List ℕ) → ¬ (new.buffer.ghost_name ≡ old.buffer.ghost_name)
     → ¬ (Fills old bytes new)
 fills_no_other_slice old new bytes other h = other h.same_slice
+
+-- ---- values and pairs
+
+none_is_not_one : ¬ (ExactlyOne (λ (n : ℕ). n < 0))
+none_is_not_one h = omega (arith, h.holds)
+
+no_code_of_64_bits : (digest : List ℕ) → ¬ (IsPair (pair (2 ^ 63) digest))
+no_code_of_64_bits digest h = omega (arith, h.in_range)
+
+no_digest_of_256 : (code : ℕ) → ¬ (IsPair (pair code (256 ∷ [])))
+no_digest_of_256 code h = omega (arith, All-head (λ byte. byte < 256) 256 [] h.are_bytes)

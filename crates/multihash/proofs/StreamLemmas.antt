@@ -32,15 +32,6 @@ module _ {A : Type 0} (IsPart : A → List ℕ → Type 0) where
       cc (a_cut, b_cut, same x p q is_p is_q, parts_same same xs a' b' g h)
 
   module _ (unique : (x y : A) (a b r s : List ℕ) → IsPart x a → IsPart y b → a ++ r ≡ b ++ s → (x ≡ y) × (a ≡ b) × (r ≡ s)) where
-    -- a part that was read is the one that comes next, if no part is a prefix of another
-    pub part_read : (x y : A) (bytes more : List ℕ) (old new : Option (List ℕ)) → ConsumesSome (IsPart x) old new → IsPart y bytes
-        → old ≡ Some (bytes ++ more)
-        → (x ≡ y) × (new ≡ Some more)
-    part_read x y bytes more old new (read, is, consumes) also at =
-        let (left, told, cut) = Consumes-known (bytes ++ more) read new (sym at ∙ consumes) in
-        let same = unique x y read bytes left more is also (sym cut) in
-        (same.0, told ∙ ap Some same.2)
-
     -- of two streams at the front of one input, the one of fewer items is the front of the other
     pub parts_split : (xs ys : List A) (a b r s : List ℕ) → AreParts IsPart xs a → AreParts IsPart ys b → length xs ≤ length ys
         → a ++ r ≡ b ++ s

@@ -20,14 +20,6 @@ show_ends kept old new out after text NotHex same reads none rejected = (same, t
 show_ends kept old new out after text (Refused r) same reads none rejected = (same, text, reads, rejected r refl)
 show_ends kept old new out after text Memory same reads none rejected = same
 
--- how a run ends if writing the lines fails
-output_ends : {T : Type 0} (r : Result T RunError) (kept : Type 0) (old new out after : Option (List ℕ)) (text lines : List ℕ)
-    → IfErr r (λ e. e ≡ Output) → ReadsWhole old new text → ShowsAs text lines → OnErr r (AppendsPrefixOf out after lines)
-    → IfErr r (EndsRun kept old new out after)
-output_ends (Ok t) kept old new out after text lines met reads shows part = tt
-output_ends (Err e) kept old new out after text lines met reads shows part =
-    subst (EndsRun kept old new out after) (sym met) (text, lines, reads, shows, part)
-
 pub returns-in_err-lines-clause-err : goal.returns-in_err-lines-clause-err
 returns-in_err-lines-clause-err g c =
     let met = c.in_err-lines.ensures in
@@ -39,13 +31,3 @@ returns-in_err-lines-clause-err g c =
     (rw c.as_slice.ensures.value c.in_ok-text.ensures.ok)
     (λ line bytes same. met.not_hex line bytes (ap Err same))
     (λ r same. met.rejected r (ap Err same)))
-
-pub returns-clause-err : goal.returns-clause-err
-returns-clause-err g c =
-    let old = g.I.Read.remaining c.args.input.now in
-    let new = g.I.Read.remaining c.read_input.new.input in
-    let out = g.O.Write.contents c.args.out.now in
-    let after = g.O.Write.contents c.write_whole.new.out in
-    output_ends c.write_whole.result _ old new out after c.as_slice.result.now _ c.write_whole.ensures.err
-    (rw c.as_slice.ensures.value c.in_ok-text.ensures.ok)
-    (rw (c.as_bytes.ensures.value, c.as_str.ensures.value) c.in_ok-lines.ensures.ok) c.write_whole.ensures.part

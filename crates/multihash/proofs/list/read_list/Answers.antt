@@ -40,12 +40,6 @@ returns-in_err-read-clause-faults g c =
       | inr listed ↦ inr (listed.0, inl listed.1)
     ])
 
-pub returns-in_err-read-clause-capacity : goal.returns-in_err-read-clause-capacity
-returns-in_err-read-clause-capacity g c = rw (passed_error c.from_residual-in_err-read.result _ c.from_residual-in_err-read.ensures.1) tt
-
-pub returns-in_err-read-clause-ok : goal.returns-in_err-read-clause-ok
-returns-in_err-read-clause-ok g c = rw (passed_error c.from_residual-in_err-read.result _ c.from_residual-in_err-read.ensures.1) tt
-
 pub loop-preserved : goal.loop-preserved
 loop-preserved g c =
     let before = c.loop.invariant in

@@ -14,9 +14,6 @@ use Rattle.multihash.proofs.list.write_list.Given as given
 use Rattle.multihash.proofs.list.write_list.Goals as goal
 use Rattle.multihash.proofs.list.write_list.Goals.{After-item-item}
 
-pub loop-item-init : goal.loop-item-init
-loop-item-init g c = record { bytes = []; whole = λ others h. h; appends = g.met.W.Write.appends_nothing _; unfailed = refl }
-
 -- this item's encoding comes next
 next : (g : given.Over) (c : After-item-item g) (e others : List ℕ) → IsEncoding (pair_of c.item-item.result) e
     → AreConcatenated (map pair_of (drop (c.loop-item.item-index + 1) c.args.items.now)) others

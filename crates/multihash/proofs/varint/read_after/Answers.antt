@@ -28,9 +28,6 @@ returns-then-byte-ge-LAST_BYTE_LIMIT-clause-err g c =
     read_overflow c.loop-i.invariant.reads _ c.in-Some.byte (rw c.in-Some.is at c.in_ok-byte.ensures.byte)
     c.if-i-eq-MAX_CONTINUATION.true c.if-byte-ge-LAST_BYTE_LIMIT.true c.overflow.ensures
 
-pub returns-then-byte-eq0-clause-ok : goal.returns-then-byte-eq0-clause-ok
-returns-then-byte-eq0-clause-ok g c = tt
-
 pub returns-then-byte-eq0-clause-err : goal.returns-then-byte-eq0-clause-err
 returns-then-byte-eq0-clause-err g c =
     ends_in_zero c.loop-i.invariant.reads _ c.in-Some.byte (rw c.in-Some.is at c.in_ok-byte.ensures.byte) c.if-byte-eq0.true

@@ -4,11 +4,6 @@ use Rattle.multihash.proofs.ReadingLemmas.{Consumes-cut}
 use Rattle.multihash.proofs.VarintLemmas.{number_unique, number_no_error}
 use Rattle.multihash.proofs.varint.read_front.Goals as goal
 
-pub returns-in-Ok-clause-ok : goal.returns-in-Ok-clause-ok
-returns-in-Ok-clause-ok c =
-    let (bytes, is_found, consumes) = c.in-Ok.ensures.ok in
-    (bytes, is_found, Consumes-cut _ bytes _ consumes ∙ ap (λ l. bytes ++ l) (sym (take_rest c.args.bytes.now c.in-Ok.len)))
-
 pub returns-in-Ok-clause-found : goal.returns-in-Ok-clause-found
 returns-in-Ok-clause-found c n varint rest is cut =
     let (bytes, is_found, consumes) = c.in-Ok.ensures.ok in

@@ -18,11 +18,3 @@ pub returns-then-first-lt128-clause-ok : goal.returns-then-first-lt128-clause-ok
 returns-then-first-lt128-clause-ok g c =
     rw c.from.ensures
     (c.in-Some.first ∷ [], one_byte c.in-Some.first c.if-first-lt128.true, rw c.in-Some.is at c.in_ok-first.ensures.byte)
-
-pub returns-clause-ok : goal.returns-clause-ok
-returns-clause-ok g c = rw (rw c.in-Some.is at c.in_ok-first.ensures.byte) c.in_ok-read_after.ensures.ok
-
-pub returns-in_err-read_after-clause-front : goal.returns-in_err-read_after-clause-front
-returns-in_err-read_after-clause-front g c =
-    rw (passed_error c.from_residual-in_err-read_after.result _ c.from_residual-in_err-read_after.ensures.1)
-    (rw (rw c.in-Some.is at c.in_ok-first.ensures.byte, ← c.in_ok-first.ensures.faults) c.in_err-read_after.ensures.front)

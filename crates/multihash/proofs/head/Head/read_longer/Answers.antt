@@ -5,11 +5,6 @@ use Rattle.multihash.proofs.ReadingLemmas.{Consumes-cut}
 use Rattle.multihash.proofs.VerdictLemmas.{coded, head_of}
 use Rattle.multihash.proofs.head.Head.read_longer.Goals as goal
 
-pub returns-in_err-code-clause-err : goal.returns-in_err-code-clause-err
-returns-in_err-code-clause-err c =
-    let (error, named, malformed) = c.in_err-code.ensures.err in
-    rw (passed_error c.from_residual.result _ c.from_residual.ensures.1) (error, named, λ S. inl malformed)
-
 pub returns-in_err-digest_len-clause-err : goal.returns-in_err-digest_len-clause-err
 returns-in_err-digest_len-clause-err c =
     let bytes = c.args.bytes.now in

@@ -20,14 +20,6 @@ returns-then-not-is_valid_size g c = (
   c.from_size.ensures,
 )
 
-pub returns-then-digest-len : goal.returns-then-digest-len
-returns-then-digest-len g c = (
-  unexpected_eof,
-  whole_short c.in_ok-head.ensures.ok g.row.S (c.is_valid_size.ensures.fits c.if-not-is_valid_size.false) _ (take_rest c.args.bytes.now _)
-      c.if-digest-len.true,
-  (_, c.from.ensures, c.unexpected_eof.ensures),
-)
-
 pub returns-then-digest-len-2 : goal.returns-then-digest-len-2
 returns-then-digest-len-2 g c = (
   invalid_size _,
@@ -35,12 +27,4 @@ returns-then-digest-len-2 g c = (
       (take_rest c.args.bytes.now _)
       c.if-digest-len-2.true refl,
   c.from_size-then-digest-len-2.ensures,
-)
-
-pub returns : goal.returns
-returns g c = (
-  accepted _,
-  whole_exact c.in_ok-head.ensures.ok g.row.S (c.is_valid_size.ensures.fits c.if-not-is_valid_size.false) _ (take_rest c.args.bytes.now _)
-      (omega (arith, c.if-digest-len.false, c.if-digest-len-2.false)),
-  ap accepted (sym c.of_digest.ensures),
 )

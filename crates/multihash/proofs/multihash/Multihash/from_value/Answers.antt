@@ -21,9 +21,6 @@ returns-in_err-multihash-clause-verdict g c bytes h =
     (rw (passed_error c.from_residual.result _ c.from_residual.ensures.1)
     (whole_rejected g.row.S _ _ found.0 found.1 found.2))
 
-pub returns-in_err-multihash-clause-ok : goal.returns-in_err-multihash-clause-ok
-returns-in_err-multihash-clause-ok g c = rw (passed_error c.from_residual.result _ c.from_residual.ensures.1) tt
-
 pub returns-then-not-is_empty-clause-verdict : goal.returns-then-not-is_empty-clause-verdict
 returns-then-not-is_empty-clause-verdict g c bytes h =
     let m = c.in_ok-multihash.multihash in

@@ -26,11 +26,6 @@ pub returns-then-continuation_bytes-present-clause-err : goal.returns-then-conti
 returns-then-continuation_bytes-present-clause-err c = λ xs bytes f.
     (insufficient, c.insufficient.ensures, ends_short f (low_end bytes f c.if-stops-eq0.false) c.if-continuation_bytes-present.true)
 
-pub overflow_shr-varint : goal.overflow_shr-varint
-overflow_shr-varint c =
-    let low = bit_and c.args.word low_half in
-    omega (arith, (first_unmarked low (omega (arith, and_le_r c.args.word low_half))).some c.if-stops-eq0.false)
-
 pub returns-then-continuation_bytes-gt0-clause-err : goal.returns-then-continuation_bytes-gt0-clause-err
 returns-then-continuation_bytes-gt0-clause-err c = λ xs bytes f. (
   not_minimal,
