@@ -1,4 +1,5 @@
 -- A text has one line, a line names at most one list of bytes, and these are what `hex` decodes.
+use Rattle.std.proofs.Common.{rules}
 use Rattle.std.proofs.Common.{◌≡◌, ℕ, ◌+◌, ◌*◌, ◌%◌, true, List, [], ◌∷◌, length, Ok, refl, sym, ap, ◌∙◌, subst, arith, inl, inr}
 use Rattle.std.specs.List.{AllPass, AllZip, flat_map}
 use Rattle.std.proofs.lemmas.List.{append_cancel_right}
@@ -28,20 +29,11 @@ unfolding decode_pairs
 named_pairs i [] [] h = refl
 named_pairs i [] (byte ∷ bytes) h = absurd h
 named_pairs i (two ∷ digits) [] h = absurd h
-named_pairs i (two ∷ digits) (byte ∷ bytes) h =
-    let high = h.0.is_high in
-    let low = h.0.is_low in
-    let pair : pair_value two.0 two.1 i ≡ Ok (h.0.high * 16 + h.0.low) = rw (high, low) refl in
-    let value : h.0.high * 16 + h.0.low ≡ byte = omega (arith, h.0.value) in
-    decode_pairs-ok_pair i two.0 two.1 _ (flat_map two_digits digits) pair
-    ∙ ap (cons_byte (h.0.high * 16 + h.0.low)) (named_pairs (i + 2) digits bytes h.1)
-    ∙ ap (λ (v : ℕ). Ok (v ∷ bytes)) value
+named_pairs i (two ∷ digits) (byte ∷ bytes) h = grind (arith, named_pairs (i + 2) digits bytes h.1)
 
 -- `hex` decodes what a line names
 pub named_decodes : (line bytes : List ℕ) → NamesBytes line bytes → decode_of line ≡ Ok bytes
-named_decodes line bytes n =
-    let even : length line % 2 ≡ 0 = omega (arith, ap length n.encoded, length-two_digits n.digits) in
-    decode_of-even line even ∙ ap (decode_pairs 0) n.encoded ∙ named_pairs 0 n.digits bytes n.each
+named_decodes line bytes n = grind (arith, length-two_digits, named_pairs)
 
 -- an even number of digits names bytes
 digits_name : (line : List ℕ) → length line % 2 ≡ 0 → AllPass is_hex_digit line → (bytes : List ℕ) × NamesBytes line bytes

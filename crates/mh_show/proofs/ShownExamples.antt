@@ -1,6 +1,9 @@
 -- A text is shown by one list of lines, names no bytes or is rejected with the error of one verdict, and no two
 -- of these; and what runs did where the bytes of the input and the outputs are known. With a weaker part of a
 -- definition two may hold, or less is known.
+use Rattle.std.proofs.Common.{rules}
+use Rattle.std.proofs.Common.{arith}
+use Rattle.std.proofs.lemmas.Grind.{common_steps}
 use Rattle.std.proofs.Common.{◌≡◌, ◌≤◌, ℕ, List, [], ◌++◌, codes, refl, sym, ap, ◌∙◌, subst, inl, inr, append-nil}
 use Rattle.std.specs.Prelude.{⊤, ◌⊎◌, Option, None, Some, length}
 use Rattle.multihash.specs.Bytes.{IsPrefix, IsStrictPrefix}
@@ -49,11 +52,7 @@ module _ (text : List ℕ) where
 whole : (input text : List ℕ) (left : Option (List ℕ)) → ReadsWhole (Some input) left text
     → (text ≡ input) × (left ≡ Some []) × (length text ≤ 65536)
 whole input text None h = absurd h.consumes
-whole input text (Some rest) h = (
-  sym (h.consumes ∙ subst (λ (z : List ℕ). text ++ z ≡ text) (sym h.at_end) (append-nil text)),
-  ap (λ (z : List ℕ). Some z) h.at_end,
-  h.short,
-)
+whole input text (Some rest) h = grind (arith, append-nil)
 
 module _ (input out new : List ℕ) (left : Option (List ℕ)) where
   -- all lines of the input were appended, and nothing else
@@ -76,8 +75,7 @@ module _ (input out new : List ℕ) (left : Option (List ℕ)) where
 
   is_rejected : (e : Refusal) → EndsRun ⊤ (Some input) left (Some out) (Some new) (NotShown (Refused e))
       → IsRejectedAs input e × (left ≡ Some [])
-  is_rejected e (kept, text, reads, rejected) =
-      let all = whole input text left reads in (subst (λ (z : List ℕ). IsRejectedAs z e) all.0 rejected, all.1)
+  is_rejected e (kept, text, reads, rejected) = grind (arith, common_steps)
 
 -- no other error changes the output
 keeps_output : (e : RunError) (kept : Type 0) (input left out new : Option (List ℕ)) → EndsRun kept input left out new e

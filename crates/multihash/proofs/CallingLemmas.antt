@@ -123,12 +123,7 @@ rejected_size S size input rest (Err e) h over v =
 pub exact_fails : (n before middle after : ℕ) (old new : Option (List ℕ)) (error : Fault) → middle ≡ before
     → ((middle < after) × IsOwnFault error) ⊎ ((after ≡ middle) × IsUnexpectedEof error)
     → (IsUnexpectedEof error → HasFewerThan n old) → ConsumesFewerThan n old new → ExactFails n before after (of_io error) old new
-exact_fails n before middle after old new error same faults eof part =
-    subst (λ k. ExactFails n k after (of_io error) old new) same (record {
-      cause = elim faults [ inl own ↦ inl (own.0, (error, refl, own.1)) | inr ended ↦ inr (ended.0, (error, refl, ended.1)) ];
-      consumed = part;
-      short = λ unfailed. elim faults [ inl own ↦ absurd (omega (arith, own.0, unfailed)) | inr ended ↦ eof ended.1 ];
-    })
+exact_fails n before middle after old new error same faults eof part = grind (arith)
 
 -- `read_exact` of the last `m` of `n` bytes failed, after the others were consumed
 pub exact_after : (n m before after : ℕ) (read : List ℕ) (old mid new : Option (List ℕ)) (e : Refusal) → Consumes old read mid

@@ -1,6 +1,8 @@
 -- Numbers written in digits: bounds, one number for one list of digits, and digits as continuation bytes.
+use Rattle.std.proofs.Common.{rules}
+use Rattle.std.proofs.lemmas.Grind.{common_steps}
 use Rattle.std.proofs.Common.{◌≡◌, ℕ, zero, suc, ◌+◌, ◌*◌, ◌^◌, ◌<◌, List, [], ◌∷◌, ◌++◌, length, refl, ◌∙◌, arith, add-one, ◌%◌, ◌≤◌}
-use Rattle.std.proofs.Common.{map, sym, bit_or, length-append}
+use Rattle.std.proofs.Common.{map, bit_or, length-append}
 use Rattle.std.specs.List.{sum_by, enumerate_from, All}
 use Rattle.std.proofs.Math.Nat.{pow-suc, pow-zero, mul_assoc, mul-suc, mul-zero, mul-le-mul_left, mod-eq_of_lt}
 use Rattle.std.proofs.lemmas.List.Sums.{sum_by-cons}
@@ -15,8 +17,7 @@ abbrev value_from : ℕ → ℕ → List ℕ → ℕ
 value_from base k digits = sum_by (λ (place : ℕ × ℕ). place.1 * base ^ place.0) (enumerate_from k digits)
 
 value_from-cons : (base k d : ℕ) (ds : List ℕ) → value_from base k (d ∷ ds) ≡ d * base ^ k + value_from base (suc k) ds
-value_from-cons base k d ds =
-    rw (← add-one k) (sum_by-cons (λ (place : ℕ × ℕ). place.1 * base ^ place.0) (k, d) (enumerate_from (k + 1) ds))
+value_from-cons base k d ds = grind (arith, common_steps)
 
 value_from_next : (base k : ℕ) (ds : List ℕ) → value_from base (suc k) ds ≡ base * value_from base k ds
 value_from_next base k [] = omega arith
@@ -51,8 +52,7 @@ place_value_append base (x ∷ xs) ys =
 
 pub place_value_last : (base last : ℕ) (front : List ℕ)
     → place_value base (front ++ last ∷ []) ≡ place_value base front + last * base ^ length front
-place_value_last base last front =
-    rw (place_value_append base front (last ∷ []), place_value-cons base last [], place_value-nil base) (omega arith)
+place_value_last base last front = grind (arith, place_value_append, place_value-cons, place_value-nil)
 
 -- powers of a power of two
 pub pow_power : (k i : ℕ) → 2 ^ (k * i) ≡ (2 ^ k) ^ i
@@ -116,12 +116,4 @@ low_digits-continuation_bytes (d ∷ ds) all =
 pub or_digits : (front back : List ℕ) (i : ℕ) → length front ≡ i → place_value 128 (low_digits (front ++ back)) < 2 ^ 64
     → bit_or (place_value 128 (low_digits front)) (place_value 128 (low_digits back) * 2 ^ (7 * i) % 2 ^ 64)
     ≡ place_value 128 (low_digits (front ++ back))
-or_digits front back i long fits =
-    let low = place_value 128 (low_digits front) in
-    let high = place_value 128 (low_digits back) in
-    let place : 128 ^ length (low_digits front) ≡ 2 ^ (7 * i) = rw (length-map front (λ b. b % 128), long) (sym (pow_power 7 i)) in
-    let whole : place_value 128 (low_digits (front ++ back)) ≡ high * 2 ^ (7 * i) + low =
-    rw (map-append (λ b. b % 128) front back, place_value_append 128 (low_digits front) (low_digits back), place) (omega arith) in
-    let under : low < 2 ^ (7 * i) = omega (arith, place_value_below 128 (low_digits front) (low_digits_below front), place) in
-    let alone : high * 2 ^ (7 * i) < 2 ^ 64 = omega (arith, whole, fits) in
-    rw (mod-eq_of_lt alone, or_comm low (high * 2 ^ (7 * i)), or_shifted high (7 * i) low under) (sym whole)
+or_digits front back i long fits = grind (arith, length-map, pow_power, map-append, place_value_append, place_value_below, low_digits_below, mod-eq_of_lt, or_comm, or_shifted)

@@ -1,10 +1,10 @@
 -- Encodings: their parts and lengths; each pair has one; they are bytes. What is known of every value, also of one
 -- that nothing has read yet: its digest fits the buffer. The encoding of a pair in range is `encoding_of` it.
-use Rattle.std.proofs.Common.{◌≡◌, ℕ, ◌<◌, ◌≤◌, ◌+◌, List, [], ◌∷◌, ◌++◌, length, take, refl, sym, ap, ◌∙◌, subst, arith, length-append}
+use Rattle.std.proofs.Common.{◌≡◌, ℕ, ◌<◌, ◌≤◌, ◌+◌, List, [], ◌∷◌, ◌++◌, length, take, refl, sym, ap, ◌∙◌, arith, length-append}
 use Rattle.std.proofs.Common.{append_assoc, map, get_or}
 use Rattle.multihash.specs.Pair.{Pair, FitsBuffer}
 use Rattle.multihash.specs.Varint.{IsVarint, max_continuation, varint_limit, continuation_bytes}
-use Rattle.multihash.specs.Encoding.{IsEncoding, varint_of, encoding_of}
+use Rattle.multihash.specs.Encoding.{IsEncoding, encoding_of}
 use Rattle.std.proofs.lemmas.List.{take_at, append_cancel_left, append_cancel_right, drop-replicate, length-take}
 use Rattle.std.proofs.lemmas.List.Elements.{All-append, All-push, All-same, All-map, All-head}
 use Rattle.multihash.specs.Bytes.{IsBytes}
@@ -19,13 +19,7 @@ use Rattle.multihash.specs.Multihash.{Fields, pair_of}
 pub encoding_of_parts : (p : Pair) {code size : ℕ} {digest : List ℕ} (a b : List ℕ) → code ≡ p.code → size ≡ length p.digest
     → digest ≡ p.digest
     → IsVarint code a → IsVarint size b → IsEncoding p (a ++ (b ++ digest))
-encoding_of_parts p a b same_code same_size same_digest is_code is_size = record {
-  code = a;
-  size = b;
-  is_code = subst (λ n. IsVarint n a) same_code is_code;
-  is_size = subst (λ n. IsVarint n b) same_size is_size;
-  encoded = ap (λ z. a ++ (b ++ z)) same_digest;
-}
+encoding_of_parts p a b same_code same_size same_digest is_code is_size = grind (arith)
 
 -- the length of three parts
 pub length-parts : (a b digest : List ℕ) → length a + length b + length digest ≡ length (a ++ (b ++ digest))
@@ -43,9 +37,7 @@ same_cut a b x y l e =
 
 -- the parts of an encoding and of what follows it
 pub encoding_cut : (p : Pair) (a x : List ℕ) (e : IsEncoding p a) → a ++ x ≡ e.code ++ (e.size ++ (p.digest ++ x))
-encoding_cut p a x e =
-    ap (λ (z : List ℕ). z ++ x) e.encoded
-    ∙ (append_assoc e.code (e.size ++ p.digest) x ∙ ap (λ (z : List ℕ). e.code ++ z) (append_assoc e.size p.digest x))
+encoding_cut p a x e = grind (arith, append_assoc)
 
 -- two encodings at the front of one input are equal, of the same pair, and so is what follows them
 pub encoding_unique : (p q : Pair) (a b x y : List ℕ) → IsEncoding p a → IsEncoding q b → a ++ x ≡ b ++ y → (p ≡ q) × (a ≡ b) × (x ≡ y)
@@ -131,13 +123,7 @@ have_stream (m ∷ items) =
 -- the encoding of a pair in range is `encoding_of` the pair
 pub is_encoding_of : (p : Pair) → p.code < varint_limit → length p.digest < varint_limit → IsEncoding p (encoding_of p)
 unfolding encoding_of
-is_encoding_of p code size = record {
-  code = varint_of p.code;
-  size = varint_of (length p.digest);
-  is_code = is_varint_of p.code code;
-  is_size = is_varint_of (length p.digest) size;
-  encoded = refl;
-}
+is_encoding_of p code size = grind (arith, is_varint_of)
 
 -- each value has an encoding, `encoding_of` its pair
 pub encoding_of_value : {S : ℕ} (m : Fields S) → IsEncoding (pair_of m) (encoding_of (pair_of m))

@@ -1,6 +1,6 @@
 -- The JSON form: a list has one pair; the bytes that an array's members are.
-use Rattle.std.proofs.Common.{◌≡◌, ℕ, ◌<◌, List, [], ◌∷◌, ◌++◌, map, refl, sym, ap, ◌∙◌, subst, Some, arith, zero, suc, true, false}
-use Rattle.std.proofs.Common.{length, take, drop, set, slice_index_or, is_some, Option, None, inl, inr}
+use Rattle.std.proofs.Common.{◌≡◌, ℕ, ◌<◌, List, [], ◌∷◌, ◌++◌, map, refl, sym, ap, ◌∙◌, Some, arith, zero, suc, true, false}
+use Rattle.std.proofs.Common.{length, take, drop, set, slice_index_or, is_some, Option, None}
 use Rattle.serde_json.specs.Data.{Data, number, unsigned, Items, negative, float, null, boolean, string, array, object}
 use Rattle.serde_json.specs.View.{items_of, view, items_view}
 use Rattle.multihash.specs.Bytes.{IsBytes}
@@ -9,7 +9,7 @@ use Rattle.multihash.specs.Encoding.{IsEncoding}
 use Rattle.multihash.specs.Json.{number_array, IsByteArray, IsJsonList}
 use Rattle.multihash.proofs.EncodingLemmas.{encoding_unique, encoding_bytes}
 use Rattle.std.specs.List.{list_all}
-use Rattle.std.proofs.lemmas.Bool.{false≢true, and_parts, cases_lt, lt-ltb, le-ltb}
+use Rattle.std.proofs.lemmas.Bool.{false≢true, and_parts, lt-ltb}
 use Rattle.std.proofs.lemmas.List.Sums.{AllPass-from_list_all}
 use Rattle.std.proofs.lemmas.List.Elements.{All-nil, All-cons, All-head, All-tail}
 use Rattle.serde_json.specs.Find.{as_array}
@@ -35,8 +35,7 @@ json_same p q d h k =
 
 -- the bytes of the list are the encoding
 pub json_bytes : (p : Pair) (d : Data) (bytes : List ℕ) → IsJsonList p d → IsByteArray d bytes → IsEncoding p bytes
-json_bytes p d bytes h k =
-    subst (IsEncoding p) (array_unique h.encoding bytes (sym h.lists ∙ k.array)) h.encodes
+json_bytes p d bytes h k = grind (arith, array_unique)
 
 pub json_is_array : (p : Pair) (d : Data) → IsBytes p.digest → IsJsonList p d → (bytes : List ℕ) × IsByteArray d bytes
 json_is_array p d digest h =
@@ -55,13 +54,7 @@ byte_first v vs e = let parts = and_parts (is_byte v) (list_all is_byte vs) e in
 byte_data : (d : Data) (b : ℕ) → byte_of_data d ≡ Some b → (d ≡ number (unsigned b)) × (b < 256)
 byte_data null b e = cc
 byte_data (boolean _) b e = cc
-byte_data (number (unsigned n)) b e =
-    elim (cases_lt n 256) [
-      | inl small ↦
-          let found : Some n ≡ Some b = sym (rw (lt-ltb n 256 small) refl) ∙ e in
-          let same : n ≡ b = cc in (ap (λ m. number (unsigned m)) same, omega arith)
-      | inr large ↦ let none : None ≡ Some b = sym (rw (le-ltb n 256 large) refl) ∙ e in cc
-    ]
+byte_data (number (unsigned n)) b e = grind (arith)
 byte_data (number (negative _)) b e = cc
 byte_data (number (float _)) b e = cc
 byte_data (string _) b e = cc
@@ -99,15 +92,11 @@ array_data (object _) items e = cc
 
 pub byte_array : (d : Data) (vs : List Value) → as_array d ≡ Some (items_view vs) → list_all is_byte vs ≡ true
     → IsByteArray d (member_bytes vs)
-byte_array d vs e all =
-    let found = all_bytes vs all in record { array = array_data d (items_view vs) e ∙ ap array found.0; are_bytes = found.1 }
+byte_array d vs e all = grind (arith, all_bytes)
 
 pub no_byte_array : (d : Data) (vs : List Value) (bytes : List ℕ) → as_array d ≡ Some (items_view vs) → list_all is_byte vs ≡ false
     → ¬ (IsByteArray d bytes)
-no_byte_array d vs bytes e some h =
-    let same : Some (items_view vs) ≡ Some (numbers bytes) = sym e ∙ ap as_array h.array in
-    let items : items_view vs ≡ numbers bytes = cc in
-    false≢true (sym some ∙ bytes_all vs bytes items h.are_bytes)
+no_byte_array d vs bytes e some h = grind (arith, bytes_all)
 
 -- the byte of the first member, and those of the others
 pub first_byte : (v : Value) (vs : List Value) (b : ℕ) → byte_of_data (view v) ≡ Some b → member_bytes (v ∷ vs) ≡ b ∷ member_bytes vs
@@ -123,11 +112,6 @@ length-member_bytes [] e = refl
 length-member_bytes (v ∷ vs) e =
     let (found, others) = byte_first v vs e in
     rw found.1 (ap suc (length-member_bytes vs others))
-
--- the byte that a member is
-pub member_byte : (vs : List Value) (at : ℕ) (v : Value) → list_all is_byte vs ≡ true → at < length vs → v ≡ slice_index_or vs at v
-    → (b : ℕ) × (byte_of_data (view v) ≡ Some b)
-member_byte vs at v e inside is = some_value _ (ap is_byte is ∙ AllPass-from_list_all is_byte vs e at v inside)
 
 -- the bytes of the first members, and of the others
 pub bytes_split : (n : ℕ) (vs : List Value) → list_all is_byte vs ≡ true

@@ -1,6 +1,8 @@
 -- That the public contracts exclude what a mutant of `must-fail` returns: for one input of each, by the clauses of the call
 -- alone. The name of a lemma is that of its mutant. Where the right body in the place of the wrong one is proved, the
 -- prover's answer to the mutant is evidence by itself, and there is no lemma.
+use Rattle.std.proofs.Common.{rules}
+use Rattle.std.proofs.lemmas.Grind.{common_steps}
 use Rattle.std.proofs.Common.{◌≡◌, ◌≢◌, ◌<◌, ◌⊎◌, ℕ, Bool, List, [], ◌∷◌, ◌++◌, length, true, ltb, refl, sym, ap, subst, arith, inl, inr, length-append, ◌∙◌}
 use Rattle.std.specs.Prelude.{Some, Result, Ok, Err}
 use Rattle.std.specs.List.{list_all}
@@ -63,8 +65,7 @@ Read S input left r = ReadMeets S (Some input) (Some left) 0 0 r
 -- so each returns the result of the computed verdict
 of_bytes : (S : ℕ) (x : List ℕ) (r : Result (Fields S) Refusal) → list_all (λ b. ltb b 256) x ≡ true → FromBytes S x r
     → IsResultOf r (whole_found S x)
-of_bytes S x r bytes (v, has, is) =
-    subst (IsResultOf r) (whole_verdict_unique S x v (whole_found S x) has (has_whole_found S x (all_below 256 x bytes))) is
+of_bytes S x r bytes (v, has, is) = grind (arith, whole_verdict_unique, has_whole_found, all_below)
 
 of_input : (S : ℕ) (x : List ℕ) {left : List ℕ} (r : Result (Fields S) Refusal) → list_all (λ b. ltb b 256) x ≡ true → Read S x left r
     → IsResultOf r (found S x)
@@ -176,14 +177,7 @@ scale_reads_size_before_code h =
 -- the clause `ok`, for a byte after the empty digest
 scale_reads_past_digest : (m : Fields 4) → length (pair_of m).digest ≡ 0
     → ¬ ((bytes : List ℕ) × IsScale (pair_of m) bytes × Consumes (Some (zeros ++ 0x00 ∷ 0x07 ∷ [])) bytes (Some []))
-scale_reads_past_digest m empty (bytes, is, consumes) =
-    omega (
-      arith,
-      is.is_code.eight,
-      empty,
-      ap length (all_read (zeros ++ 0x00 ∷ 0x07 ∷ []) bytes (Some []) consumes refl ∙ is.encoded),
-      length-append is.code (length (pair_of m).digest ∷ (pair_of m).digest),
-    )
+scale_reads_past_digest m empty (bytes, is, consumes) = grind (arith, common_steps)
 
 -- an input that was consumed to its end before an unexpected end of file, or before the reader failed, is truncated
 pub truncated_input : (x : List ℕ) (e : Refusal) → list_all (λ b. ltb b 256) x ≡ true → ConsumesAtScaleError 4 e (Some x) (Some [])

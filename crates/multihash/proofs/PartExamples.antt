@@ -1,14 +1,12 @@
 -- What parts of definitions reject by themselves, where no other proof needs the part: laws of readers and writers, which
 -- are premises; how `scale_decode` fails; which slice was filled; values and pairs.
-use Rattle.std.proofs.Common.{◌^◌, ◌≡◌, ◌≢◌, ◌<◌, ◌≤◌, ℕ, false, List, [], ◌∷◌, ◌++◌, length, get_or, refl, sym, ap, ◌∙◌, subst, arith, inl, inr}
+use Rattle.std.proofs.Common.{◌^◌, ◌≡◌, ◌≢◌, ◌<◌, ◌≤◌, ℕ, false, List, [], ◌∷◌, ◌++◌, length, get_or, refl, sym, ap, ◌∙◌, arith, inl, inr}
 use Rattle.std.specs.Prelude.{Option, Some, None, Result, Ok, Err}
 use Rattle.std.proofs.lemmas.Bool.{false≢true}
-use Rattle.std.proofs.lemmas.List.{append_cancel_right}
 use Rattle.multihash.specs.Fault.{Fault, UnexpectedEof, WriteZero, OutOfMemory, Other}
-use Rattle.multihash.specs.Refusal.{of_io, of_size, of_code, of_not_bytes}
-use Rattle.multihash.specs.Verdict.{Verdict, accepted, invalid_size, unexpected_eof}
+use Rattle.multihash.specs.Refusal.{of_io, of_size, of_code}
 use Rattle.multihash.specs.Reading.{Consumes, ReadLaws, ReadExactLaws}
-use Rattle.multihash.specs.Scale.{HasScaleVerdict, ConsumesAtScaleError}
+use Rattle.multihash.specs.Scale.{ConsumesAtScaleError}
 use Rattle.multihash.specs.Writing.{IsWriterFault, AppendsPrefix, WriteLaws, WriteAllLaws, AppendsAtEnd}
 use Rattle.multihash.specs.Filling.{Fills}
 use Rattle.multihash.specs.declared.no_std_io.slice_writer.SliceWriter.{SliceWriter}
@@ -65,15 +63,10 @@ fails_and_takes_nothing h = omega (arith, ap (λ (o : Option (List ℕ)). length
 
 -- `read` reports the end of the input by no error, counted or not
 reads_no_end_by_eof : ¬ (ReadLaws left failed ([], 0) ([], 0) (7 ∷ []) (7 ∷ []) (Err eof))
-reads_no_end_by_eof h =
-    elim h.faults [ inl counted ↦ omega (arith, counted.0) | inr listed ↦ listed.1 ]
+reads_no_end_by_eof h = grind (arith)
 
 reads_no_end_by_error : ¬ (ReadLaws left failed ([], 0) ([], 1) (7 ∷ []) (7 ∷ []) (Err eof))
-reads_no_end_by_error h =
-    elim h.faults [
-      | inl (counted, own) ↦ elim own [ inl is ↦ cc | inr is ↦ cc ]
-      | inr listed ↦ listed.1
-    ]
+reads_no_end_by_error h = grind (arith)
 
 -- ---- the laws of `read_exact`
 
@@ -82,11 +75,7 @@ Filling old new buffer filled outcome = ReadExactLaws left failed old new buffer
 
 -- the end of the input is no error of the reader itself
 ends_by_no_counted_error : ¬ (Filling ([], 0) ([], 1) (7 ∷ []) (7 ∷ []) (Err eof))
-ends_by_no_counted_error h = elim h.faults [
-  | inl (counted, own) ↦ elim own [ inl is ↦ cc | inr is ↦ cc ]
-  | inr (same, is) ↦
-      omega (arith, same)
-]
+ends_by_no_counted_error h = grind (arith)
 
 fills_with_no_other_bytes : ¬ (Filling (1 ∷ 2 ∷ [], 0) (2 ∷ [], 0) (7 ∷ []) (5 ∷ []) (Ok 0))
 fills_with_no_other_bytes h = omega (arith, ap (λ (o : Option (List ℕ)). get_or (told o) 0 0) h.consumes)
@@ -136,11 +125,7 @@ full_is_no_error h = elim h.faults [ inl own ↦ no_own_full 0 0 own | inr stuck
 
 -- this writer, which does not allocate, is not out of memory without a counted failure
 write_needs_no_memory : ¬ (Writes ([], 0) (1 ∷ []) ([], 0) (Err memory))
-write_needs_no_memory h =
-    elim h.faults [
-      | inl own ↦ elim own.cause [ inl one ↦ omega (arith, one) | inr (allocates, e, same) ↦ false≢true allocates ]
-      | inr stuck ↦ stuck.2
-    ]
+write_needs_no_memory h = grind (arith, false≢true)
 
 -- ---- the laws of `write_all`
 
@@ -166,11 +151,7 @@ fails_before_the_end : ¬ (WritesAll ([], 0) (1 ∷ 2 ∷ []) (1 ∷ 2 ∷ [], 1
 fails_before_the_end h = appends_no_whole (record { part = h.err.part; strict = h.err.strict; appends = h.err.appends })
 
 write_all_needs_no_memory : ¬ (WritesAll ([], 0) (1 ∷ []) ([], 0) (Err memory))
-write_all_needs_no_memory h =
-    elim h.faults [
-      | inl own ↦ elim own.cause [ inl one ↦ omega (arith, one) | inr (allocates, e, same) ↦ false≢true allocates ]
-      | inr stuck ↦ let is = stuck.0 in cc
-    ]
+write_all_needs_no_memory h = grind (arith, false≢true)
 
 full_at_capacity_alone : ¬ (WritesAll ([], 0) (1 ∷ 2 ∷ []) (1 ∷ [], 0) (Err full))
 full_at_capacity_alone h = elim h.faults [ inl own ↦ no_own_full 0 0 own | inr stuck ↦ omega (arith, stuck.2) ]

@@ -42,15 +42,9 @@ verdict_of_error e unexpected_eof given = ap error_verdict (sym given.1)
 pub error_unique : (e : Refusal) (v w : Verdict) → IsErrorOf e v → IsErrorOf e w → v ≡ w
 error_unique e v w h k = verdict_of_error e v h ∙ sym (verdict_of_error e w k)
 
-own_not_eof : (e : Refusal) → IsReaderError e → IsEof e → ⊥
-own_not_eof e (error, given, kind) h =
-    let same : error ≡ h.0 = cc (given, h.1) in
-    elim kind [ inl other ↦ cc (same, other.1, h.2) | inr memory ↦ cc (same, memory, h.2) ]
-
 -- no verdict has an error of the reader's own
 pub own_no_verdict : (e : Refusal) (v : Verdict) → IsReaderError e → IsErrorOf e v → ⊥
-own_no_verdict e v own given =
-    own_not_eof e own (subst (IsErrorOf e) (verdict_of_error e v given ∙ ap error_verdict own.1) given)
+own_no_verdict e v own given = grind (arith)
 
 -- the error of an incomplete verdict
 pub incomplete_error : (e : Refusal) (v : Verdict) → IsErrorOf e v → IsIncomplete v → IsVarintError insufficient e ⊎ IsEof e
@@ -155,21 +149,7 @@ module _ (S : ℕ) (consumed : List ℕ) {old : Option (List ℕ)} (new : Option
 
     -- the reader failed
     pub at_failure : (e : Refusal) → before < after → IsReaderError e → ReadMeets S old new before after (Err e)
-    at_failure e rose own = record {
-      faults = inl (rose, own);
-      verdict = IfSome-consumed old new consumed _ consumes (λ left is unrisen. absurd (omega arith));
-      ok = tt;
-      fits = tt;
-      err = record {
-        consumed = consumed;
-        consumes = consumes;
-        insufficient = λ h. absurd (own_no_verdict e (malformed insufficient) own h);
-        eof = λ h. absurd (own_not_eof e own h);
-        failed = λ _. (v, soon, has);
-      };
-      settled = IfSome-consumed old new consumed _ consumes (λ left is unrisen. absurd (omega arith));
-      unsettled = none;
-    }
+    at_failure e rose own = grind (arith, none)
 
 pub read_returned : (S : ℕ) {consumed : List ℕ} {old : Option (List ℕ)} (new : Option (List ℕ)) {before after : ℕ} (m : Fields S)
     → after ≡ before → IsEncoding (pair_of m) consumed → Consumes old consumed new → ReadMeets S old new before after (Ok m)
@@ -182,8 +162,7 @@ read_returned S {consumed = consumed} new {before = before} {after = after} m un
 -- at the end of the input, the consumed bytes are all of it
 whole_at_end : (P : List ℕ → Type 0) (consumed : List ℕ) (new : Option (List ℕ)) → IsAtEnd new → P consumed
     → (left : List ℕ) → new ≡ Some left → P (consumed ++ left)
-whole_at_end P consumed new ends p left is =
-    let none : left ≡ [] = subst IsAtEnd is ends in subst P (sym (ap (λ z. consumed ++ z) none ∙ append-nil consumed)) p
+whole_at_end P consumed new ends p left is = grind (arith, append-nil)
 
 -- ---- in the code or the size
 

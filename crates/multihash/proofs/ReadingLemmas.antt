@@ -1,9 +1,10 @@
 -- What two calls, one after the other, consumed, and what is at the front of a buffer after them.
-use Rattle.std.proofs.Common.{◌≡◌, ℕ, ◌+◌, ◌≤◌, List, [], ◌++◌, Option, None, Some, IfSome, subst, length, take, refl, sym, ap, ◌∙◌, ◌-◌}
+use Rattle.std.proofs.Common.{arith}
+use Rattle.std.proofs.Common.{◌≡◌, ℕ, ◌+◌, ◌≤◌, List, [], ◌++◌, Option, None, Some, IfSome, subst, length, take, refl, sym, ap, ◌∙◌}
 use Rattle.std.proofs.Common.{append_assoc, append-nil, length-take-le}
 use Rattle.std.proofs.lemmas.List.{take-append-le}
 use Rattle.std.proofs.Math.Seq.{take-append-add}
-use borrow.Rule.Slice.PartMut.{put_mid, post_of}
+use borrow.Rule.Slice.PartMut.{put_mid}
 use Rattle.std.specs.Io.KnownBytes.{prepend_known, IsAtEnd}
 use Rattle.multihash.specs.Reading.{Consumes}
 
@@ -23,11 +24,7 @@ Consumes-concatenated c xs ys concatenated first second =
 -- the buffer starts with its old bytes before `at` and the first new ones
 pub take-put_mid_more : (at k n : ℕ) (xs ys : List ℕ) → at ≤ length xs → n ≤ length ys
     → take (at + n) (put_mid at k xs ys) ≡ take at xs ++ take n ys
-take-put_mid_more at k n xs ys within fits =
-    let after = post_of at k xs in
-    ap (λ m. take (m + n) (take at xs ++ (ys ++ after))) (sym (length-take-le at xs within))
-    ∙ take-append-add (take at xs) (ys ++ after) n
-    ∙ ap (λ l. take at xs ++ l) (take-append-le n ys after fits)
+take-put_mid_more at k n xs ys within fits = grind (arith, length-take-le, take-append-add, take-append-le)
 
 -- a known input is what was consumed, and then what remains
 pub Consumes-cut : (whole consumed left : List ℕ) → Consumes (Some whole) consumed (Some left) → whole ≡ consumed ++ left
@@ -42,8 +39,7 @@ Consumes-known whole consumed (Some left) consumes = (left, refl, Consumes-cut w
 -- at the end of a known input, all of it was consumed
 pub all_read : (whole consumed : List ℕ) (new : Option (List ℕ)) → Consumes (Some whole) consumed new → IsAtEnd new → whole ≡ consumed
 all_read whole consumed None consumes end = cc
-all_read whole consumed (Some left) consumes end =
-    Consumes-cut whole consumed left consumes ∙ ap (λ z. consumed ++ z) end ∙ append-nil consumed
+all_read whole consumed (Some left) consumes end = grind (arith, append-nil)
 
 -- what holds of the consumed bytes with any rest holds of the rest at entry, if the input is known
 pub IfSome-consumed : (old new : Option (List ℕ)) (consumed : List ℕ) (P : List ℕ → Type 0) → Consumes old consumed new

@@ -1,16 +1,18 @@
 -- A pair has one SCALE form, an input one verdict; the contract of decoding for each way to end.
+use Rattle.std.proofs.Common.{rules}
+use Rattle.std.proofs.lemmas.Grind.{common_steps}
 use Rattle.std.proofs.Common.{◌≡◌, ℕ, zero, suc, ◌/◌, ◌%◌, ◌^◌, ◌<◌, List, length, get_or, refl, sym, ap, ◌∙◌, arith, ◌+◌, ◌≤◌, cond, ltb}
 use Rattle.std.proofs.Common.{[], ◌∷◌, ◌++◌, take, drop, subst, inl, inr, length-append, append_assoc, append-nil, ◌⊎◌, Option, Result}
 use Rattle.std.proofs.Common.{Ok, Err, IfSome, IfOk, IfErr}
 use Rattle.std.specs.Int.{byte_at, bytes_low_first, to_le_bytes, from_le_bytes, w64}
 use Rattle.std.proofs.Math.Nat.{pow-suc, pow-zero, div-add-mod, div-div-eq-div-mul, div-one}
-use Rattle.std.proofs.lemmas.Nat.{mod_below, div_below, le_bytes_8}
-use Rattle.std.proofs.lemmas.List.Elements.{All-nil, All-cons, All-head, All-same}
+use Rattle.std.proofs.lemmas.Nat.{div_below, le_bytes_8}
+use Rattle.std.proofs.lemmas.List.Elements.{All-nil, All-head, All-same}
 use Rattle.multihash.specs.Bytes.{IsBytes, place_value}
 use Rattle.multihash.specs.Scale.{IsScaleCode, IsScale, HasScaleSize, HasScaleVerdict, ScaleMayFailWith, ConsumesAtScaleError}
 use Rattle.multihash.proofs.DigitLemmas.{place_value-nil, place_value-cons, place_value_unique, All-append_left, All-append_right}
 use Rattle.std.proofs.lemmas.Bool.{cases_lt, lt-ltb, le-ltb}
-use Rattle.std.proofs.lemmas.List.{take_at, drop_at, take-append-drop, length-take-le, append_cancel_left}
+use Rattle.std.proofs.lemmas.List.{take_at, take-append-drop, length-take-le, append_cancel_left}
 use Rattle.multihash.specs.Pair.{Pair}
 use Rattle.multihash.specs.Varint.{varint_limit}
 use Rattle.multihash.specs.Verdict.{Verdict, accepted, invalid_size, invalid_code, malformed, unexpected_eof, IsIncomplete}
@@ -29,9 +31,7 @@ byte_at-is (suc i) n = refl
 
 are_bytes : (k i n : ℕ) → IsBytes (bytes_low_first i k n)
 are_bytes zero i n = All-nil (λ b. b < 256)
-are_bytes (suc k) i n =
-    All-cons (λ b. b < 256) (byte_at i n) (bytes_low_first (suc i) k n)
-    (rw (byte_at-is i n) (mod_below (n / 256 ^ i) 256 (omega arith))) (are_bytes k (suc i) n)
+are_bytes (suc k) i n = grind (arith, are_bytes k (suc i) n)
 
 next_byte : (i n : ℕ) → n / 256 ^ suc i ≡ n / 256 ^ i / 256
 next_byte i n = ap (λ (p : ℕ). n / p) (pow-suc 256 i) ∙ sym (div-div-eq-div-mul n (256 ^ i) 256)
@@ -65,18 +65,14 @@ code_read bytes code eight each range read =
 pub scale_of : (p : Pair) (size : ℕ) (a digest : List ℕ) → IsScaleCode p.code a → p.code < varint_limit
     → size ≡ length p.digest → size < 256
     → digest ≡ p.digest → IsScale p (a ++ size ∷ digest)
-scale_of p size a digest is_code below long byte same =
-    record { code = a; is_code = is_code; in_range = below; size = omega (arith, long, byte); encoded = cc (long, same) }
+scale_of p size a digest is_code below long byte same = grind (arith)
 
 pub scale_exists : (p : Pair) → p.code < varint_limit → length p.digest < 256 → (bytes : List ℕ) × IsScale p bytes
 scale_exists p below size = (_, scale_of p _ _ p.digest (code_bytes p.code (omega (arith, below))) below refl size refl)
 
 -- a pair has at most one form
 pub scale_same : (p : Pair) (a b : List ℕ) → IsScale p a → IsScale p b → a ≡ b
-scale_same p a b h k =
-    let codes = place_value_unique 256 h.code k.code h.is_code.are_bytes k.is_code.are_bytes (h.is_code.eight ∙ sym k.is_code.eight)
-    (h.is_code.value ∙ sym k.is_code.value) in
-    cc (codes, h.encoded, k.encoded)
+scale_same p a b h k = grind (arith, place_value_unique)
 
 -- eight bytes of the code, one of the size, and the digest
 pub scale_length : (p : Pair) (bytes : List ℕ) → IsScale p bytes → length bytes ≡ 9 + length p.digest
@@ -98,40 +94,14 @@ scale_judged S code rest = cond (ltb code varint_limit) (scale_after S code rest
 abbrev found_at : ℕ → ℕ → List ℕ → Verdict
 found_at k S x = cond (ltb (length x) k) unexpected_eof (scale_judged S (place_value 256 (take k x)) (drop k x))
 
-found_after : (k S code : ℕ) (x bytes rest : List ℕ) → k ≡ 8 → IsScaleCode code bytes → x ≡ bytes ++ rest
-    → found_at k S x ≡ scale_judged S code rest
-found_after k S code x bytes rest eight is cut =
-    let long : length bytes ≡ k = is.eight ∙ sym eight in
-    rw (
-      cut,
-      le-ltb (length (bytes ++ rest)) k (omega (arith, length-append bytes rest, long)),
-      take_at bytes rest k long,
-      drop_at bytes rest k long,
-      is.value,
-    ) refl
-
 scale_found_is : (k S : ℕ) (x : List ℕ) (v : Verdict) → k ≡ 8 → HasScaleVerdict S x v → found_at k S x ≡ v
-scale_found_is k S x (accepted p) eight (bytes, rest, h, fits, cut) =
-    found_after k S p.code x h.code (length p.digest ∷ (p.digest ++ rest)) eight h.is_code
-    (cut ∙ (ap (λ (z : List ℕ). z ++ rest) h.encoded ∙ append_assoc h.code (length p.digest ∷ p.digest) rest))
-    ∙ rw (
-      lt-ltb p.code varint_limit h.in_range,
-      le-ltb S (length p.digest) fits,
-      le-ltb (length (p.digest ++ rest)) (length p.digest) (omega (arith, length-append p.digest rest)),
-      take_at p.digest rest (length p.digest) refl,
-    ) refl
-scale_found_is k S x (invalid_code code) eight (bytes, rest, is_code, above, cut) =
-    found_after k S code x bytes rest eight is_code cut ∙ rw (le-ltb code varint_limit above) refl
-scale_found_is k S x (invalid_size size) eight (rest, h, over) =
-    found_after k S h.code x h.code_bytes (size ∷ rest) eight h.is_code h.cut
-    ∙ rw (lt-ltb h.code varint_limit h.in_range, lt-ltb S size over) refl
+scale_found_is k S x (accepted p) eight (bytes, rest, h, fits, cut) = grind (arith, common_steps)
+scale_found_is k S x (invalid_code code) eight (bytes, rest, is_code, above, cut) = grind (arith, common_steps)
+scale_found_is k S x (invalid_size size) eight (rest, h, over) = grind (arith, common_steps)
 scale_found_is k S x (malformed error) eight h = absurd h
 scale_found_is k S x unexpected_eof eight (inl short) = rw (lt-ltb (length x) k (omega (arith, short, eight))) refl
-scale_found_is k S x unexpected_eof eight (inr (inl (code, is_code, below))) =
-    found_after k S code x x [] eight is_code (sym (append-nil x)) ∙ rw (lt-ltb code varint_limit below) refl
-scale_found_is k S x unexpected_eof eight (inr (inr (size, rest, h, within, short))) =
-    found_after k S h.code x h.code_bytes (size ∷ rest) eight h.is_code h.cut
-    ∙ rw (lt-ltb h.code varint_limit h.in_range, le-ltb S size within, lt-ltb (length rest) size short) refl
+scale_found_is k S x unexpected_eof eight (inr (inl (code, is_code, below))) = grind (arith)
+scale_found_is k S x unexpected_eof eight (inr (inr (size, rest, h, within, short))) = grind (arith, common_steps)
 
 abbrev pub scale_found : ℕ → List ℕ → Verdict
 scale_found S x = found_at 8 S x
@@ -174,8 +144,7 @@ scale_sized S size x rest h byte =
 
 scale_in_range : (S code : ℕ) (x bytes rest : List ℕ) → IsScaleCode code bytes → x ≡ bytes ++ rest → IsBytes rest
     → code < varint_limit → (v : Verdict) × HasScaleVerdict S x v
-scale_in_range S code x bytes [] is_code cut each below =
-    (unexpected_eof, inr (inl (code, subst (IsScaleCode code) (sym (cut ∙ append-nil bytes)) is_code, below)))
+scale_in_range S code x bytes [] is_code cut each below = grind (arith, append-nil)
 scale_in_range S code x bytes (size ∷ rest) is_code cut each below =
     scale_sized S size x rest (record { code = code; code_bytes = bytes; is_code = is_code; in_range = below; cut = cut })
     (All-head (λ b. b < 256) size rest each)
@@ -267,15 +236,7 @@ module _ (S : ℕ) (new : Option (List ℕ)) where
           → length digest ≡ size → after ≡ before → pair_of m ≡ record { code = code; digest = digest }
           → Consumes old (a ++ size ∷ digest) new
           → ScaleMeets S old new before after (Ok m)
-      scale_returned {old = old} digest m fits byte long same made consumes =
-          let p : Pair = record { code = code; digest = digest } in
-          let form : IsScale p (a ++ size ∷ digest) = scale_of p size a digest is below (sym long) byte refl in record {
-            faults = same;
-            verdict = IfSome-consumed old new (a ++ size ∷ digest) _ consumes (λ left _ _.
-                (accepted p, (_, left, form, omega (arith, long, fits), refl), ap accepted (sym made)));
-            ok = (a ++ size ∷ digest, subst (λ q. IsScale q (a ++ size ∷ digest)) (sym made) form, consumes);
-            err = tt;
-          }
+      scale_returned {old = old} digest m fits byte long same made consumes = grind (arith, scale_of)
 
   -- the input ended or the reader failed within n bytes that follow others
   pub inside_rejected : {old mid : Option (List ℕ)} {before after : ℕ} (a : List ℕ) (n : ℕ)
@@ -311,17 +272,4 @@ no_size S is below (b ∷ t) none = absurd (omega arith)
 
 pub cut_scale_digest : (S : ℕ) {code : ℕ} {a : List ℕ} → IsScaleCode code a → (size : ℕ) → code < varint_limit → size ≤ S
     → (t : List ℕ) → length t < size → HasScaleVerdict S ((a ++ size ∷ []) ++ t) unexpected_eof
-cut_scale_digest S {code = code} {a = a} is size below fits t short =
-    inr (inr (
-      size,
-      t,
-      record {
-        code = code;
-        code_bytes = a;
-        is_code = is;
-        in_range = below;
-        cut = append_assoc a (size ∷ []) t;
-      },
-      fits,
-      short,
-    ))
+cut_scale_digest S {code = code} {a = a} is size below fits t short = grind (arith, append_assoc)

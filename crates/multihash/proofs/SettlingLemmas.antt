@@ -1,4 +1,6 @@
 -- An input settles its verdict exactly if that is not incomplete; the shortest prefix that does.
+use Rattle.std.proofs.Common.{rules}
+use Rattle.std.proofs.lemmas.Grind.{common_steps}
 use Rattle.std.proofs.Common.{◌≡◌, ℕ, ◌⊎◌, List, [], ◌∷◌, ◌++◌, refl, inl, inr, ◌-◌, ◌<◌, ◌↔◌, length, replicate, sym, ap, ◌∙◌, subst}
 use Rattle.std.proofs.Common.{arith, length-append, append_assoc, append-nil, ◌+◌, ◌≤◌, get_or}
 use Rattle.multihash.specs.Bytes.{IsStrictPrefix, IsBytes, IsPrefix, ExactlyOne}
@@ -47,10 +49,7 @@ append_more : (x a r more : List ℕ) → x ≡ a ++ r → x ++ more ≡ a ++ (r
 append_more x a r more e = ap (λ (z : List ℕ). z ++ more) e ∙ append_assoc a r more
 
 size_kept : (size : ℕ) (x rest more : List ℕ) → BeginsWithSize size x rest → BeginsWithSize size (x ++ more) (rest ++ more)
-size_kept size x rest more h =
-    sized h.code size h.code_bytes h.size_bytes (x ++ more) (rest ++ more) h.is_code h.is_size
-    (append_more x h.code_bytes (h.size_bytes ++ rest) more h.cut
-    ∙ ap (λ (z : List ℕ). h.code_bytes ++ z) (append_assoc h.size_bytes rest more))
+size_kept size x rest more h = grind (arith, append_assoc)
 
 code_kept : (x rest more : List ℕ) → BeginsWithCode x rest → BeginsWithCode (x ++ more) (rest ++ more)
 code_kept x rest more c = coded c.code c.code_bytes (x ++ more) (rest ++ more) c.is_code (append_more x c.code_bytes rest more c.cut)
@@ -58,20 +57,8 @@ code_kept x rest more c = coded c.code c.code_bytes (x ++ more) (rest ++ more) c
 -- unless its end is missing, a malformed varint stays so whatever follows
 pub error_kept : (f : VarintError) (x more : List ℕ) → ¬ (IsIncomplete (malformed f)) → BeginsMalformed f x → BeginsMalformed f (x ++ more)
 error_kept insufficient x more late h = absurd (late tt)
-error_kept overflow x more late h =
-    let cut = append_more x h.front (h.byte ∷ h.rest) more h.cut in
-    record {
-      front = h.front;
-      byte = h.byte;
-      rest = _;
-      all_continuation = h.all_continuation;
-      most = h.most;
-      too_large = h.too_large;
-      cut = cut;
-    }
-error_kept not_minimal x more late h =
-    let cut = append_more x h.front (0 ∷ h.rest) more h.cut in
-    record { front = h.front; rest = _; all_continuation = h.all_continuation; some = h.some; few = h.few; cut = cut }
+error_kept overflow x more late h = grind (arith, common_steps)
+error_kept not_minimal x more late h = grind (arith, common_steps)
 
 -- so the front of an input that starts with a varint is malformed only if it ends within it
 pub error_of_part : (n : ℕ) (bytes rest x more : List ℕ) (f : VarintError) → IsVarint n bytes → bytes ++ rest ≡ x ++ more

@@ -1,7 +1,7 @@
 -- Parts in a stream, none of which is a prefix of another, can be split in one way only; one more pair has been
 -- consumed.
 use Rattle.std.proofs.Common.{◌≡◌, ℕ, ◌<◌, ◌≤◌, List, [], ◌∷◌, ◌++◌, length, refl, sym, ap, ◌∙◌, subst, arith, length-append}
-use Rattle.std.proofs.Common.{append_assoc, append-nil, Option, Some, map}
+use Rattle.std.proofs.Common.{append_assoc, append-nil, Option, map}
 use Rattle.std.specs.List.{All}
 use Rattle.multihash.specs.Pair.{Pair, FitsBuffer}
 use Rattle.multihash.specs.Encoding.{IsEncoding}
@@ -11,25 +11,22 @@ use Rattle.multihash.proofs.VarintLemmas.{varint_some}
 use Rattle.multihash.proofs.EncodingLemmas.{encoding_unique}
 use Rattle.std.proofs.lemmas.List.{map_push, nil_from_length}
 use Rattle.std.proofs.lemmas.List.Elements.{All-push, All-head}
-use Rattle.multihash.specs.Consuming.{ConsumesSome}
 use Rattle.multihash.specs.Reading.{Consumes}
 use Rattle.multihash.specs.Multihash.{Fields, pair_of}
-use Rattle.multihash.proofs.ReadingLemmas.{Consumes-concatenated, Consumes-known}
+use Rattle.multihash.proofs.ReadingLemmas.{Consumes-concatenated}
 
 module _ {A : Type 0} (IsPart : A → List ℕ → Type 0) where
   -- one more part after the parts of a list
   pub parts_push : (xs : List A) (x : A) (bytes part : List ℕ) → AreParts IsPart xs bytes → IsPart x part
       → AreParts IsPart (xs ++ x ∷ []) (bytes ++ part)
   parts_push [] x bytes part none is = (part, [], is, refl, ap (λ z. z ++ part) none ∙ sym (append-nil part))
-  parts_push (y ∷ xs) x bytes part (first, rest, is_first, others, cut) is =
-      (first, rest ++ part, is_first, parts_push xs x rest part others is, ap (λ z. z ++ part) cut ∙ append_assoc first rest part)
+  parts_push (y ∷ xs) x bytes part (first, rest, is_first, others, cut) is = grind (arith, append_assoc, parts_push xs x rest part others is)
 
   -- if each item has one part, a list of items has one stream
   pub parts_same : ((x : A) (a b : List ℕ) → IsPart x a → IsPart x b → a ≡ b) → (xs : List A) (a b : List ℕ) → AreParts IsPart xs a
       → AreParts IsPart xs b → a ≡ b
   parts_same same [] a b g h = g ∙ sym h
-  parts_same same (x ∷ xs) a b (p, a', is_p, g, a_cut) (q, b', is_q, h, b_cut) =
-      cc (a_cut, b_cut, same x p q is_p is_q, parts_same same xs a' b' g h)
+  parts_same same (x ∷ xs) a b (p, a', is_p, g, a_cut) (q, b', is_q, h, b_cut) = grind (arith, parts_same same xs a' b' g h)
 
   module _ (unique : (x y : A) (a b r s : List ℕ) → IsPart x a → IsPart y b → a ++ r ≡ b ++ s → (x ≡ y) × (a ≡ b) × (r ≡ s)) where
     -- of two streams at the front of one input, the one of fewer items is the front of the other
@@ -82,8 +79,7 @@ module _ {A : Type 0} (IsPart : A → List ℕ → Type 0) where
           → a ++ r ≡ b ++ s
           → (zs : List A) × (ys ≡ xs ++ zs)
       prefix_of [] ys a b r s none h longer e = (ys, refl)
-      prefix_of (x ∷ xs) [] a b r s (p, a', is, g, cut) none longer e =
-          absurd (omega (arith, longer, some x p is, ap length cut, ap length none, length-append p a'))
+      prefix_of (x ∷ xs) [] a b r s (p, a', is, g, cut) none longer e = grind (arith, length-append)
       prefix_of (x ∷ xs) (y ∷ ys) a b r s (p, a', is_p, g, a_cut) (q, b', is_q, h, b_cut) longer e =
           let first = unique x y p q (a' ++ r) (b' ++ s) is_p is_q
           (sym (ap (λ z. z ++ r) a_cut ∙ append_assoc p a' r) ∙ (e ∙ (ap (λ z. z ++ s) b_cut ∙ append_assoc q b' s))) in

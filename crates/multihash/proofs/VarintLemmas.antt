@@ -54,39 +54,18 @@ varint_same n a b v w =
 -- the digits of few enough bytes make a number in range
 pub low_digits_in_range : (ms : List ℕ) (b : ℕ) → length ms ≤ max_continuation → (length ms ≡ max_continuation → b < last_byte_limit)
     → place_value 128 (low_digits (ms ++ b ∷ [])) < varint_limit
-low_digits_in_range ms b few most =
-    elim (cases_lt (length ms) max_continuation) [
-      | inl short ↦
-          let whole = low_digits (ms ++ b ∷ []) in
-          let base : 0 < 128 = omega arith in
-          let long : length whole ≤ max_continuation = omega (arith, length-map (ms ++ b ∷ []) (λ b. b % 128), length_push ms b) in
-          let high : 128 ^ length whole ≤ 128 ^ max_continuation = pow-le-pow_right base long in
-          omega (arith, place_value_below 128 whole (low_digits_below (ms ++ b ∷ [])), high)
-      | inr full ↦
-          let long : length (low_digits ms) ≡ max_continuation = length-map ms (λ b. b % 128) ∙ omega (arith, few) in
-          rw (map_push (λ b. b % 128) ms b, place_value_last 128 (b % 128) (low_digits ms), long)
-          (omega (arith, rw long at (place_value_below 128 (low_digits ms) (low_digits_below ms)), most (omega (arith, few))))
-    ]
+low_digits_in_range ms b few most = grind (arith, length-map, length_push, pow-le-pow_right, place_value_below, low_digits_below)
 
 -- continuation bytes that are few enough, and a last byte that may end them, are a varint
 pub varint_from_bytes : (ms : List ℕ) (b : ℕ) → IsBytes ms → All IsContinuation ms → b < 128 → length ms ≤ max_continuation
     → (length ms ≡ max_continuation → b < last_byte_limit) → (b ≡ 0 → ms ≡ [])
     → IsVarint (place_value 128 (low_digits (ms ++ b ∷ []))) (ms ++ b ∷ [])
-varint_from_bytes ms b bytes all small few most minimal = record {
-  front = low_digits ms;
-  last = b;
-  digits = All-push IsDigit (low_digits ms) b (low_digits_below ms) small;
-  minimal = λ z. ap low_digits (minimal z);
-  value = ap (place_value 128) (sym (map_push (λ b. b % 128) ms b ∙ ap (λ d. low_digits ms ++ d ∷ []) (mod-eq_of_lt small)));
-  in_range = low_digits_in_range ms b few most;
-  encoded = ap (λ front. front ++ b ∷ []) (sym (continuation_bytes-low_digits ms bytes all));
-}
+varint_from_bytes ms b bytes all small few most minimal = grind (arith, low_digits_below, map_push, low_digits_in_range, continuation_bytes-low_digits)
 
 -- a byte after the most continuation bytes that is too large overflows
 pub overflow_after : (ms : List ℕ) (b : ℕ) (rest : List ℕ) → All IsContinuation ms → length ms ≡ max_continuation → last_byte_limit ≤ b
     → IsOverflow (ms ++ b ∷ rest)
-overflow_after ms b rest all most large =
-    record { front = ms; byte = b; rest = rest; all_continuation = all; most = most; too_large = large; cut = refl }
+overflow_after ms b rest all most large = grind (arith)
 
 -- a zero after continuation bytes is not minimal
 pub zero_after : (ms rest : List ℕ) → All IsContinuation ms → 0 < length ms → length ms ≤ max_continuation → IsNotMinimal (ms ++ 0 ∷ rest)
@@ -199,11 +178,7 @@ ends_has (m ∷ ms) (suc b) rest all small few most bytes = (
 front_has : (left : ℕ) (ms y : List ℕ) → All IsContinuation ms → length ms + left ≡ max_continuation → IsBytes (ms ++ y)
     → HasFront (ms ++ y) (front_from left ms y)
 front_has left ms [] all room bytes = rw (append-nil ms) (record { few = omega (arith, room); all_continuation = all })
-front_has zero ms (b ∷ rest) all room bytes =
-    elim (cases_lt b last_byte_limit) [
-      | inl low ↦ rw (lt-ltb b last_byte_limit low) (ends_has ms b rest all (omega arith) (omega (arith, room)) (λ _. low) bytes)
-      | inr high ↦ rw (le-ltb b last_byte_limit high) (overflow_after ms b rest all (omega (arith, room)) high)
-    ]
+front_has zero ms (b ∷ rest) all room bytes = grind (arith, ends_has)
 front_has (suc left) ms (b ∷ rest) all room bytes =
     elim (cases_lt b 128) [
       | inl small ↦ rw (lt-ltb b 128 small)
@@ -230,8 +205,7 @@ varint_unique m n a b r s is also e =
 
 -- a varint has one byte more than its continuation bytes
 pub varint_bytes : (n : ℕ) (bytes : List ℕ) (v : IsVarint n bytes) → length bytes ≡ length v.front + 1
-varint_bytes n bytes v =
-    omega (arith, ap length v.encoded, length-append (continuation_bytes v.front) (v.last ∷ []), length-map v.front (λ digit. digit + 128))
+varint_bytes n bytes v = grind (arith, length-append, length-map)
 
 -- a varint is not empty
 pub varint_some : (n : ℕ) (bytes : List ℕ) → IsVarint n bytes → 0 < length bytes

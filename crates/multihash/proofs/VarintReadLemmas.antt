@@ -1,12 +1,12 @@
 -- Reading a varint byte by byte: the invariant of the loop, and what has been consumed at its end.
-use Rattle.std.proofs.Common.{◌≡◌, ℕ, ◌+◌, ◌*◌, ◌%◌, ◌^◌, ◌<◌, ◌≤◌, ◌⊎◌, List, [], ◌∷◌, ◌++◌, length, Option, refl, sym, ap, ◌∙◌, subst}
+use Rattle.std.proofs.Common.{◌≡◌, ℕ, ◌+◌, ◌*◌, ◌%◌, ◌^◌, ◌<◌, ◌≤◌, ◌⊎◌, List, [], ◌∷◌, ◌++◌, length, Option, refl, sym, ap, ◌∙◌}
 use Rattle.std.proofs.Common.{inl, inr, arith, append_assoc, bit_and, bit_or}
 use Rattle.std.specs.List.{All}
 use Rattle.std.specs.Io.KnownBytes.{IsAtEnd, prepend_known}
 use Rattle.std.proofs.Math.Nat.{lt_of_not-le}
 use Rattle.std.proofs.lemmas.Nat.{and_mask}
 use Rattle.std.proofs.lemmas.List.{length_push, nil_from_length}
-use Rattle.std.proofs.lemmas.List.Elements.{All-nil, All-push}
+use Rattle.std.proofs.lemmas.List.Elements.{All-push}
 use Rattle.multihash.specs.Bytes.{IsBytes, IsStrictPrefix, place_value}
 use Rattle.multihash.specs.Varint.{max_continuation, last_byte_limit, IsContinuation, VarintError, insufficient, overflow, not_minimal}
 use Rattle.multihash.specs.Varint.{IsInsufficient, BeginsMalformed}
@@ -16,7 +16,7 @@ use Rattle.multihash.specs.Refusal.{Refusal, of_io, of_varint}
 use Rattle.multihash.specs.Consuming.{ConsumesVarint, ConsumesAtVarintError}
 use Rattle.multihash.proofs.DigitLemmas.{place_value-nil, place_value-cons, low_digits, or_digits}
 use Rattle.multihash.proofs.VarintLemmas.{low_digits_in_range, varint_from_bytes, overflow_after, zero_after}
-use Rattle.multihash.proofs.ReadingLemmas.{Consumes-none, Consumes-concatenated}
+use Rattle.multihash.proofs.ReadingLemmas.{Consumes-concatenated}
 use Rattle.multihash.proofs.SettlingLemmas.{before_step}
 
 -- that many bytes have been consumed, all continuation bytes, and the sum is the value of their digits
@@ -30,15 +30,7 @@ pub record ReadsContinuation (old now : Option (List ℕ)) (sum i : ℕ) : Type 
   pub value : sum ≡ place_value 128 (low_digits front)
 
 pub none_read : (old : Option (List ℕ)) → ReadsContinuation old old 0 0
-none_read old = record {
-  front = [];
-  consumes = Consumes-none old;
-  bytes = All-nil (λ b. b < 256);
-  continuation_bytes = All-nil IsContinuation;
-  long = refl;
-  few = omega arith;
-  value = sym (place_value-nil 128);
-}
+none_read old = grind (arith, place_value-nil)
 
 -- the lowest seven bits of a byte are its digit
 digit_of : (byte : ℕ) → bit_and byte 127 ≡ place_value 128 (low_digits (byte ∷ []))
@@ -46,15 +38,7 @@ digit_of byte = and_mask byte 7 ∙ omega (arith, place_value-cons 128 (byte % 1
 
 pub one_read : (now : Option (List ℕ)) (byte : ℕ) → byte < 256 → 128 ≤ byte
     → ReadsContinuation (prepend_known (byte ∷ []) now) now (bit_and byte 127) 1
-one_read now byte small large = record {
-  front = byte ∷ [];
-  consumes = refl;
-  bytes = All-push (λ b. b < 256) [] byte (All-nil (λ b. b < 256)) small;
-  continuation_bytes = All-push IsContinuation [] byte (All-nil IsContinuation) large;
-  long = refl;
-  few = omega arith;
-  value = digit_of byte;
-}
+one_read now byte small large = grind (arith, digit_of)
 
 -- the sum with the low digit of one more byte
 abbrev pub with_byte : ℕ → ℕ → ℕ → ℕ
@@ -89,24 +73,10 @@ module _ {old now : Option (List ℕ)} {sum i : ℕ} (h : ReadsContinuation old 
       → BeginsMalformed error consumed → ((shorter : List ℕ) → IsStrictPrefix shorter consumed → IsInsufficient shorter)
       → (error ≡ insufficient → IsAtEnd new)
       → Consumes old consumed new → ConsumesAtVarintError e old new
-  varint_rejected new error consumed given has no_sooner all consumes = record {
-    consumed = consumed;
-    consumes = consumes;
-    shows = λ f malformed. let same : error ≡ f = cc (given, malformed) in subst (λ k. BeginsMalformed k consumed) same has;
-    no_sooner = no_sooner;
-    all = λ malformed. all (cc (given, malformed));
-    failed = λ own. absurd (cc (given, own.1));
-  }
+  varint_rejected new error consumed given has no_sooner all consumes = grind (arith)
 
   pub reader_failed : (error : Fault) {e : Refusal} → e ≡ of_io error → ConsumesAtVarintError e old now
-  reader_failed error given = record {
-    consumed = h.front;
-    consumes = h.consumes;
-    shows = λ f malformed. absurd (cc (given, malformed));
-    no_sooner = before_end;
-    all = λ malformed. absurd (cc (given, malformed));
-    failed = λ _. whole;
-  }
+  reader_failed error given = grind (arith, before_end)
 
   pub input_ended : IsAtEnd now → {e : Refusal} → e ≡ of_varint insufficient → ConsumesAtVarintError e old now
   input_ended end given = varint_rejected now insufficient h.front given whole before_end (λ _. end) h.consumes

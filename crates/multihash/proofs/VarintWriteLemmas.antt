@@ -1,11 +1,13 @@
 -- The invariant of the loop that writes a varint's bytes; each number in range has a varint.
+use Rattle.std.proofs.Common.{rules}
+use Rattle.std.proofs.lemmas.Grind.{common_steps}
 use Rattle.std.proofs.Common.{◌≡◌, ℕ, zero, suc, ◌+◌, ◌*◌, ◌/◌, ◌%◌, ◌^◌, ◌<◌, ◌≤◌, List, [], ◌∷◌, ◌++◌, length, refl, sym, ap, ◌∙◌}
 use Rattle.std.proofs.Common.{arith, add-one, append_assoc, inl, inr, bit_and, bit_or}
 use Rattle.std.specs.List.{All}
 use Rattle.std.proofs.Math.Nat.{lt_of_not-le, pow-suc, pow-zero, div-add-mod', pow-le-pow_right, mul-le-mul_right}
 use Rattle.std.proofs.lemmas.Nat.{and_mask, or_comm, or_shifted, mod_below, div_below}
 use Rattle.std.proofs.lemmas.List.{map_push, length_push, nil_from_length}
-use Rattle.std.proofs.lemmas.List.Elements.{All-nil, All-push}
+use Rattle.std.proofs.lemmas.List.Elements.{All-push}
 use Rattle.std.proofs.lemmas.Bool.{cases_lt, lt-ltb, le-ltb}
 use Rattle.multihash.specs.Bytes.{place_value}
 use Rattle.multihash.specs.Varint.{varint_limit, max_continuation, continuation_bytes, IsVarint}
@@ -22,18 +24,10 @@ pub record Wrote (now : List ℕ) (len n rest : ℕ) : Type 0 where
   pub encoded : now ≡ continuation_bytes front
 
 pub none_wrote : (n : ℕ) → Wrote [] 0 n n
-none_wrote n = record {
-  front = [];
-  long = refl;
-  digits = All-nil IsDigit;
-  more = λ some. absurd (omega (arith, some));
-  value = rw place_value-nil (omega arith);
-  encoded = refl;
-}
+none_wrote n = grind (arith, place_value-nil)
 
 continuation_byte : (rest : ℕ) → bit_or (bit_and rest 127) 128 ≡ rest % 128 + 128
-continuation_byte rest =
-    rw (and_mask rest 7) (or_comm (rest % 128) 128 ∙ or_shifted 1 7 (rest % 128) (mod_below rest 128 (omega arith)) ∙ omega arith)
+continuation_byte rest = grind (arith, common_steps)
 
 module _ {now : List ℕ} {len n rest : ℕ} (h : Wrote now len n rest) where
   pub wrote_more : {next : List ℕ} → 128 ≤ rest → next ≡ now ++ bit_or (bit_and rest 127) 128 ∷ [] → Wrote next (len + 1) n (rest / 128)
@@ -60,15 +54,6 @@ module _ {now : List ℕ} {len n rest : ℕ} (h : Wrote now len n rest) where
       in_range = range;
       encoded = ap (λ (z : List ℕ). z ++ rest ∷ []) h.encoded;
     }
-
-    -- fewer digits have been written than a varint may have
-    pub wrote_few : len ≤ max_continuation
-    wrote_few =
-        let positive : 0 < 128 = omega arith in
-        let few : len < suc max_continuation = lt_of_not-le (λ (more : suc max_continuation ≤ len).
-        let power : 128 ^ suc max_continuation ≤ 128 ^ len = pow-le-pow_right positive more in
-        omega (arith, power, h.value, range, mul-le-mul_right (128 ^ len) (h.more (omega arith)))) in
-        omega arith
 
 -- after eight digits of a number in range one is left
 pub last_digit : {now : List ℕ} {n rest : ℕ} → Wrote now 8 n rest → n < varint_limit → rest < 128

@@ -202,24 +202,12 @@ module _ {code size len : ℕ} {input : List ℕ} (h : HasHead code size len inp
     after : BeginsWithSize size input rest
     after = rw is h.varints
 
-    pub whole_short : length rest < size → HasWholeVerdict S input unexpected_eof
-    whole_short short = (size, rest, after, within, short)
-
     -- bytes trail the digest
     pub whole_trailing : {n : ℕ} → size < length rest → n ≡ length rest - size → HasWholeVerdict S input (invalid_size n)
     whole_trailing more count =
         let long : length (take size rest) ≡ size = length-take-le size rest (omega arith) in
         let begins = pair_begins size input rest after (take size rest) (drop size rest) long (sym (take-append-drop size rest)) in
         inr (_, drop size rest, begins, omega arith, omega (arith, length-drop size rest, count), omega arith)
-
-    -- the digest, and nothing after it
-    pub whole_exact : length rest ≡ size → HasWholeVerdict S input (accepted (record { code = code; digest = rest }))
-    whole_exact exact =
-        let p : Pair = record { code = code; digest = rest } in
-        let begins : BeginsWith p input [] =
-        rw (← h.is_code, is) (pair_begins size input (drop len input) h.varints (drop len input) [] (ap length (sym is) ∙ exact)
-        (sym (append-nil (drop len input)))) in
-        (whole_pair p input begins, omega arith)
 
 -- the two varints are a head
 pub head_of : {code size : ℕ} (k m : ℕ) (input : List ℕ) {left : List ℕ} → left ≡ drop k input → k ≤ length input → m ≤ length left

@@ -1,5 +1,7 @@
 -- The word of a slice's first bytes, and what it shows of the varint at their front. All for speed: no loop
 -- over the bytes of a varint.
+use Rattle.std.proofs.Common.{rules}
+use Rattle.std.proofs.lemmas.Grind.{common_steps}
 use Rattle.std.proofs.Common.{◌≡◌, ℕ, zero, suc, ◌-◌, ◌<◌, ◌≤◌, List, [], ◌++◌, length, get_or, take, drop, replicate, refl, sym, ap, ◌∙◌}
 use Rattle.std.proofs.Common.{arith, length-append, add-one, ◌+◌, ◌*◌, ◌/◌, ◌%◌, ◌^◌, ◌∷◌, bit_and, bit_or}
 use Rattle.std.specs.Int.{byte_worth, sum_through, from_le_bytes, w128}
@@ -22,14 +24,7 @@ use Rattle.multihash.proofs.WordLemmas.{kept_last}
 
 sum_of_bytes : (bs : List ℕ) (n : ℕ) → n < length bs → sum_through (λ i. byte_worth i (get_or bs i 0)) n ≡ place_value 256 (take (suc n) bs)
 sum_of_bytes bs zero within = rw (take-suc bs 0 0 within, place_value-cons 256 (get_or bs 0 0) [], place_value-nil 256) (omega arith)
-sum_of_bytes bs (suc n) within =
-    let long : length (take (suc n) bs) ≡ suc n = length-take-le (suc n) bs (omega arith) in
-    rw (
-      sum_of_bytes bs n (omega arith),
-      take-suc bs (suc n) 0 within,
-      place_value_last 256 (get_or bs (suc n) 0) (take (suc n) bs),
-      long,
-    ) refl
+sum_of_bytes bs (suc n) within = grind (arith, common_steps, take-suc, place_value_last, sum_of_bytes bs n (omega arith))
 
 pub le_word : (bs : List ℕ) → length bs ≡ 16 → from_le_bytes w128 bs ≡ place_value 256 bs
 le_word bs long = sum_of_bytes bs 15 (omega arith) ∙ ap (place_value 256) (take_all 16 bs (omega arith))
@@ -90,9 +85,7 @@ pub record EndsAt (xs : List ℕ) (k last : ℕ) : Type 0 where
 
 module _ {xs : List ℕ} {word present k last : ℕ} (f : IsFrontWord xs word present) (end : EndsAt xs k last) where
   pub ends_short : present ≤ k → IsInsufficient xs
-  ends_short past =
-      let all : take k xs ≡ xs = take_all k xs (omega (arith, f.present_is, end.few)) in
-      record { few = omega (arith, f.present_is, end.few); all_continuation = rw all at end.begins.all_continuation }
+  ends_short past = grind (arith, take_all)
 
   module _ (within : k < present) where
     below : k < length xs

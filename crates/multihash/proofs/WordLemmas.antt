@@ -1,4 +1,6 @@
 -- The bytes of a word, the number of its digits, and the first byte of a half that is no continuation byte.
+use Rattle.std.proofs.Common.{rules}
+use Rattle.std.proofs.lemmas.Grind.{common_steps}
 use Rattle.std.proofs.Common.{◌≡◌, ℕ, zero, suc, ◌+◌, ◌-◌, ◌*◌, ◌/◌, ◌%◌, ◌^◌, ◌<◌, ◌≤◌, List, [], ◌∷◌, length, get_or, take, drop, sym}
 use Rattle.std.proofs.Common.{ap, ◌∙◌, arith, bit_and, replicate, refl, add-one, inl, inr}
 use Rattle.std.proofs.Math.Nat.{add-zero, mul-suc, mul_assoc, lt_of_not-le}
@@ -51,9 +53,7 @@ lowest_byte (y ∷ ys) all = omega (arith, All-head (λ b. b < 256) y ys all, by
 
 -- byte i of the value
 pub byte_of : (ys : List ℕ) (i : ℕ) → IsBytes ys → byte_at (place_value 256 ys) i ≡ get_or ys i 0
-byte_of ys i all =
-    rw (high_bytes ys i all)
-    (lowest_byte (drop i ys) (All-drop (λ b. b < 256) i ys all) ∙ get_or-drop i ys 0 0 ∙ ap (λ (k : ℕ). get_or ys k 0) (add-zero i))
+byte_of ys i all = grind (arith, common_steps, high_bytes, lowest_byte)
 
 -- ---- the number of the digits
 
@@ -69,9 +69,7 @@ pub digits_joined : (half : ℕ) → half < 2 ^ 64
     + bit_and (half / 2 ^ 48) digit_mask * 2 ^ 42 % 2 ^ 64 + bit_and (half / 2 ^ 56) digit_mask * 2 ^ 49 % 2 ^ 64
     ≡ digits_low 8 half
 unfolding digits_low
-digits_joined half fits =
-    let each : (i : ℕ) → bit_and (half / 2 ^ i) digit_mask ≡ half / 2 ^ i % 2 ^ 7 = λ i. and_mask (half / 2 ^ i) 7 in
-    rw (and_mask half 7, each 8, each 16, each 24, each 32, each 40, each 48, each 56) (omega arith)
+digits_joined half fits = grind (arith, common_steps)
 
 -- the lowest digit first
 digits_low-cons : (i word : ℕ) → digits_low (suc i) word ≡ word % 128 + 128 * digits_low i (word / 256)
@@ -86,9 +84,7 @@ pub digits_low_of : (i : ℕ) (ys : List ℕ) → IsBytes ys → length ys ≤ i
 unfolding digits_low
 digits_low_of zero [] all few = sym (place_value-nil 128)
 digits_low_of zero (y ∷ ys) all few = absurd (omega arith)
-digits_low_of (suc i) [] all few =
-    let rest = rw (place_value-nil 256, place_value-nil 128) at (digits_low_of i [] all (omega arith)) in
-    rw (place_value-nil 256, digits_low-cons i 0) (omega (arith, rest, place_value-nil 128))
+digits_low_of (suc i) [] all few = grind (arith, place_value-nil, digits_low-cons)
 digits_low_of (suc i) (y ∷ ys) all few =
     let small : y < 256 = All-head (λ b. b < 256) y ys all in
     let above : place_value 256 (y ∷ ys) / 256 ≡ place_value 256 ys = omega (arith, byte_more y ys) in
@@ -100,11 +96,7 @@ and_halves a b = omega (arith, and_shr a b 1, and_mod a b 1)
 
 -- t is the index of the lowest set bit of b: if no bit is set in both, `a & (b - 1)` is the bits of a up to t
 and_less : (t a b : ℕ) → bit_at b t ≡ 1 → ((i : ℕ) → i < t → bit_at b i ≡ 0) → bit_and a b ≡ 0 → bit_and a (b - 1) ≡ a % 2 ^ suc t
-and_less zero a b set unset apart =
-    let odd : b % 2 ≡ 1 = omega (arith, set) in
-    let high : (b - 1) / 2 ≡ b / 2 = omega arith in
-    let low : (b - 1) % 2 ≡ 0 = omega arith in
-    omega (arith, rw (high, low) at (and_halves a (b - 1)), and_le_r (a % 2) 0, rw odd at (and_halves a b), and_mask (a % 2) 1, apart)
+and_less zero a b set unset apart = grind (arith, and_halves)
 and_less (suc t) a b set unset apart =
     let even : b % 2 ≡ 0 = omega (arith, unset 0 (omega arith)) in
     let some : 0 < b = omega (arith, set, shr_le b (suc t)) in

@@ -1,4 +1,6 @@
 -- What has been appended after several writes; a writer to a slice fails only if its capacity is too small.
+use Rattle.std.proofs.Common.{rules}
+use Rattle.std.proofs.lemmas.Grind.{common_steps}
 use Rattle.std.proofs.Common.{◌≡◌, ◌≢◌, ◌<◌, [], ◌∷◌, refl, ℕ, ◌-◌, List, ◌++◌, length, take, drop, Result, OnErr, sym, ap, ◌∙◌, arith}
 use Rattle.std.proofs.Common.{append_assoc, take-append-drop, length-append, length-drop, ◌≤◌, false, inl, inr, Ok, Err, IsOk, ◌+◌}
 use Rattle.std.proofs.lemmas.List.{take_rest, length-take-le, drop-drop}
@@ -20,14 +22,12 @@ length_of_not_nil (x ∷ xs) some = omega arith
 -- the first n of the remaining bytes follow those done so far
 pub concatenated-take-drop : {whole : List ℕ} (done left : List ℕ) (n : ℕ) → whole ≡ done ++ left
     → whole ≡ (done ++ take n left) ++ drop n left
-concatenated-take-drop done left n e =
-    e ∙ ap (λ l. done ++ l) (sym (take-append-drop n left)) ∙ sym (append_assoc done (take n left) (drop n left))
+concatenated-take-drop done left n e = grind (arith, take-append-drop, append_assoc)
 
 -- the first n of the remaining bytes follow those done so far, the others are `left[n..]`
 pub concatenated-take-range : {whole : List ℕ} (done left : List ℕ) (n : ℕ) → whole ≡ done ++ left
     → whole ≡ (done ++ take n left) ++ take (length left - n) (drop n left)
-concatenated-take-range done left n e = concatenated-take-drop done left n e
-    ∙ ap (λ l. (done ++ take n left) ++ l) (sym (take_rest left n))
+concatenated-take-range done left n e = grind (arith, concatenated-take-drop, take_rest)
 
 -- a strict prefix of the first of two lists is a prefix of both
 pub IsStrictPrefix-append : (x y z : List ℕ) → IsStrictPrefix x y → IsStrictPrefix x (y ++ z)
@@ -147,26 +147,10 @@ filled_length {old = old} {bytes = bytes} {new = new} {n = n} {m = m} h =
       length-append (take n old) (drop n old),
     )
 
--- a slice that is full after a strict prefix of `bytes` had less capacity left than they need
-pub fewer_left : (old new : SliceWriter) (bytes : List ℕ) → AppendsPrefix Fills old bytes new → IsFilled new
-    → length old.buffer.now < old.filled + length bytes
-fewer_left old new bytes h full =
-    omega (
-      arith,
-      full,
-      h.appends.fills.count,
-      filled_length h.appends.fills,
-      ap length h.strict.2,
-      length-append h.part h.strict.0,
-      length_of_not_nil h.strict.0 h.strict.1,
-    )
-
 -- The two facts are the clauses `err` and `faults` of `write`, `scale_encode` and `write_list`.
 -- A call that writes to a `SliceWriter` succeeds if the remaining capacity suffices
 pub slice_writer_has_room : {T : Type 0} (old new : SliceWriter) (IsForm : List ℕ → Type 0) (r : Result T Refusal)
     → OnErr r ((bytes : List ℕ) × IsForm bytes × AppendsPrefix Fills old bytes new) → CountsWriterFailures IsIo false 0 0 (IsFilled new) r
     → ((bytes : List ℕ) → IsForm bytes → old.filled + length bytes ≤ length old.buffer.now) → IsOk r
 slice_writer_has_room old new IsForm (Ok x) stopped errors enough = refl
-slice_writer_has_room old new IsForm (Err e) stopped errors enough =
-    let (bytes, is_form, part) = stopped in
-    absurd (omega (arith, fewer_left old new bytes part (full_of_errors 0 (IsFilled new) errors.0 errors.2), enough bytes is_form))
+slice_writer_has_room old new IsForm (Err e) stopped errors enough = grind (arith, common_steps)

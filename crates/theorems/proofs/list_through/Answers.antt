@@ -1,5 +1,7 @@
 -- What was written is a concatenation of encodings, and reading a concatenation of encodings returns their pairs, unless an
 -- allocation or the reader itself fails (`unless_failed`).
+use Rattle.std.proofs.Common.{rules}
+use Rattle.std.proofs.Common.{arith}
 use Rattle.std.proofs.Common.{map, inl, inr, ◌≡◌, ◌⊎◌, ◌<◌, ℕ, Result, Ok, Err, MatchResult, IsErrAnd, sym, subst}
 use Rattle.std.proofs.lemmas.List.{length-map}
 use Rattle.multihash.specs.Multihash.{pair_of}
@@ -27,19 +29,10 @@ error_passed (Ok x) e P given holds = given
 error_passed (Err x) e P given holds = subst P (sym given) holds
 
 pub returns-in_err-write_list-clause-written : goal.returns-in_err-write_list-clause-written
-returns-in_err-write_list-clause-written g c =
-    let wrote = c.in_err-write_list.ensures in
-    let part = wrote.err.2 in
-    let error = write_error g.W.Write.allocates (g.W.Write.failures c.args.w.now) _ _ wrote.faults in (
-      wrote.err.0,
-      wrote.err.1,
-      inr (error_passed c.from_residual.result _ _ c.from_residual.ensures.1 error, (part.part, part.strict, part.appends)),
-    )
+returns-in_err-write_list-clause-written g c = grind (arith)
 
 pub returns-in_err-write_list-clause-back : goal.returns-in_err-write_list-clause-back
-returns-in_err-write_list-clause-back g c more pipe fit =
-    let error = write_error g.W.Write.allocates (g.W.Write.failures c.args.w.now) _ _ c.in_err-write_list.ensures.faults in
-    rw (passed_error c.from_residual.result _ c.from_residual.ensures.1) (inr (inl error))
+returns-in_err-write_list-clause-back g c more pipe fit = grind (arith)
 
 pub returns-clause-back : goal.returns-clause-back
 returns-clause-back g c more pipe fit =

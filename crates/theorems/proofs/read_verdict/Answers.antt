@@ -1,5 +1,7 @@
 -- `read` decides at the first byte that can: each clause is one of its contract with what is proved of all inputs, that
 -- they have one verdict and at most one shortest prefix that settles it (`one_verdict`, `settles`).
+use Rattle.std.proofs.Common.{rules}
+use Rattle.std.proofs.Common.{arith}
 use Rattle.std.proofs.Common.{◌≡◌, ◌≢◌, ◌↔◌, ◌⊎◌, ◌<◌, ◌++◌, ℕ, List, Option, Some, None, Result, Ok, Err, IfSome, IsErrAnd, IsOkAnd}
 use Rattle.std.proofs.Common.{inl, inr, sym, ap, ◌∙◌, subst, [], IfErr}
 use Rattle.std.specs.Io.KnownBytes.{IsAtEnd}
@@ -135,8 +137,7 @@ pair_returned : (S before after : ℕ) (old : Option (List ℕ)) (r : Result (Fi
     → IfSome old (λ rest. after ≡ before → (v : Verdict) × HasVerdict S rest v × IsResultOf r v)
     → IfSome old (λ rest. after ≡ before → (p : Pair)
     → ((left : List ℕ) × BeginsWith p rest left × FitsBuffer S p) ↔ IsOkAnd r (λ m. pair_of m ≡ p))
-pair_returned S before after old r unique verdict = IfSome_then old verdict
-    (λ rest found same p. let v = found same in returns_pair S rest r v.0 v.1 v.2 (λ w has. unique S rest w v.0 has v.1) p)
+pair_returned S before after old r unique verdict = grind (arith, returns_pair)
 
 pub returns : goal.returns
 returns g c =

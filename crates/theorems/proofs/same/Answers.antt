@@ -1,3 +1,4 @@
+use Rattle.std.proofs.Common.{rules}
 use Rattle.std.proofs.Common.{inl, inr, sym, ◌∙◌, subst, arith, [], append-nil}
 use Rattle.multihash.specs.Encoding.{IsEncoding}
 use Rattle.multihash.specs.Multihash.{pair_of}
@@ -5,12 +6,10 @@ use Rattle.multihash.proofs.EncodingLemmas.{digest_fits}
 use Rattle.theorems.proofs.same.Goals as goal
 
 pub returns-clause-first : goal.returns-clause-first
-returns-clause-first g c =
-    c.prefix_free.ensures.one_encoding (pair_of c.args.a.now) c.args.a.now.in_range (omega (arith, digest_fits c.args.a.now))
+returns-clause-first g c = grind (arith, digest_fits)
 
 pub returns-clause-second : goal.returns-clause-second
-returns-clause-second g c =
-    c.prefix_free.ensures.one_encoding (pair_of c.args.b.now) c.args.b.now.in_range (omega (arith, digest_fits c.args.b.now))
+returns-clause-second g c = grind (arith, digest_fits)
 
 pub returns-clause-alike : goal.returns-clause-alike
 returns-clause-alike g c x y a b = (

@@ -15,11 +15,7 @@ take_split a b old new h front =
 
 -- the first n bytes of what was written at a
 slice_range-put_mid : (a k n : ℕ) (xs ys : List ℕ) → a ≤ length xs → n ≤ length ys → slice_range (put_mid a k xs ys) a (a + n) ≡ take n ys
-slice_range-put_mid a k n xs ys within fits =
-    let same : (a + n) - a ≡ n = omega arith in
-    let after = post_of a k xs in
-    ap (take ((a + n) - a)) (drop_at (take a xs) (ys ++ after) a (length-take-le a xs within)) ∙ ap (λ m. take m (ys ++ after)) same
-    ∙ take-append-le n ys after fits
+slice_range-put_mid a k n xs ys within fits = grind (arith, drop_at, length-take-le, take-append-le)
 
 pub loop-length-preserved : goal.loop-length-preserved
 loop-length-preserved g c =

@@ -1,4 +1,6 @@
 -- A text has one line (`line_unique`), so what the calls say of the line that was found holds of each line of the text.
+use Rattle.std.proofs.Common.{rules}
+use Rattle.std.proofs.Common.{arith}
 use Rattle.std.proofs.Common.{◌≡◌, ℕ, ◌%◌, ◌⊎◌, List, length, Result, Ok, Err, sym, ap, ◌∙◌, subst, inl, inr}
 use Rattle.std.specs.Result.{IsErrAnd}
 use Rattle.hex.specs.declared.error.FromHexError.{FromHexError}
@@ -37,30 +39,10 @@ returns-in_err-bytes-clause-not_hex c line bytes same is_line named =
     (same_error c.from_residual.result _ _ same c.from_residual.ensures.1)
 
 pub returns-in_err-multihash-clause-rejected : goal.returns-in_err-multihash-clause-rejected
-returns-in_err-multihash-clause-rejected c e same =
-    let met = c.in_err-multihash.ensures in
-    let made = same_error c.from_residual-in_err-multihash.result _ _ same c.from_residual-in_err-multihash.ensures.1 in
-    let error : c.in_err-multihash.field-0.0 ≡ e = cc made in (
-      _,
-      c.as_slice.result.now,
-      met.0,
-      c.line_of.ensures,
-      rw c.as_slice.ensures.value (decoded_names _ _ c.in_ok-bytes.ensures.ok),
-      met.1,
-      subst (λ (r : Refusal). IsErrorOf r met.0) error met.2,
-    )
+returns-in_err-multihash-clause-rejected c e same = grind (arith, decoded_names)
 
 pub returns-clause-ok : goal.returns-clause-ok
-returns-clause-ok c =
-    let met = c.in_ok-multihash.ensures in (
-      _,
-      c.as_slice.result.now,
-      pair_of c.in_ok-multihash.multihash,
-      c.line_of.ensures,
-      rw c.as_slice.ensures.value (decoded_names _ _ c.in_ok-bytes.ensures.ok),
-      subst (HasWholeVerdict 64 c.as_slice.result.now) met.2 met.1,
-      c.in_ok-lines.ensures,
-    )
+returns-clause-ok c = grind (arith, decoded_names)
 
 pub returns-clause-odd : goal.returns-clause-odd
 returns-clause-odd c line is_line odd =

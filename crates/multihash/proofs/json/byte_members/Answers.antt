@@ -1,4 +1,5 @@
-use Rattle.std.proofs.Common.{◌≡◌, Some, true, false, sym, ap, ◌∙◌}
+use Rattle.std.proofs.Common.{arith}
+use Rattle.std.proofs.Common.{◌≡◌, Some, true, sym, ap, ◌∙◌}
 use Rattle.std.specs.List.{list_all}
 use Rattle.serde_json.specs.View.{view, items_view}
 use Rattle.multihash.specs.Private.{is_byte}
@@ -13,7 +14,4 @@ returns-then-are_bytes c =
     (all, byte_array (view c.args.value.now) items (sym c.in_ok-members.ensures ∙ ap (λ l. Some (items_view l)) (sym same)) all)
 
 pub returns-else-are_bytes : goal.returns-else-are_bytes
-returns-else-are_bytes c bytes =
-    let none : list_all is_byte c.in_ok-members.members.now.items ≡ false =
-    ap (list_all is_byte) (sym c.deref.ensures.value) ∙ sym c.if-are_bytes.ensures in
-    no_byte_array (view c.args.value.now) c.in_ok-members.members.now.items bytes (sym c.in_ok-members.ensures) none
+returns-else-are_bytes c bytes = grind (arith, no_byte_array)

@@ -1,8 +1,9 @@
 -- The loop keeps that the bytes appended so far and the encodings of the items that are left are those of all items, so a
 -- failure at any item has appended a strict prefix of them.
-use Rattle.std.proofs.Common.{◌+◌, ℕ, List, [], ◌∷◌, ◌++◌, map, drop, refl, sym, ap, ◌∙◌, append_assoc, append-nil}
+use Rattle.std.proofs.Common.{arith}
+use Rattle.std.proofs.Common.{◌+◌, ℕ, List, [], ◌++◌, map, drop, refl, ◌∙◌, append_assoc, append-nil}
 use Rattle.std.proofs.lemmas.List.{drop_more, drop_all}
-use Rattle.multihash.specs.Multihash.{Fields, pair_of}
+use Rattle.multihash.specs.Multihash.{pair_of}
 use Rattle.multihash.specs.Encoding.{IsEncoding}
 use Rattle.multihash.specs.Streams.{AreConcatenated}
 use Rattle.multihash.specs.Writing.{AppendsPrefix}
@@ -18,12 +19,7 @@ use Rattle.multihash.proofs.list.write_list.Goals.{After-item-item}
 next : (g : given.Over) (c : After-item-item g) (e others : List ℕ) → IsEncoding (pair_of c.item-item.result) e
     → AreConcatenated (map pair_of (drop (c.loop-item.item-index + 1) c.args.items.now)) others
     → AreConcatenated (map pair_of c.args.items.now) (c.loop-item.invariant.bytes ++ (e ++ others))
-next g c e others encodes h =
-    let items = c.args.items.now in
-    let i = c.loop-item.item-index in
-    let cut = drop_more items i c.item-item.result c.loop-item-test.true ∙ ap (λ (m : Fields g.row.S). m ∷ drop (i + 1) items)
-    (sym c.item-item.is) in
-    c.loop-item.invariant.whole (e ++ others) (rw cut (e, others, encodes, h, refl))
+next g c e others encodes h = grind (arith, drop_more)
 
 pub loop-item-preserved : goal.loop-item-preserved
 loop-item-preserved g c =

@@ -1,4 +1,4 @@
-use Rattle.std.proofs.Common.{◌≡◌, ◌<◌, take, length, ◌∙◌, arith, rules, subst, sym}
+use Rattle.std.proofs.Common.{◌≡◌, take, ◌∙◌, arith, rules, subst, sym}
 use Rattle.std.proofs.lemmas.List.{take_all, take_more_set}
 use Rattle.std.proofs.Math.ListN.{length-set}
 use Rattle.multihash.specs.Varint.{IsVarint}
@@ -15,13 +15,7 @@ returns-then-rest-lt128 c =
     (wrote_last before.wrote c.requires c.if-rest-lt128.true)
 
 pub loop-len-preserved : goal.loop-len-preserved
-loop-len-preserved c =
-    let before = c.loop-len.invariant in
-    let room : c.loop-len.len < length c.loop-len.buffer = omega (arith, c.loop-len-test.true, before.buffer) in
-    record {
-      wrote = wrote_more before.wrote c.if-rest-lt128.false (take_more_set c.loop-len.buffer c.loop-len.len _ room);
-      buffer = length-set c.loop-len.buffer c.loop-len.len _ ∙ before.buffer;
-    }
+loop-len-preserved c = grind (arith, wrote_more, take_more_set, length-set)
 
 pub returns : goal.returns
 returns c =

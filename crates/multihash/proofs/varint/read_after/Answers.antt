@@ -1,17 +1,13 @@
 -- The loop keeps that the bytes read so far are continuation bytes with the sum as their value; each way out is what one more
 -- byte, or none, makes of these (`VarintReadLemmas`).
-use Rattle.std.proofs.Common.{refl, ◌∙◌, arith}
+use Rattle.std.proofs.Common.{refl, arith}
 use Rattle.multihash.proofs.VarintReadLemmas.{one_read, reader_failed, input_ended, read_overflow, ends_in_zero, read_last, read_more}
 use Rattle.multihash.proofs.VarintReadLemmas.{first_of_two}
 use Rattle.multihash.proofs.OutcomeLemmas.{passed_error}
 use Rattle.multihash.proofs.varint.read_after.Goals as goal
 
 pub loop-i-init : goal.loop-i-init
-loop-i-init g c = record {
-  reads = rw c.from-value.ensures (one_read _ c.args.first (omega arith) c.requires);
-  some = omega arith;
-  unfailed = refl;
-}
+loop-i-init g c = grind (arith, one_read)
 
 pub returns-in_err-byte-clause-err : goal.returns-in_err-byte-clause-err
 returns-in_err-byte-clause-err g c =
@@ -40,10 +36,4 @@ returns-then-byte-lt128-clause-ok g c =
     (first_of_two c.else-i-eq-MAX_CONTINUATION.either) c.if-byte-lt128.true (λ z. absurd (c.if-byte-eq0.false z)))
 
 pub loop-i-preserved : goal.loop-i-preserved
-loop-i-preserved g c = record {
-  reads = rw c.from.ensures
-      (read_more c.loop-i.invariant.reads _ c.in-Some.byte (rw c.in-Some.is at c.in_ok-byte.ensures.byte)
-      (first_of_two c.else-i-eq-MAX_CONTINUATION.either) (omega arith) c.if-byte-lt128.false);
-  some = omega arith;
-  unfailed = c.in_ok-byte.ensures.faults ∙ c.loop-i.invariant.unfailed;
-}
+loop-i-preserved g c = grind (arith, read_more)

@@ -1,4 +1,5 @@
-use Rattle.std.proofs.Common.{[], ◌∷◌, refl}
+use Rattle.std.proofs.Common.{arith}
+use Rattle.std.proofs.Common.{refl}
 use Rattle.multihash.proofs.VarintReadLemmas.{none_read, reader_failed, input_ended}
 use Rattle.multihash.proofs.VarintWriteLemmas.{one_byte}
 use Rattle.multihash.proofs.OutcomeLemmas.{passed_error}
@@ -15,6 +16,4 @@ returns-in-None-clause-err g c =
     rw ended.1 (input_ended (none_read _) ended.0 refl)
 
 pub returns-then-first-lt128-clause-ok : goal.returns-then-first-lt128-clause-ok
-returns-then-first-lt128-clause-ok g c =
-    rw c.from.ensures
-    (c.in-Some.first ∷ [], one_byte c.in-Some.first c.if-first-lt128.true, rw c.in-Some.is at c.in_ok-first.ensures.byte)
+returns-then-first-lt128-clause-ok g c = grind (arith, one_byte)

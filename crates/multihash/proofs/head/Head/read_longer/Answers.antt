@@ -1,4 +1,4 @@
-use Rattle.std.proofs.Common.{inl, inr, drop}
+use Rattle.std.proofs.Common.{inr, drop}
 use Rattle.std.proofs.lemmas.List.{take_rest}
 use Rattle.multihash.proofs.OutcomeLemmas.{passed_error}
 use Rattle.multihash.proofs.ReadingLemmas.{Consumes-cut}

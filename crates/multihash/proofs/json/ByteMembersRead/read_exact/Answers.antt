@@ -1,17 +1,10 @@
-use Rattle.std.proofs.Common.{◌<◌, ◌∙◌, [], ◌++◌, length, drop, Some, ap, sym, refl, arith, rules}
+use Rattle.std.proofs.Common.{◌∙◌, ◌++◌, length, drop, Some, ap, sym, arith, rules}
 use Rattle.multihash.specs.Private.{member_bytes}
-use Rattle.multihash.specs.Reading.{ConsumesFewerThan}
 use Rattle.multihash.proofs.JsonLemmas.{bytes_split, length-member_bytes}
 use Rattle.multihash.proofs.json.ByteMembersRead.read_exact.Goals as goal
 
 pub returns-then-self-buf : goal.returns-then-self-buf
-returns-then-self-buf c =
-    let bytes = member_bytes c.args.self.now.left.now in
-    let short : length bytes < length c.args.buf.now =
-    omega (arith, length-member_bytes c.args.self.now.left.now c.args.self.now.are_bytes, c.if-self-buf.true) in
-    let err : ConsumesFewerThan (length c.args.buf.now) (Some bytes) (Some bytes) =
-    record { consumed = []; fewer = omega (arith, short); consumes = refl } in
-    search rules
+returns-then-self-buf c = grind (arith, length-member_bytes)
 
 pub returns : goal.returns
 returns c =

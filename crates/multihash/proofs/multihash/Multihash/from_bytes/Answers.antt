@@ -1,10 +1,10 @@
 -- The head gives the two varints; the size beside the capacity, and beside the bytes that are left, decides which verdict on
 -- the whole holds (`VerdictLemmas`).
-use Rattle.std.proofs.Common.{refl, arith, sym, ap}
+use Rattle.std.proofs.Common.{refl}
 use Rattle.std.proofs.lemmas.List.{take_rest}
-use Rattle.multihash.specs.Verdict.{invalid_size, unexpected_eof, accepted, malformed}
+use Rattle.multihash.specs.Verdict.{invalid_size, malformed}
 use Rattle.multihash.proofs.OutcomeLemmas.{passed_error}
-use Rattle.multihash.proofs.VerdictLemmas.{whole_over, whole_short, whole_trailing, whole_exact}
+use Rattle.multihash.proofs.VerdictLemmas.{whole_over, whole_trailing}
 use Rattle.multihash.proofs.multihash.Multihash.from_bytes.Goals as goal
 
 pub returns-in_err-head : goal.returns-in_err-head

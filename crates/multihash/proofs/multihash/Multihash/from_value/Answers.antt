@@ -1,5 +1,7 @@
 -- `from_value` reads the members of the array as `read` reads bytes, so the verdict of `read` on these, and whether members are
 -- left, is the verdict on the whole.
+use Rattle.std.proofs.Common.{arith}
+use Rattle.std.proofs.lemmas.Grind.{common_steps}
 use Rattle.std.proofs.Common.{◌≡◌, ◌<◌, ◌++◌, length, refl, sym, ◌∙◌, ap, inr, rules}
 use Rattle.std.proofs.lemmas.List.{nil_from_length}
 use Rattle.multihash.specs.Private.{member_bytes}
@@ -37,12 +39,7 @@ returns-then-not-is_empty-clause-verdict g c bytes h =
 -- the members' bytes are an encoding of the pair, and nothing follows it
 listed : (g : given.Over) (c : goal.Else-not-is_empty g)
     → IsEncoding (pair_of c.in_ok-multihash.multihash) (member_bytes c.in-Some.members.now)
-listed g c =
-    let met = c.in_ok-multihash.ensures.ok in
-    let left = c.read.new.r.left.now in
-    let none : length left ≡ 0 = search rules in
-    let cut : member_bytes c.in-Some.members.now ≡ met.0 ++ member_bytes left = cc (met.2) in
-    whole_pair _ _ (record { encoding = met.0; encodes = met.1; cut = cut ∙ ap (λ l. met.0 ++ member_bytes l) (nil_from_length left none) })
+listed g c = grind (arith, common_steps)
 
 pub returns-clause-verdict : goal.returns-clause-verdict
 returns-clause-verdict g c bytes h =

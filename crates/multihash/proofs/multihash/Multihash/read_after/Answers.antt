@@ -1,5 +1,7 @@
 -- After the code, reading stops in the size's varint, at a size above the capacity or in the digest, or returns the pair; for
 -- each there is a lemma that the bytes consumed so far meet the contract of `read`.
+use Rattle.std.proofs.Common.{rules}
+use Rattle.std.proofs.lemmas.Grind.{common_steps}
 use Rattle.std.proofs.Common.{◌≡◌, ◌<◌, ◌≤◌, ◌++◌, ◌⊎◌, ℕ, List, Option, Result, Ok, length, take, refl, sym, ap, ◌∙◌, arith}
 use Rattle.std.specs.Result.{IsErrAnd}
 use Rattle.std.proofs.lemmas.List.{length-take-le}
@@ -32,8 +34,7 @@ module _ (S : ℕ) {n size byte : ℕ} {old : Option (List ℕ)} (one : Option (
     {before between : ℕ} (code : ConsumesVarint n old one) (len : ConsumesVarint size one two) (same : byte ≡ size)
     (fits : size ≤ digest_limit S) (unrisen : between ≡ before) where
   consumed : (digest : List ℕ) → Consumes two digest new → Consumes old (code.0 ++ (len.0 ++ digest)) new
-  consumed digest last =
-      Consumes-concatenated _ code.0 (len.0 ++ digest) refl code.2 (Consumes-concatenated _ len.0 digest refl len.2 last)
+  consumed digest last = grind (arith, common_steps)
 
   -- the digest was not read
   stopped : {after : ℕ} (r : Result (Fields S) Refusal) (error : Fault) → IsErrAnd r (λ e. e ≡ of_io error)

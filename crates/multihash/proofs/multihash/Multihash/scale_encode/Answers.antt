@@ -12,15 +12,7 @@ use Rattle.multihash.proofs.multihash.Multihash.scale_encode.Goals.{After-scale_
 
 -- what is written is the form
 form : (g : given.Over) (c : After-scale_head g) → IsScale (pair_of c.args.self.now) (c.scale_head.result ++ c.digest-digest.result.now)
-form g c =
-    let (code, is_code, head) = c.scale_head.ensures in
-    record {
-      code = code;
-      is_code = is_code;
-      in_range = c.args.self.now.in_range;
-      size = omega (arith, c.digest-digest.ensures.fits);
-      encoded = rw (head, c.digest-digest.ensures.digest) (append_assoc code _ _);
-    }
+form g c = grind (arith, append_assoc)
 
 pub returns-in_err-write_all-clause-err : goal.returns-in_err-write_all-clause-err
 returns-in_err-write_all-clause-err g c =

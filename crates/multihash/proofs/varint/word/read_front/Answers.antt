@@ -1,9 +1,10 @@
 -- The word holds the first sixteen bytes of the input (`full`), or all of a shorter input and zeros (`padded`), so what `read_word`
 -- says of its word is said of the input.
-use Rattle.std.proofs.Common.{◌∙◌, ◌<◌, ℕ, List, Result, IfOk, length, arith, rules, sym, ap, Some, take, drop}
+use Rattle.std.proofs.Common.{rules}
+use Rattle.std.proofs.lemmas.Grind.{common_steps}
+use Rattle.std.proofs.Common.{◌<◌, ℕ, List, Result, IfOk, length, arith, sym, ap, Some, take, drop}
 use Rattle.std.proofs.lemmas.List.{take-append-drop, take_more, take_all}
 use Rattle.std.proofs.lemmas.Result.{IfOk-weaker, IfErr-weaker}
-use Rattle.multihash.specs.Bytes.{place_value}
 use Rattle.multihash.specs.Varint.{IsVarint}
 use Rattle.multihash.specs.Private.{IsFrontWord}
 use Rattle.multihash.specs.Consuming.{ConsumesVarint}
@@ -19,20 +20,10 @@ consumed xs r = IfOk-weaker r _ _ (λ found is. (take found.1 xs, is, ap Some (s
 
 -- what is in the word
 full : (c : After-read_word) → IsFrontWord c.args.bytes.now c.from_le_bytes.result 16
-full c =
-    let found = c.in-Some.ensures.cases in
-    record {
-      word_is = c.from_le_bytes.ensures ∙ full_word c.args.bytes.now c.in-Some.front.now found.same found.enough;
-      present_is = omega (arith, found.enough);
-    }
+full c = grind (arith, full_word)
 
 padded : (c : After-read_word-in-None) → IsFrontWord c.args.bytes.now c.padded_word.result (length c.args.bytes.now)
-padded c =
-    let few : length c.args.bytes.now < 16 = search rules in
-    record {
-      word_is = c.padded_word.ensures ∙ ap (place_value 256) (sym (take_all 16 c.args.bytes.now (omega (arith, few))));
-      present_is = omega (arith, few);
-    }
+padded c = grind (arith, take_all)
 
 pub returns-in-Some-clause-ok : goal.returns-in-Some-clause-ok
 returns-in-Some-clause-ok c =
@@ -48,11 +39,7 @@ returns-in-Some-clause-err c =
     c.read_word.ensures.err
 
 pub returns-in-None-clause-ok : goal.returns-in-None-clause-ok
-returns-in-None-clause-ok c =
-    let xs = c.args.bytes.now in
-    let r = c.read_word-in-None in
-    consumed xs r.result
-    (IfOk-weaker r.result _ _ (λ found is. is xs (bytes_of xs (λ i. omega (arith, c.type_inv.bytes i))) (padded c)) r.ensures.ok)
+returns-in-None-clause-ok c = grind (arith, common_steps, bytes_of, padded)
 
 pub returns-in-None-clause-err : goal.returns-in-None-clause-err
 returns-in-None-clause-err c =

@@ -1,11 +1,9 @@
 -- If one of the word's first eight bytes is below 128, it shows where the varint ends, and every outcome is read off there
 -- (`low_end`); if none is, the ninth byte decides, in `read_high`.
-use Rattle.std.proofs.Common.{arith, bit_and}
-use Rattle.std.proofs.lemmas.Nat.{and_le_r}
+use Rattle.std.proofs.Common.{arith}
 use Rattle.std.proofs.lemmas.Result.{IfOk-weaker, IfErr-weaker}
 use Rattle.multihash.specs.Varint.{insufficient, not_minimal}
-use Rattle.multihash.proofs.WordFrontLemmas.{low_half, low_continuation, low_end, low_number, ends_short, stops_at_zero}
-use Rattle.multihash.proofs.WordLemmas.{first_unmarked}
+use Rattle.multihash.proofs.WordFrontLemmas.{low_continuation, low_end, low_number, ends_short, stops_at_zero}
 use Rattle.multihash.proofs.varint.word.read_word.Goals as goal
 use Rattle.multihash.proofs.varint.word.read_word.Goals.{
   else-varint-continuation_bytes-eq0-via-then-varint-continuation_bytes-eq0+else-continuation_bytes-gt0,
