@@ -1,11 +1,9 @@
 -- Numbers written in digits: bounds, one number for one list of digits, and digits as continuation bytes.
-use Rattle.std.proofs.Common.{rules}
 use Rattle.std.proofs.lemmas.Grind.{common_steps}
-use Rattle.std.proofs.Common.{◌≡◌, ℕ, zero, suc, ◌+◌, ◌*◌, ◌^◌, ◌<◌, List, [], ◌∷◌, ◌++◌, length, refl, ◌∙◌, arith, add-one, ◌%◌, ◌≤◌}
+use Rattle.std.proofs.Common.{◌≡◌, ℕ, zero, suc, ◌+◌, ◌*◌, ◌^◌, ◌<◌, List, [], ◌∷◌, ◌++◌, length, refl, ◌∙◌, arith, ◌%◌, ◌≤◌}
 use Rattle.std.proofs.Common.{map, bit_or, length-append}
 use Rattle.std.specs.List.{sum_by, enumerate_from, All}
 use Rattle.std.proofs.Math.Nat.{pow-suc, pow-zero, mul_assoc, mul-suc, mul-zero, mul-le-mul_left, mod-eq_of_lt}
-use Rattle.std.proofs.lemmas.List.Sums.{sum_by-cons}
 use Rattle.std.proofs.lemmas.List.Elements.{All-head, All-tail, All-map}
 use Rattle.std.proofs.lemmas.Nat.{same_from_place, pow-add, mod_below, or_comm, or_shifted}
 use Rattle.multihash.specs.Bytes.{place_value, IsBytes}

@@ -1,6 +1,6 @@
 -- The JSON form: a list has one pair; the bytes that an array's members are.
 use Rattle.std.proofs.Common.{◌≡◌, ℕ, ◌<◌, List, [], ◌∷◌, ◌++◌, map, refl, sym, ap, ◌∙◌, Some, arith, zero, suc, true, false}
-use Rattle.std.proofs.Common.{length, take, drop, set, slice_index_or, is_some, Option, None}
+use Rattle.std.proofs.Common.{length, take, drop, set, is_some, Option, None}
 use Rattle.serde_json.specs.Data.{Data, number, unsigned, Items, negative, float, null, boolean, string, array, object}
 use Rattle.serde_json.specs.View.{items_of, view, items_view}
 use Rattle.multihash.specs.Bytes.{IsBytes}
@@ -10,7 +10,6 @@ use Rattle.multihash.specs.Json.{number_array, IsByteArray, IsJsonList}
 use Rattle.multihash.proofs.EncodingLemmas.{encoding_unique, encoding_bytes}
 use Rattle.std.specs.List.{list_all}
 use Rattle.std.proofs.lemmas.Bool.{false≢true, and_parts, lt-ltb}
-use Rattle.std.proofs.lemmas.List.Sums.{AllPass-from_list_all}
 use Rattle.std.proofs.lemmas.List.Elements.{All-nil, All-cons, All-head, All-tail}
 use Rattle.serde_json.specs.Find.{as_array}
 use Rattle.serde_json.specs.declared.value.Value.{Value}

@@ -1,7 +1,6 @@
 -- That the public contracts exclude what a mutant of `must-fail` returns: for one input of each, by the clauses of the call
 -- alone. The name of a lemma is that of its mutant. Where the right body in the place of the wrong one is proved, the
 -- prover's answer to the mutant is evidence by itself, and there is no lemma.
-use Rattle.std.proofs.Common.{rules}
 use Rattle.std.proofs.lemmas.Grind.{common_steps}
 use Rattle.std.proofs.Common.{◌≡◌, ◌≢◌, ◌<◌, ◌⊎◌, ℕ, Bool, List, [], ◌∷◌, ◌++◌, length, true, ltb, refl, sym, ap, subst, arith, inl, inr, length-append, ◌∙◌}
 use Rattle.std.specs.Prelude.{Some, Result, Ok, Err}

@@ -1,5 +1,4 @@
 -- A pair has one SCALE form, an input one verdict; the contract of decoding for each way to end.
-use Rattle.std.proofs.Common.{rules}
 use Rattle.std.proofs.lemmas.Grind.{common_steps}
 use Rattle.std.proofs.Common.{◌≡◌, ℕ, zero, suc, ◌/◌, ◌%◌, ◌^◌, ◌<◌, List, length, get_or, refl, sym, ap, ◌∙◌, arith, ◌+◌, ◌≤◌, cond, ltb}
 use Rattle.std.proofs.Common.{[], ◌∷◌, ◌++◌, take, drop, subst, inl, inr, length-append, append_assoc, append-nil, ◌⊎◌, Option, Result}
@@ -11,8 +10,8 @@ use Rattle.std.proofs.lemmas.List.Elements.{All-nil, All-head, All-same}
 use Rattle.multihash.specs.Bytes.{IsBytes, place_value}
 use Rattle.multihash.specs.Scale.{IsScaleCode, IsScale, HasScaleSize, HasScaleVerdict, ScaleMayFailWith, ConsumesAtScaleError}
 use Rattle.multihash.proofs.DigitLemmas.{place_value-nil, place_value-cons, place_value_unique, All-append_left, All-append_right}
-use Rattle.std.proofs.lemmas.Bool.{cases_lt, lt-ltb, le-ltb}
-use Rattle.std.proofs.lemmas.List.{take_at, take-append-drop, length-take-le, append_cancel_left}
+use Rattle.std.proofs.lemmas.Bool.{cases_lt, lt-ltb}
+use Rattle.std.proofs.lemmas.List.{take-append-drop, length-take-le, append_cancel_left}
 use Rattle.multihash.specs.Pair.{Pair}
 use Rattle.multihash.specs.Varint.{varint_limit}
 use Rattle.multihash.specs.Verdict.{Verdict, accepted, invalid_size, invalid_code, malformed, unexpected_eof, IsIncomplete}

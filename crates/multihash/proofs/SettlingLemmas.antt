@@ -1,5 +1,4 @@
 -- An input settles its verdict exactly if that is not incomplete; the shortest prefix that does.
-use Rattle.std.proofs.Common.{rules}
 use Rattle.std.proofs.lemmas.Grind.{common_steps}
 use Rattle.std.proofs.Common.{◌≡◌, ℕ, ◌⊎◌, List, [], ◌∷◌, ◌++◌, refl, inl, inr, ◌-◌, ◌<◌, ◌↔◌, length, replicate, sym, ap, ◌∙◌, subst}
 use Rattle.std.proofs.Common.{arith, length-append, append_assoc, append-nil, ◌+◌, ◌≤◌, get_or}
@@ -314,3 +313,6 @@ pub one_shortest : (S : ℕ) (x : List ℕ) (v : Verdict) → HasVerdict S x v �
 one_shortest S x v h late =
     let t = shortest_exists S x v h late in
     record { value = t.0; holds = t.1; only = λ other s. shortest_unique S x other t.0 s t.1 }
+
+-- the law `settles`, for the tactics
+pub ruleset settling = (settles_exactly, one_shortest, none_settles)

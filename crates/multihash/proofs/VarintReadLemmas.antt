@@ -129,3 +129,6 @@ module _ {old now : Option (List ℕ)} {sum i : ℕ} (h : ReadsContinuation old 
 pub first_of_two : {A B : Type 0} → (A × B) ⊎ (A → ⊥) → A → B
 first_of_two (inl both) a = both.1
 first_of_two (inr none) a = absurd (none a)
+
+-- the loop's invariant, and how the loop ends without one more byte, for the tactics
+pub ruleset reading = (one_read, read_more, reader_failed, input_ended)

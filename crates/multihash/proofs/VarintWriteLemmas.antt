@@ -1,11 +1,10 @@
 -- The invariant of the loop that writes a varint's bytes; each number in range has a varint.
-use Rattle.std.proofs.Common.{rules}
 use Rattle.std.proofs.lemmas.Grind.{common_steps}
 use Rattle.std.proofs.Common.{◌≡◌, ℕ, zero, suc, ◌+◌, ◌*◌, ◌/◌, ◌%◌, ◌^◌, ◌<◌, ◌≤◌, List, [], ◌∷◌, ◌++◌, length, refl, sym, ap, ◌∙◌}
 use Rattle.std.proofs.Common.{arith, add-one, append_assoc, inl, inr, bit_and, bit_or}
 use Rattle.std.specs.List.{All}
-use Rattle.std.proofs.Math.Nat.{lt_of_not-le, pow-suc, pow-zero, div-add-mod', pow-le-pow_right, mul-le-mul_right}
-use Rattle.std.proofs.lemmas.Nat.{and_mask, or_comm, or_shifted, mod_below, div_below}
+use Rattle.std.proofs.Math.Nat.{lt_of_not-le, pow-suc, pow-zero, div-add-mod'}
+use Rattle.std.proofs.lemmas.Nat.{mod_below, div_below}
 use Rattle.std.proofs.lemmas.List.{map_push, length_push, nil_from_length}
 use Rattle.std.proofs.lemmas.List.Elements.{All-push}
 use Rattle.std.proofs.lemmas.Bool.{cases_lt, lt-ltb, le-ltb}

@@ -1,8 +1,7 @@
 -- The word of a slice's first bytes, and what it shows of the varint at their front. All for speed: no loop
 -- over the bytes of a varint.
-use Rattle.std.proofs.Common.{rules}
 use Rattle.std.proofs.lemmas.Grind.{common_steps}
-use Rattle.std.proofs.Common.{◌≡◌, ℕ, zero, suc, ◌-◌, ◌<◌, ◌≤◌, List, [], ◌++◌, length, get_or, take, drop, replicate, refl, sym, ap, ◌∙◌}
+use Rattle.std.proofs.Common.{◌≡◌, ℕ, zero, suc, ◌-◌, ◌<◌, ◌≤◌, List, [], ◌++◌, length, get_or, take, drop, replicate, sym, ap, ◌∙◌}
 use Rattle.std.proofs.Common.{arith, length-append, add-one, ◌+◌, ◌*◌, ◌/◌, ◌%◌, ◌^◌, ◌∷◌, bit_and, bit_or}
 use Rattle.std.specs.Int.{byte_worth, sum_through, from_le_bytes, w128}
 use Rattle.std.proofs.Math.Seq.{take-suc}

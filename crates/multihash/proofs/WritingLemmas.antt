@@ -1,5 +1,4 @@
 -- What has been appended after several writes; a writer to a slice fails only if its capacity is too small.
-use Rattle.std.proofs.Common.{rules}
 use Rattle.std.proofs.lemmas.Grind.{common_steps}
 use Rattle.std.proofs.Common.{◌≡◌, ◌≢◌, ◌<◌, [], ◌∷◌, refl, ℕ, ◌-◌, List, ◌++◌, length, take, drop, Result, OnErr, sym, ap, ◌∙◌, arith}
 use Rattle.std.proofs.Common.{append_assoc, take-append-drop, length-append, length-drop, ◌≤◌, false, inl, inr, Ok, Err, IsOk, ◌+◌}

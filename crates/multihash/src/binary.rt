@@ -5,7 +5,7 @@ ghost use Rattle.multihash.specs.Varint.{varint_limit, max_continuation, IsVarin
 ghost use Rattle.multihash.specs.Pair.{digest_limit, FitsBuffer};
 ghost use Rattle.multihash.specs.Encoding.{IsEncoding};
 ghost use Rattle.multihash.specs.Verdict.{Verdict, HasVerdict, IsIncomplete, HasWholeVerdict};
-ghost use Rattle.multihash.specs.Refusal.{IsInvalidSize, IsOutOfMemory, IsIo, IsReaderError};
+ghost use Rattle.multihash.specs.Refusal.{IsOutOfMemory, IsIo, IsReaderError};
 ghost use Rattle.multihash.specs.Reading.{Consumes, EndsInNone, CountsReaderFailures, HasFewerThan, ConsumesFewerThan};
 ghost use Rattle.multihash.specs.Fault.{IsUnexpectedEof, IsOwnFault};
 ghost use Rattle.multihash.specs.Writing.{AppendsPrefix, CountsWriterFailures};
@@ -86,7 +86,11 @@ impl<const S: usize> Multihash<S> {
             ReadMeets S (prepend_known bytes (R.rest r.old)) (R.rest r.new)
             (R.failures r.old) (R.failures r.new) result }
     {
-        let size = Self::fitting_size(varint::read(r)?)?;
+        let len = varint::read(r)?;
+        if !Self::is_valid_size(len) {
+            return Err(Error::from_size(len));
+        }
+        let size = len as u8;
         let mut digest = [0; S];
         Self::read_digest(r, size, &mut digest)?;
         Ok(Multihash {
@@ -192,20 +196,5 @@ impl<const S: usize> Multihash<S> {
         ensures err { OnErr result (ConsumesFewerThan size (R.rest r.old) (R.rest r.new)) }
     {
         r.read_exact(&mut buffer[..usize::from(size)])
-    }
-
-    // The size of a digest, if it fits the buffer.
-    #[inline(always)]
-    fn fitting_size(size: u64) -> Result<u8, Error>
-        ensures ok { IfOk result (λ byte. byte ≡ size) }
-        ensures fits { OnOk result (size ≤ digest_limit S) }
-        ensures over { OnErr result (digest_limit S < size) }
-        ensures err { IfErr result (IsInvalidSize size) }
-    {
-        if Self::is_valid_size(size) {
-            Ok(size as u8)
-        } else {
-            Err(Error::from_size(size))
-        }
     }
 }

@@ -31,6 +31,7 @@ impl Head {
     ///
     /// `from_bytes` and `read` return the same error for every capacity.
     #[inline(always)]
+    #[tactic(auto, using(crate::proofs::VerdictLemmas::short_head))]
     pub fn read_front(bytes: &[u8]) -> Result<Self, Error>
         ensures ok { IfOk result (λ h. HasHead h.code h.digest_len h.digest_offset bytes.now) }
         ensures err { IfErr result (λ e. (error : VarintError) × IsVarintError error e

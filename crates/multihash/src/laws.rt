@@ -25,6 +25,7 @@ pub fn one_verdict()
 {}
 
 /// An input settles its verdict unless the verdict is incomplete.
+#[tactic(auto, using(crate::proofs::SettlingLemmas::settling))]
 pub fn settles()
     ensures exactly { (S : ℕ) (input : List ℕ) (v : Verdict) → HasVerdict S input v →
         (Settles S input ↔ ¬ (IsIncomplete v)) }

@@ -17,6 +17,7 @@ use std::alloc::Global;
 /// # Errors
 ///
 /// Those of [`Multihash::write`]. A strict prefix of the concatenated encodings has been appended then.
+#[tactic(auto, using(crate::proofs::EncodingLemmas::all_fit))]
 pub fn write_list<const S: usize, W: Write>(items: &[Multihash<S>], w: &mut W) -> Result<(), Error>
     ensures ok { OnOk result ((bytes : List ℕ) × AreConcatenated (map pair_of items.now) bytes
         × W.appended w.old bytes w.new) }

@@ -132,6 +132,7 @@ pub(crate) fn len_in_range(n: u64) -> usize
 
 // Appends the varint of a number that is known to be in range, as `write` does.
 #[inline(always)]
+#[tactic(auto, using(crate::proofs::VarintWriteLemmas::one_byte))]
 pub(crate) fn write_in_range<W: Write>(n: u64, w: &mut W) -> Result<usize, no_std_io::Error>
     requires { n < varint_limit }
     ensures ok { IfOk result (λ len. (bytes : List ℕ) × IsVarint n bytes × (len ≡ length bytes)
@@ -208,6 +209,7 @@ pub fn read_next<R: Read>(r: &mut R) -> Result<Option<u64>, Error>
 
 // Reads the rest of a varint whose first byte was read and is a continuation byte, as `read` does.
 #[inline(never)]
+#[tactic(auto, using(crate::proofs::VarintReadLemmas::reading))]
 fn read_after<R: Read>(r: &mut R, first: u8) -> Result<u64, Error>
     requires { IsContinuation first }
     ensures faults { CountsReaderFailures IsReaderError IsAnyVarintError

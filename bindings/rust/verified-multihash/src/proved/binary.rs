@@ -46,7 +46,11 @@ impl<const S: usize> Multihash<S> {
     // Reads the rest of an encoding whose code was read, as `read` does.
     #[inline(always)]
     fn read_after<R: Read>(r: &mut R, code: u64) -> Result<Self, Error> {
-        let size = Self::fitting_size(varint::read(r)?)?;
+        let len = varint::read(r)?;
+        if !Self::is_valid_size(len) {
+            return Err(Error::from_size(len));
+        }
+        let size = len as u8;
         let mut digest = [0; S];
         Self::read_digest(r, size, &mut digest)?;
         Ok(Multihash {
@@ -116,15 +120,5 @@ impl<const S: usize> Multihash<S> {
         buffer: &mut [u8; S],
     ) -> Result<(), no_std_io::Error> {
         r.read_exact(&mut buffer[..usize::from(size)])
-    }
-
-    // The size of a digest, if it fits the buffer.
-    #[inline(always)]
-    fn fitting_size(size: u64) -> Result<u8, Error> {
-        if Self::is_valid_size(size) {
-            Ok(size as u8)
-        } else {
-            Err(Error::from_size(size))
-        }
     }
 }

@@ -1,7 +1,5 @@
-use Rattle.std.proofs.Common.{rules}
 use Rattle.std.proofs.Common.{arith}
 use Rattle.std.proofs.lemmas.Grind.{common_steps}
-use Rattle.std.proofs.Common.{true, refl}
 use Rattle.std.proofs.Output.{has_written_styled_append}
 use Rattle.multihash.proofs.error.write_number_text.Goals as goal
 

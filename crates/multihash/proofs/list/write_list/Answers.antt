@@ -8,7 +8,7 @@ use Rattle.multihash.specs.Encoding.{IsEncoding}
 use Rattle.multihash.specs.Streams.{AreConcatenated}
 use Rattle.multihash.specs.Writing.{AppendsPrefix}
 use Rattle.multihash.proofs.OutcomeLemmas.{OnErr-always}
-use Rattle.multihash.proofs.EncodingLemmas.{encoding_same, all_fit, have_stream}
+use Rattle.multihash.proofs.EncodingLemmas.{encoding_same, have_stream}
 use Rattle.multihash.proofs.StreamLemmas.{parts_same}
 use Rattle.multihash.proofs.WritingLemmas.{appends_both, AppendsPrefix-append, AppendsPrefix-concatenated}
 use Rattle.multihash.proofs.list.write_list.Given as given
@@ -57,12 +57,6 @@ returns-in_err-write-clause-any g c =
     → AppendsPrefix g.W.Write.appended c.args.w.now all c.write.new.w =
     λ all h. rw (parts_same IsEncoding encoding_same _ all some h concatenated) part in
     OnErr-always _ any
-
-pub returns-in_err-write-clause-fit : goal.returns-in_err-write-clause-fit
-returns-in_err-write-clause-fit g c = all_fit c.args.items.now
-
-pub returns-clause-fit : goal.returns-clause-fit
-returns-clause-fit g c = all_fit c.args.items.now
 
 pub returns-clause-ok : goal.returns-clause-ok
 returns-clause-ok g c =

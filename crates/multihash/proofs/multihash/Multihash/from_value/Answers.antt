@@ -2,15 +2,14 @@
 -- left, is the verdict on the whole.
 use Rattle.std.proofs.Common.{arith}
 use Rattle.std.proofs.lemmas.Grind.{common_steps}
-use Rattle.std.proofs.Common.{◌≡◌, ◌<◌, ◌++◌, length, refl, sym, ◌∙◌, ap, inr, rules}
-use Rattle.std.proofs.lemmas.List.{nil_from_length}
+use Rattle.std.proofs.Common.{◌<◌, length, refl, sym, ◌∙◌, inr, rules}
 use Rattle.multihash.specs.Private.{member_bytes}
 use Rattle.multihash.specs.Verdict.{accepted, invalid_size}
 use Rattle.multihash.specs.Encoding.{IsEncoding}
 use Rattle.multihash.specs.Multihash.{pair_of}
 use Rattle.multihash.proofs.OutcomeLemmas.{passed_error}
 use Rattle.multihash.proofs.JsonLemmas.{array_unique, length-member_bytes}
-use Rattle.multihash.proofs.VerdictLemmas.{whole_pair, whole_rejected}
+use Rattle.multihash.proofs.VerdictLemmas.{whole_rejected}
 use Rattle.multihash.proofs.EncodingLemmas.{digest_fits}
 use Rattle.multihash.proofs.multihash.Multihash.from_value.Given as given
 use Rattle.multihash.proofs.multihash.Multihash.from_value.Goals as goal

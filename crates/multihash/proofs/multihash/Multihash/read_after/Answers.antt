@@ -1,6 +1,5 @@
 -- After the code, reading stops in the size's varint, at a size above the capacity or in the digest, or returns the pair; for
 -- each there is a lemma that the bytes consumed so far meet the contract of `read`.
-use Rattle.std.proofs.Common.{rules}
 use Rattle.std.proofs.lemmas.Grind.{common_steps}
 use Rattle.std.proofs.Common.{◌≡◌, ◌<◌, ◌≤◌, ◌++◌, ◌⊎◌, ℕ, List, Option, Result, Ok, length, take, refl, sym, ap, ◌∙◌, arith}
 use Rattle.std.specs.Result.{IsErrAnd}
@@ -17,60 +16,60 @@ use Rattle.multihash.proofs.ReadingLemmas.{Consumes-concatenated}
 use Rattle.multihash.proofs.ReadConsumingLemmas.{stops_in_size, stops_at_size, stops_in_digest, read_returned}
 use Rattle.multihash.proofs.multihash.Multihash.read_after.Goals as goal
 
-pub returns-in_err-read : goal.returns-in_err-read
-returns-in_err-read g c a is =
-    let t = c.in_err-read.ensures in
+pub returns-in_err-len : goal.returns-in_err-len
+returns-in_err-len g c a is =
+    let t = c.in_err-len.ensures in
     rw (passed_error c.from_residual.result _ c.from_residual.ensures.1)
     (stops_in_size g.row.S _ t.err t.faults a is refl)
 
-pub returns-in_err-size : goal.returns-in_err-size
-returns-in_err-size g c a is =
-    let size = c.in_ok-read.ensures in
-    rw (passed_error c.from_residual-in_err-size.result _ c.from_residual-in_err-size.ensures.1)
-    (stops_at_size g.row.S is size.ok.1 _ _ size.faults c.in_err-size.ensures.over c.in_err-size.ensures.err
-    (Consumes-concatenated _ a size.ok.0 refl refl size.ok.2))
+pub returns-then-not-is_valid_size : goal.returns-then-not-is_valid_size
+returns-then-not-is_valid_size g c a is =
+    let len = c.in_ok-len.ensures in
+    stops_at_size g.row.S is len.ok.1 _ _ len.faults (c.is_valid_size.ensures.over c.if-not-is_valid_size.true) c.from_size.ensures
+    (Consumes-concatenated _ a len.ok.0 refl refl len.ok.2)
 
-module _ (S : ℕ) {n size byte : ℕ} {old : Option (List ℕ)} (one : Option (List ℕ)) {two : Option (List ℕ)} (new : Option (List ℕ))
-    {before between : ℕ} (code : ConsumesVarint n old one) (len : ConsumesVarint size one two) (same : byte ≡ size)
-    (fits : size ≤ digest_limit S) (unrisen : between ≡ before) where
+-- the varints of the code and of the size, which fits, were consumed
+module _ (S : ℕ) {n size : ℕ} {old : Option (List ℕ)} (one : Option (List ℕ)) {two : Option (List ℕ)} (new : Option (List ℕ))
+    {before between : ℕ} (code : ConsumesVarint n old one) (len : ConsumesVarint size one two) (fits : size ≤ digest_limit S)
+    (unrisen : between ≡ before) where
   consumed : (digest : List ℕ) → Consumes two digest new → Consumes old (code.0 ++ (len.0 ++ digest)) new
   consumed digest last = grind (arith, common_steps)
 
   -- the digest was not read
   stopped : {after : ℕ} (r : Result (Fields S) Refusal) (error : Fault) → IsErrAnd r (λ e. e ≡ of_io error)
-      → (IsUnexpectedEof error → HasFewerThan byte two) → ConsumesFewerThan byte two new → ((between < after) × IsOwnFault error)
+      → (IsUnexpectedEof error → HasFewerThan size two) → ConsumesFewerThan size two new → ((between < after) × IsOwnFault error)
       ⊎ ((after ≡ between) × IsUnexpectedEof error)
       → ReadMeets S old new before after r
   stopped r error passed few t how =
       rw (passed_error r _ passed)
-      (stops_in_digest S code.1 len.1 new fits error t.consumed (omega (arith, same, t.fewer)) t.consumes
-      (rw same at few) (rw unrisen at how) (consumed t.consumed t.consumes))
+      (stops_in_digest S code.1 len.1 new fits error t.consumed t.fewer t.consumes few (rw unrisen at how)
+      (consumed t.consumed t.consumes))
 
   -- the digest was read into the buffer
-  filled : {after : ℕ} (held : ℕ) (buffer : List ℕ) (inside : held ≤ digest_limit S) → held ≡ byte → length buffer ≡ S
-      → Consumes two (take byte buffer) new → after ≡ between
+  filled : {after : ℕ} (held : ℕ) (buffer : List ℕ) (inside : held ≤ digest_limit S) → held ≡ size → length buffer ≡ S
+      → Consumes two (take size buffer) new → after ≡ between
       → ReadMeets S old new before after
       (Ok (record { code = n; size = held; buffer = buffer; in_range = code.1.in_range; fits = inside }))
   filled held buffer inside sized full last risen =
       let made : Fields S = record { code = n; size = held; buffer = buffer; in_range = code.1.in_range; fits = inside } in
-      let digest : take held buffer ≡ take byte buffer = ap (λ k. take k buffer) sized in
+      let digest : take held buffer ≡ take size buffer = ap (λ k. take k buffer) sized in
       read_returned S new made (risen ∙ unrisen)
-      (encoding_of_parts (pair_of made) code.0 len.0 refl
-      (sym (length-take-le held buffer (omega (arith, inside, full)) ∙ sized ∙ same)) (sym digest) code.1 len.1)
-      (consumed (take byte buffer) last)
+      (encoding_of_parts (pair_of made) code.0 len.0 refl (sym (length-take-le held buffer (omega (arith, inside, full)) ∙ sized))
+      (sym digest) code.1 len.1)
+      (consumed (take size buffer) last)
 
 pub returns-in_err-read_digest : goal.returns-in_err-read_digest
 returns-in_err-read_digest g c a is =
-    let size = c.in_ok-read.ensures in
-    let fitting = c.in_ok-size.ensures in
+    let len = c.in_ok-len.ensures in
     let digest = c.in_err-read_digest.ensures in
-    stopped g.row.S _ _ (a, is, refl) size.ok fitting.ok fitting.fits size.faults c.from_residual-in_err-read_digest.result
-    c.in_err-read_digest.field-0.0 c.from_residual-in_err-read_digest.ensures.1 digest.eof digest.err digest.faults
+    stopped g.row.S _ _ (a, is, refl) len.ok (c.is_valid_size.ensures.fits c.if-not-is_valid_size.false) len.faults
+    c.from_residual-in_err-read_digest.result c.in_err-read_digest.field-0.0 c.from_residual-in_err-read_digest.ensures.1
+    digest.eof digest.err digest.faults
 
 pub returns : goal.returns
 returns g c a is =
-    let size = c.in_ok-read.ensures in
-    let fitting = c.in_ok-size.ensures in
+    let len = c.in_ok-len.ensures in
     let digest = c.in_ok-read_digest.ensures in
-    filled g.row.S _ _ (a, is, refl) size.ok fitting.ok fitting.fits size.faults c.from.result c.read_digest.new.buffer
-    (omega (arith, c.from.ensures, fitting.ok, fitting.fits)) c.from.ensures digest.full digest.ok digest.faults
+    let fits = c.is_valid_size.ensures.fits c.if-not-is_valid_size.false in
+    filled g.row.S _ _ (a, is, refl) len.ok fits len.faults c.from.result c.read_digest.new.buffer
+    (omega (arith, c.from.ensures, fits)) c.from.ensures digest.full digest.ok digest.faults

@@ -1,6 +1,5 @@
 -- The word holds the first sixteen bytes of the input (`full`), or all of a shorter input and zeros (`padded`), so what `read_word`
 -- says of its word is said of the input.
-use Rattle.std.proofs.Common.{rules}
 use Rattle.std.proofs.lemmas.Grind.{common_steps}
 use Rattle.std.proofs.Common.{◌<◌, ℕ, List, Result, IfOk, length, arith, sym, ap, Some, take, drop}
 use Rattle.std.proofs.lemmas.List.{take-append-drop, take_more, take_all}
