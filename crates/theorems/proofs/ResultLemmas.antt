@@ -1,8 +1,9 @@
 -- What the library's definitions say of results and errors, in the words of `Results`.
-use Rattle.std.proofs.Common.{◌≡◌, ◌≢◌, ◌⊎◌, ◌<◌, ℕ, Bool, Some, Result, Ok, Err, refl, inl, inr, sym, ap, ◌∙◌, subst, IsTrue}
+use Rattle.std.proofs.Common.{◌≡◌, ◌≢◌, ◌↔◌, ◌⊎◌, IsOkAnd, ◌<◌, ℕ, Bool, Some, Result, Ok, Err, refl, inl, inr, sym, ap, ◌∙◌, subst, IsTrue}
 use Rattle.multihash.specs.Fault.{OutOfMemory, IsOutOfMemoryFault}
-use Rattle.multihash.specs.Multihash.{Fields}
-use Rattle.multihash.specs.Outcome.{IsResultOf}
+use Rattle.multihash.specs.Multihash.{Fields, pair_of}
+use Rattle.multihash.specs.Outcome.{IsErrorOf, IsResultOf}
+use Rattle.multihash.specs.Pair.{Pair}
 use Rattle.multihash.specs.Refusal.{Refusal, of_io, IsIo, IsOutOfMemory, IsReaderError}
 use Rattle.multihash.specs.Varint.{insufficient, overflow, not_minimal}
 use Rattle.multihash.specs.Verdict.{Verdict, accepted, invalid_size, invalid_code, malformed, unexpected_eof, IsIncomplete}
@@ -50,3 +51,15 @@ is_complete (malformed insufficient) short eof incomplete = short refl
 is_complete (malformed overflow) short eof incomplete = incomplete
 is_complete (malformed not_minimal) short eof incomplete = incomplete
 is_complete unexpected_eof short eof incomplete = eof refl
+
+-- if no other verdict holds, a pair is the result exactly if its verdict holds
+pub returns_pair : {S : ℕ} (Has : Verdict → Type 0) (r : Result (Fields S) Refusal) (v : Verdict) → Has v → IsResultOf r v
+    → ((w : Verdict) → Has w → w ≡ v) → (p : Pair) → Has (accepted p) ↔ IsOkAnd r (λ m. pair_of m ≡ p)
+returns_pair Has (Ok m) v has is_result only p = (
+  (λ own. let told : accepted (pair_of m) ≡ accepted p = sym is_result ∙ sym (only (accepted p) own) in cc),
+  λ same. subst (λ q. Has (accepted q)) same (subst Has is_result has),
+)
+returns_pair Has (Err e) v has is_result only p = (
+  (λ own. subst (IsErrorOf e) (sym (only (accepted p) own)) is_result),
+  λ is_ok. absurd is_ok,
+)

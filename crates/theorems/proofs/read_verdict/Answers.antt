@@ -18,29 +18,31 @@ use Rattle.multihash.specs.Outcome.{IsErrorOf, IsResultOf}
 use Rattle.multihash.specs.Multihash.{Fields, pair_of}
 use Rattle.multihash.proofs.ReadingLemmas.{Consumes-known}
 use Rattle.theorems.specs.Results.{verdict_of, IsOwnError}
-use Rattle.theorems.proofs.ResultLemmas.{verdict_stated, own_error, is_complete}
+use Rattle.theorems.proofs.ResultLemmas.{verdict_stated, own_error, is_complete, returns_pair}
 use Rattle.theorems.proofs.read_verdict.Goals as goal
 
--- the reader failed or the verdict that was returned is the only one
-one_returned : (S before after : ℕ) (old : Option (List ℕ)) (r : Result (Fields S) Refusal)
-    → ((S : ℕ) (input : List ℕ) (v w : Verdict) → HasVerdict S input v → HasVerdict S input w → v ≡ w)
-    → CountsReaderFailures IsReaderError (ReadMayFailWith S) before after r
-    → IfSome old (λ rest. after ≡ before → (v : Verdict) × HasVerdict S rest v × IsResultOf r v)
-    → ((before < after) × IsErrAnd r IsOwnError)
-    ⊎ ((after ≡ before) × IfSome old (λ rest. (one : ExactlyOne (HasVerdict S rest)) × (verdict_of r ≡ Some one.value)))
-one_returned S before after old r unique counts verdict = either r counts found where
-  found : after ≡ before → IfSome old (λ rest. (one : ExactlyOne (HasVerdict S rest)) × (verdict_of r ≡ Some one.value))
-  found same = IfSome_then old verdict
-      (λ rest found. let v = found same in
+-- `r` is the result of a verdict, and an input has one verdict
+module _ (S before after : ℕ) (old : Option (List ℕ)) (r : Result (Fields S) Refusal)
+    (unique : (S : ℕ) (input : List ℕ) (v w : Verdict) → HasVerdict S input v → HasVerdict S input w → v ≡ w)
+    (verdict : IfSome old (λ rest. after ≡ before → (v : Verdict) × HasVerdict S rest v × IsResultOf r v)) where
+  -- that verdict is the only one
+  one_found : after ≡ before → IfSome old (λ rest. (one : ExactlyOne (HasVerdict S rest)) × (verdict_of r ≡ Some one.value))
+  one_found same = IfSome_then old verdict (λ rest found. let v = found same in
       (record { value = v.0; holds = v.1; only = λ w has. unique S rest w v.0 has v.1 }, verdict_stated r v.0 v.2))
 
-  either : (o : Result (Fields S) Refusal) → CountsReaderFailures IsReaderError (ReadMayFailWith S) before after o
-      → (after ≡ before → IfSome old (λ rest. (one : ExactlyOne (HasVerdict S rest)) × (verdict_of r ≡ Some one.value)))
-      → ((before < after) × IsErrAnd o IsOwnError)
-      ⊎ ((after ≡ before) × IfSome old (λ rest. (one : ExactlyOne (HasVerdict S rest)) × (verdict_of r ≡ Some one.value)))
-  either (Ok m) same found = inr (same, found same)
-  either (Err e) (inl own) found = inl (own.0, own_error e own.1)
-  either (Err e) (inr (same, listed)) found = inr (same, found same)
+  -- a pair is the result exactly if its encoding is at the front and it fits
+  pair_returned : IfSome old (λ rest. after ≡ before → (p : Pair)
+      → ((left : List ℕ) × BeginsWith p rest left × FitsBuffer S p) ↔ IsOkAnd r (λ m. pair_of m ≡ p))
+  pair_returned = IfSome_then old verdict (λ rest found same p. let v = found same in
+      returns_pair (HasVerdict S rest) r v.0 v.1 v.2 (λ w has. unique S rest w v.0 has v.1) p)
+
+-- the reader failed, or what holds if it did not holds
+failed_or : {S : ℕ} {P : Type 0} (before after : ℕ) (r : Result (Fields S) Refusal)
+    → CountsReaderFailures IsReaderError (ReadMayFailWith S) before after r → (after ≡ before → P)
+    → ((before < after) × IsErrAnd r IsOwnError) ⊎ ((after ≡ before) × P)
+failed_or before after (Ok m) same met = inr (same, met same)
+failed_or before after (Err e) (inl own) met = inl (own.0, own_error e own.1)
+failed_or before after (Err e) (inr (same, listed)) met = inr (same, met same)
 
 -- what was consumed is the one shortest prefix that settles
 one_taken : (S before after : ℕ) (old new : Option (List ℕ))
@@ -119,26 +121,6 @@ truncated_unsettled S None none = tt
 truncated_unsettled S (Some rest) none = λ truncated front prefix.
     let v = truncated_incomplete S rest truncated in none S rest v.0 v.1 v.2 front prefix
 
--- a pair is the result exactly if its encoding is at the front and it fits
-returns_pair : (S : ℕ) (input : List ℕ) (r : Result (Fields S) Refusal) (v : Verdict) → HasVerdict S input v → IsResultOf r v
-    → ((w : Verdict) → HasVerdict S input w → w ≡ v) → (p : Pair)
-    → HasVerdict S input (accepted p) ↔ IsOkAnd r (λ m. pair_of m ≡ p)
-returns_pair S input (Ok m) v has is_result only p = (
-  (λ own. let told : accepted (pair_of m) ≡ accepted p = sym is_result ∙ sym (only (accepted p) own) in cc),
-  λ same. subst (λ q. HasVerdict S input (accepted q)) same (subst (HasVerdict S input) is_result has),
-)
-returns_pair S input (Err e) v has is_result only p = (
-  (λ own. subst (IsErrorOf e) (sym (only (accepted p) own)) is_result),
-  λ is_ok. absurd is_ok,
-)
-
-pair_returned : (S before after : ℕ) (old : Option (List ℕ)) (r : Result (Fields S) Refusal)
-    → ((S : ℕ) (input : List ℕ) (v w : Verdict) → HasVerdict S input v → HasVerdict S input w → v ≡ w)
-    → IfSome old (λ rest. after ≡ before → (v : Verdict) × HasVerdict S rest v × IsResultOf r v)
-    → IfSome old (λ rest. after ≡ before → (p : Pair)
-    → ((left : List ℕ) × BeginsWith p rest left × FitsBuffer S p) ↔ IsOkAnd r (λ m. pair_of m ≡ p))
-pair_returned S before after old r unique verdict = grind (arith, returns_pair)
-
 pub returns : goal.returns
 returns g c =
     let S = g.row.S in
@@ -147,7 +129,8 @@ returns g c =
     let after = g.R.Read.failures c.read.new.r in
     let old = g.R.Read.rest c.args.r.now in
     let new = g.R.Read.rest c.read.new.r in record {
-      one = one_returned S before after old c.read.result c.one_verdict.ensures.read_unique read.faults read.verdict;
+      one = failed_or before after c.read.result read.faults
+          (one_found S before after old c.read.result c.one_verdict.ensures.read_unique read.verdict);
       canonical = pair_returned S before after old c.read.result c.one_verdict.ensures.read_unique read.verdict;
       settled = one_taken S before after old new c.settles.ensures.one_shortest read.settled;
       unsettled = none_settles S before after old new read.unsettled;

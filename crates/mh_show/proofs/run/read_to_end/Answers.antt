@@ -1,3 +1,4 @@
+-- Each read appends its bytes to those at the front of the buffer (`take_split`), so these stay the bytes that were consumed.
 use Rattle.std.proofs.Common.{◌≡◌, ℕ, ◌+◌, ◌-◌, ◌≤◌, List, ◌++◌, rules, arith, length, take, slice_range, sym, ap, ◌∙◌, subst, le_refl}
 use Rattle.std.proofs.Common.{drop_at, length-take-le}
 use Rattle.std.proofs.lemmas.Slice.{take-put_mid_below}

@@ -1,3 +1,4 @@
+-- Each write moves bytes from the rest to those that are done (`moves_front`), so done and rest stay all bytes.
 use Rattle.std.proofs.Common.{rules}
 use Rattle.std.proofs.Common.{arith}
 use Rattle.std.proofs.Common.{◌≡◌, ℕ, ◌-◌, List, ◌++◌, length, take, drop, sym, ap, ◌∙◌, append_assoc, take-append-drop}

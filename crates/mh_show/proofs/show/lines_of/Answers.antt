@@ -1,3 +1,5 @@
+-- The digits are those of the digest, and a dash stands for none (`digest_text`), so the format writes the three lines
+-- (`three_lines`).
 use Rattle.std.proofs.Common.{◌≡◌, ◌<◌, ℕ, List, [], ◌∷◌, ◌++◌, length, codes, Result, Ok, Err, IfOk, String, Global, string_bytes, ap}
 use Rattle.std.proofs.Common.{◌∙◌, append_assoc, arith, rules}
 use Rattle.std.specs.Fmt.{decimal}

@@ -1,3 +1,5 @@
+-- The test tells which case holds: the members are all bytes, so the value is their array (`byte_array`), or one is not, so the
+-- value is no byte array (`no_byte_array`).
 use Rattle.std.proofs.Common.{arith}
 use Rattle.std.proofs.Common.{◌≡◌, Some, true, sym, ap, ◌∙◌}
 use Rattle.std.specs.List.{list_all}

@@ -1,3 +1,5 @@
+-- An array determines its bytes (`array_unique`), and these encode the pair (`json_bytes`), so what holds of encodings holds of
+-- arrays.
 use Rattle.std.proofs.Common.{sym, ◌∙◌}
 use Rattle.multihash.specs.Verdict.{accepted}
 use Rattle.multihash.proofs.VerdictLemmas.{whole_verdict_unique}

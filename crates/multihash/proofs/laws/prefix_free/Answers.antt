@@ -1,3 +1,5 @@
+-- Two encodings at the front of one input are equal (`encoding_unique`), and an input has one verdict (`verdict_unique`); the
+-- other clauses follow.
 use Rattle.std.proofs.Common.{[], refl, ◌++◌, sym, ◌∙◌, append-nil, arith}
 use Rattle.multihash.specs.Verdict.{accepted}
 use Rattle.multihash.proofs.VerdictLemmas.{verdict_unique}

@@ -1,3 +1,4 @@
+-- An input has one verdict, the one that is computed, so a pair has one form and a form one pair: `ScaleLemmas` has each clause.
 use Rattle.std.proofs.Common.{[], refl, sym, ◌∙◌, append-nil, arith}
 use Rattle.multihash.proofs.ScaleLemmas.{scale_exists, scale_same, scale_found, scale_verdict_is, has_scale_found, scale_verdict_unique}
 use Rattle.multihash.proofs.ScaleLemmas.{scale_split}

@@ -1,3 +1,5 @@
+-- The loop keeps that the first bytes encode the digits written so far (`Wrote`); a rest below 128 is the last digit, and after
+-- eight digits the rest is (`last_digit`).
 use Rattle.std.proofs.Common.{◌≡◌, take, ◌∙◌, arith, rules, subst, sym}
 use Rattle.std.proofs.lemmas.List.{take_all, take_more_set}
 use Rattle.std.proofs.Math.ListN.{length-set}

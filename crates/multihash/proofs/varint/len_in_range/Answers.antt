@@ -1,3 +1,5 @@
+-- A number below 128 is its own varint; the varint of any other exists, and its length is computed from the number's bits
+-- (`length_by_bits`).
 use Rattle.std.proofs.Common.{[], ◌∷◌, refl, sym, arith}
 use Rattle.multihash.proofs.VarintWriteLemmas.{one_byte, varint_exists}
 use Rattle.multihash.proofs.VarintLemmas.{varint_longest, length_by_bits}

@@ -1,3 +1,4 @@
+-- An input has one number at its front (`number_unique`), so a varint that is there was found, and excludes an error.
 use Rattle.std.proofs.Common.{◌∙◌}
 use Rattle.std.proofs.lemmas.List.{take_rest}
 use Rattle.multihash.proofs.ReadingLemmas.{Consumes-cut}

@@ -1,3 +1,5 @@
+-- Before the first byte nothing has been read (`none_read`), so a failure or the end of the input there is one of a varint of no
+-- bytes; a first byte below 128 is the varint.
 use Rattle.std.proofs.Common.{arith}
 use Rattle.std.proofs.Common.{refl}
 use Rattle.multihash.proofs.VarintReadLemmas.{none_read, reader_failed, input_ended}

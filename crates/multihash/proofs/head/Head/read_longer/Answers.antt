@@ -1,3 +1,5 @@
+-- The second varint starts where the first ends, so two varints are the head (`head_of`), and an error in the second is one after
+-- a code.
 use Rattle.std.proofs.Common.{inr, drop}
 use Rattle.std.proofs.lemmas.List.{take_rest}
 use Rattle.multihash.proofs.OutcomeLemmas.{passed_error}

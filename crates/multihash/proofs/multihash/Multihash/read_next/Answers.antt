@@ -1,3 +1,4 @@
+-- An error in the code, or the end of the input in its place, ends the call as it ends `read` (`stops_in_code`).
 use Rattle.std.proofs.Common.{inr, refl}
 use Rattle.multihash.specs.Varint.{insufficient}
 use Rattle.multihash.proofs.OutcomeLemmas.{passed_error}

@@ -5,7 +5,7 @@ use Rattle.multihash.specs.Scale.{IsScale}
 use Rattle.multihash.specs.Multihash.{pair_of}
 use Rattle.multihash.proofs.ScaleLemmas.{scale_length}
 use Rattle.multihash.proofs.OutcomeLemmas.{passed_error}
-use Rattle.multihash.proofs.WritingLemmas.{appends_both, stops_in_first, stops_in_third}
+use Rattle.multihash.proofs.WritingLemmas.{appends_both, stops_in_front, stops_in_back}
 use Rattle.multihash.proofs.multihash.Multihash.scale_encode.Given as given
 use Rattle.multihash.proofs.multihash.Multihash.scale_encode.Goals as goal
 use Rattle.multihash.proofs.multihash.Multihash.scale_encode.Goals.{After-scale_head}
@@ -17,15 +17,14 @@ form g c = grind (arith, append_assoc)
 pub returns-in_err-write_all-clause-err : goal.returns-in_err-write_all-clause-err
 returns-in_err-write_all-clause-err g c =
     let written = form g (goal.at.returns-in_err-write_all-clause-err g c).After-scale_head in
-    stops_in_first g.W.Write.appended g.met.W.Write.appends_concatenated (IsScale (pair_of c.args.self.now)) _ []
+    stops_in_front g.W.Write.appended g.met.W.Write.appends_concatenated (IsScale (pair_of c.args.self.now)) _
     c.digest-digest.result.now written _ c.in_err-write_all.ensures.laws.err
 
 pub returns-in_err-write_all-2-clause-err : goal.returns-in_err-write_all-2-clause-err
 returns-in_err-write_all-2-clause-err g c =
     let written = form g (goal.at.returns-in_err-write_all-2-clause-err g c).After-scale_head in
-    stops_in_third g.W.Write.appended g.met.W.Write.appends_concatenated (IsScale (pair_of c.args.self.now)) _ []
-    c.digest-digest.result.now written _ c.in_ok-write_all.ensures.laws.ok
-    (g.met.W.Write.appends_nothing _) c.in_err-write_all-2.ensures.laws.err
+    stops_in_back g.W.Write.appended g.met.W.Write.appends_concatenated (IsScale (pair_of c.args.self.now)) _
+    c.digest-digest.result.now written _ c.in_ok-write_all.ensures.laws.ok c.in_err-write_all-2.ensures.laws.err
 
 pub returns-in_err-write_all-2-clause-faults : goal.returns-in_err-write_all-2-clause-faults
 returns-in_err-write_all-2-clause-faults g c =

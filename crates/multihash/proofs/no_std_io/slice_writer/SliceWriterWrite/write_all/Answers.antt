@@ -1,3 +1,4 @@
+-- If `write` appended fewer bytes than there are, the slice is full, and they are a strict prefix (`AppendsPrefix-take`).
 use Rattle.std.proofs.Common.{[], rules, refl, arith}
 use Rattle.std.proofs.lemmas.Grind.{common_steps}
 use Rattle.multihash.proofs.WritingLemmas.{AppendsPrefix-take, filled_length}
