@@ -1,20 +1,15 @@
 -- A text has one line, a line names at most one list of bytes, and these are what `hex` decodes.
-use Rattle.std.proofs.Common.{rules}
-use Rattle.std.proofs.Common.{◌≡◌, ℕ, ◌+◌, ◌*◌, ◌%◌, true, List, [], ◌∷◌, length, Ok, refl, sym, ap, ◌∙◌, subst, arith, inl, inr}
+use Rattle.std.proofs.Common.{◌≡◌, ℕ, ◌+◌, ◌*◌, ◌%◌, true, List, [], ◌∷◌, length, Ok, refl, ap, subst, arith}
 use Rattle.std.specs.List.{AllPass, AllZip, flat_map}
 use Rattle.std.proofs.lemmas.List.{append_cancel_right}
 use Rattle.std.proofs.lemmas.List.Elements.{All-head, All-tail}
-use Rattle.hex.specs.Hex.{hex_digit_value, is_hex_digit, pair_value, decode_pairs, decode_of}
-use Rattle.hex.proofs.Pairs.{cons_byte, decode_pairs-ok_pair}
-use Rattle.hex.proofs.HexLemmas.{decode_of-even, decode_of-ok, decode_of-same}
+use Rattle.hex.specs.Hex.{hex_digit_value, is_hex_digit, decode_pairs, decode_of}
+use Rattle.hex.proofs.HexLemmas.{decode_of-ok, decode_of-same}
 use Rattle.multihash.proofs.JsonLemmas.{some_value}
-use Rattle.mh_show.specs.Shown.{newline, IsLine, NamesByte, NamesBytes}
+use Rattle.mh_show.specs.Shown.{IsLine, NamesByte, NamesBytes}
 
 pub line_unique : (text a b : List ℕ) → IsLine a text → IsLine b text → a ≡ b
-line_unique text a b (inl e) (inl f) = append_cancel_right a b newline (sym e ∙ f)
-line_unique text a b (inl e) (inr f) = absurd (f.1 a e)
-line_unique text a b (inr e) (inl f) = absurd (e.1 b f)
-line_unique text a b (inr e) (inr f) = e.0 ∙ sym f.0
+line_unique text a b e f = grind (arith, append_cancel_right)
 
 abbrev two_digits : ℕ × ℕ → List ℕ
 two_digits two = two.0 ∷ two.1 ∷ []

@@ -1,19 +1,18 @@
 -- A text is shown by one list of lines, names no bytes or is rejected with the error of one verdict, and no two
 -- of these; and what runs did where the bytes of the input and the outputs are known. With a weaker part of a
 -- definition two may hold, or less is known.
-use Rattle.std.proofs.Common.{rules}
 use Rattle.std.proofs.Common.{arith}
 use Rattle.std.proofs.lemmas.Grind.{common_steps}
-use Rattle.std.proofs.Common.{◌≡◌, ◌≤◌, ℕ, List, [], ◌++◌, codes, refl, sym, ap, ◌∙◌, subst, inl, inr, append-nil}
-use Rattle.std.specs.Prelude.{⊤, ◌⊎◌, Option, None, Some, length}
+use Rattle.std.proofs.Common.{◌≡◌, ◌≤◌, ℕ, List, [], ◌++◌, codes, sym, ap, ◌∙◌, subst, inl, inr, append-nil}
+use Rattle.std.specs.Prelude.{⊤, ◌⊎◌, Option, Some, length}
 use Rattle.multihash.specs.Bytes.{IsPrefix, IsStrictPrefix}
 use Rattle.multihash.specs.Verdict.{Verdict, accepted, HasWholeVerdict}
 use Rattle.multihash.specs.Refusal.{Refusal}
 use Rattle.multihash.specs.Outcome.{IsErrorOf}
 use Rattle.multihash.proofs.VerdictLemmas.{whole_verdict_unique}
 use Rattle.mh_show.specs.declared.run.RunError.{RunError}
-use Rattle.mh_show.specs.declared.run.RunError.TheVariants.{Input, NotShown, Output}
-use Rattle.mh_show.specs.declared.show.ShowError.TheVariants.{NotHex, Refused, Memory}
+use Rattle.mh_show.specs.declared.run.RunError.TheVariants.{NotShown, Output}
+use Rattle.mh_show.specs.declared.show.ShowError.TheVariants.{NotHex, Refused}
 use Rattle.mh_show.specs.Shown.{most_bytes, shown, IsLine, NamesBytes, ShowsAs, NamesNone, IsRejectedAs}
 use Rattle.mh_show.specs.Run.{run_error_text, error_line, ReadsWhole, TriesToAppend, ShowsInput, EndsRun, ReportsError}
 use Rattle.mh_show.proofs.NamingLemmas.{line_unique, bytes_unique}
@@ -51,8 +50,7 @@ module _ (text : List ℕ) where
 -- the text is all of the input, which has 65536 bytes at most
 whole : (input text : List ℕ) (left : Option (List ℕ)) → ReadsWhole (Some input) left text
     → (text ≡ input) × (left ≡ Some []) × (length text ≤ 65536)
-whole input text None h = absurd h.consumes
-whole input text (Some rest) h = grind (arith, append-nil)
+whole input text left h = grind (arith, append-nil)
 
 module _ (input out new : List ℕ) (left : Option (List ℕ)) where
   -- all lines of the input were appended, and nothing else
@@ -80,11 +78,7 @@ module _ (input out new : List ℕ) (left : Option (List ℕ)) where
 -- no other error changes the output
 keeps_output : (e : RunError) (kept : Type 0) (input left out new : Option (List ℕ)) → EndsRun kept input left out new e
     → kept ⊎ (e ≡ Output)
-keeps_output Input kept input left out new h = inl h
-keeps_output (NotShown NotHex) kept input left out new h = inl h.0
-keeps_output (NotShown (Refused e)) kept input left out new h = inl h.0
-keeps_output (NotShown Memory) kept input left out new h = inl h
-keeps_output Output kept input left out new h = inr refl
+keeps_output e kept input left out new h = grind arith
 
 -- a prefix of the error's line, or of that of out of memory
 tried : (new line : List ℕ) → TriesToAppend (Some []) (Some new) line → IsPrefix new line

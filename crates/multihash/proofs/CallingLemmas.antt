@@ -9,7 +9,7 @@ use Rattle.multihash.specs.Pair.{Pair, FitsBuffer, digest_limit}
 use Rattle.multihash.specs.Encoding.{IsEncoding}
 use Rattle.multihash.specs.Streams.{AreConcatenated, ConsumesPairs, StopsAfterPairs}
 use Rattle.multihash.specs.Varint.{VarintError}
-use Rattle.multihash.specs.Verdict.{Verdict, accepted, invalid_size, invalid_code, malformed, unexpected_eof, BeginsWithSize, HasHead}
+use Rattle.multihash.specs.Verdict.{Verdict, accepted, invalid_size, malformed, BeginsWithSize, HasHead}
 use Rattle.multihash.specs.Verdict.{HasVerdict, HasWholeVerdict}
 use Rattle.multihash.specs.Consuming.{ExactFails}
 use Rattle.multihash.specs.Fault.{Fault, IsOwnFault, IsUnexpectedEof}
@@ -204,8 +204,4 @@ encoding_no_error S p a r bytes v e is fits cut has names =
 
 -- a verdict has at most one error
 pub error_of_unique : (e f : Refusal) (v : Verdict) → IsErrorOf e v → IsErrorOf f v → e ≡ f
-error_of_unique e f (accepted p) h k = absurd h
-error_of_unique e f (invalid_size size) h k = h ∙ sym k
-error_of_unique e f (invalid_code code) h k = h ∙ sym k
-error_of_unique e f (malformed error) h k = h ∙ sym k
-error_of_unique e f unexpected_eof h k = cc (h.1, h.2, k.1, k.2)
+error_of_unique e f v h k = grind arith

@@ -1,7 +1,7 @@
 -- The JSON form: a list has one pair; the bytes that an array's members are.
 use Rattle.std.proofs.Common.{◌≡◌, ℕ, ◌<◌, List, [], ◌∷◌, ◌++◌, map, refl, sym, ap, ◌∙◌, Some, arith, zero, suc, true, false}
 use Rattle.std.proofs.Common.{length, take, drop, set, is_some, Option, None}
-use Rattle.serde_json.specs.Data.{Data, number, unsigned, Items, negative, float, null, boolean, string, array, object}
+use Rattle.serde_json.specs.Data.{Data, number, unsigned, Items}
 use Rattle.serde_json.specs.View.{items_of, view, items_view}
 use Rattle.multihash.specs.Bytes.{IsBytes}
 use Rattle.multihash.specs.Pair.{Pair}
@@ -51,14 +51,7 @@ byte_first v vs e = let parts = and_parts (is_byte v) (list_all is_byte vs) e in
 
 -- a byte is held as its number
 byte_data : (d : Data) (b : ℕ) → byte_of_data d ≡ Some b → (d ≡ number (unsigned b)) × (b < 256)
-byte_data null b e = cc
-byte_data (boolean _) b e = cc
-byte_data (number (unsigned n)) b e = grind (arith)
-byte_data (number (negative _)) b e = cc
-byte_data (number (float _)) b e = cc
-byte_data (string _) b e = cc
-byte_data (array _) b e = cc
-byte_data (object _) b e = cc
+byte_data d b e = grind arith
 
 byte_found : (b : ℕ) → b < 256 → byte_of_data (number (unsigned b)) ≡ Some b
 byte_found b small = rw (lt-ltb b 256 small) refl
@@ -80,14 +73,6 @@ bytes_all (v ∷ vs) (b ∷ bytes) e h =
     let heads : view v ≡ number (unsigned b) = cc in
     let found : byte_of_data (view v) ≡ Some b = ap byte_of_data heads ∙ byte_found b (All-head (λ x. x < 256) b bytes h) in
     rw found (bytes_all vs bytes (cc e) (All-tail (λ x. x < 256) b bytes h))
-
-array_data : (d : Data) (items : Items) → as_array d ≡ Some items → d ≡ array items
-array_data null items e = cc
-array_data (boolean _) items e = cc
-array_data (number _) items e = cc
-array_data (string _) items e = cc
-array_data (array found) items e = let same : found ≡ items = cc in ap array same
-array_data (object _) items e = cc
 
 pub byte_array : (d : Data) (vs : List Value) → as_array d ≡ Some (items_view vs) → list_all is_byte vs ≡ true
     → IsByteArray d (member_bytes vs)

@@ -32,11 +32,7 @@ error_verdict (of_varint error) = malformed error
 error_verdict e = unexpected_eof
 
 verdict_of_error : (e : Refusal) (v : Verdict) → IsErrorOf e v → v ≡ error_verdict e
-verdict_of_error e (accepted p) given = absurd given
-verdict_of_error e (invalid_size size) given = ap error_verdict (sym given)
-verdict_of_error e (invalid_code code) given = ap error_verdict (sym given)
-verdict_of_error e (malformed error) given = ap error_verdict (sym given)
-verdict_of_error e unexpected_eof given = ap error_verdict (sym given.1)
+verdict_of_error e v given = grind arith
 
 -- so an error is that of one verdict only
 pub error_unique : (e : Refusal) (v w : Verdict) → IsErrorOf e v → IsErrorOf e w → v ≡ w
@@ -48,21 +44,11 @@ own_no_verdict e v own given = grind (arith)
 
 -- the error of an incomplete verdict
 pub incomplete_error : (e : Refusal) (v : Verdict) → IsErrorOf e v → IsIncomplete v → IsVarintError insufficient e ⊎ IsEof e
-incomplete_error e (accepted p) given soon = absurd soon
-incomplete_error e (invalid_size size) given soon = absurd soon
-incomplete_error e (invalid_code code) given soon = absurd soon
-incomplete_error e (malformed insufficient) given soon = inl given
-incomplete_error e (malformed overflow) given soon = absurd soon
-incomplete_error e (malformed not_minimal) given soon = absurd soon
-incomplete_error e unexpected_eof given soon = inr given
+incomplete_error e v given soon = grind arith
 
 -- the error of a verdict is one that `read` lists
 listed : (S : ℕ) (e : Refusal) (consumed : List ℕ) (v : Verdict) → IsErrorOf e v → HasVerdict S consumed v → ReadMayFailWith S e
-listed S e consumed (accepted p) given has = absurd given
-listed S e consumed (invalid_size size) given has = inl (size, given, has.2)
-listed S e consumed (invalid_code code) given has = absurd has
-listed S e consumed (malformed error) given has = inr (inl (error, given))
-listed S e consumed unexpected_eof given has = inr (inr given)
+listed S e consumed v given has = grind arith
 
 -- ---- for each verdict
 

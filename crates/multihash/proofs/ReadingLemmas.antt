@@ -38,8 +38,7 @@ Consumes-known whole consumed (Some left) consumes = (left, refl, Consumes-cut w
 
 -- at the end of a known input, all of it was consumed
 pub all_read : (whole consumed : List ℕ) (new : Option (List ℕ)) → Consumes (Some whole) consumed new → IsAtEnd new → whole ≡ consumed
-all_read whole consumed None consumes end = cc
-all_read whole consumed (Some left) consumes end = grind (arith, append-nil)
+all_read whole consumed new consumes end = grind (arith, append-nil)
 
 -- what holds of the consumed bytes with any rest holds of the rest at entry, if the input is known
 pub IfSome-consumed : (old new : Option (List ℕ)) (consumed : List ℕ) (P : List ℕ → Type 0) → Consumes old consumed new

@@ -10,11 +10,11 @@ use Rattle.std.proofs.lemmas.List.Elements.{All-nil, All-head, All-same}
 use Rattle.multihash.specs.Bytes.{IsBytes, place_value}
 use Rattle.multihash.specs.Scale.{IsScaleCode, IsScale, HasScaleSize, HasScaleVerdict, ScaleMayFailWith, ConsumesAtScaleError}
 use Rattle.multihash.proofs.DigitLemmas.{place_value-nil, place_value-cons, place_value_unique, All-append_left, All-append_right}
-use Rattle.std.proofs.lemmas.Bool.{cases_lt, lt-ltb}
+use Rattle.std.proofs.lemmas.Bool.{cases_lt}
 use Rattle.std.proofs.lemmas.List.{take-append-drop, length-take-le, append_cancel_left}
 use Rattle.multihash.specs.Pair.{Pair}
 use Rattle.multihash.specs.Varint.{varint_limit}
-use Rattle.multihash.specs.Verdict.{Verdict, accepted, invalid_size, invalid_code, malformed, unexpected_eof, IsIncomplete}
+use Rattle.multihash.specs.Verdict.{Verdict, accepted, invalid_size, invalid_code, unexpected_eof, IsIncomplete}
 use Rattle.multihash.specs.Fault.{Fault, IsUnexpectedEof, IsOwnFault}
 use Rattle.multihash.specs.Reading.{Consumes, HasFewerThan, CountsReaderFailures}
 use Rattle.std.specs.Io.KnownBytes.{prepend_known}
@@ -25,8 +25,7 @@ use Rattle.multihash.proofs.ReadingLemmas.{IfSome-consumed, Consumes-concatenate
 use Rattle.multihash.proofs.ReadConsumingLemmas.{error_unique, own_no_verdict}
 
 byte_at-is : (i n : ℕ) → byte_at i n ≡ n / 256 ^ i % 256
-byte_at-is zero n = ap (λ (m : ℕ). m % 256) (sym (ap (λ (p : ℕ). n / p) (pow-zero 256) ∙ div-one n))
-byte_at-is (suc i) n = refl
+byte_at-is i n = grind (arith, pow-zero, div-one)
 
 are_bytes : (k i n : ℕ) → IsBytes (bytes_low_first i k n)
 are_bytes zero i n = All-nil (λ b. b < 256)
@@ -94,13 +93,7 @@ abbrev found_at : ℕ → ℕ → List ℕ → Verdict
 found_at k S x = cond (ltb (length x) k) unexpected_eof (scale_judged S (place_value 256 (take k x)) (drop k x))
 
 scale_found_is : (k S : ℕ) (x : List ℕ) (v : Verdict) → k ≡ 8 → HasScaleVerdict S x v → found_at k S x ≡ v
-scale_found_is k S x (accepted p) eight (bytes, rest, h, fits, cut) = grind (arith, common_steps)
-scale_found_is k S x (invalid_code code) eight (bytes, rest, is_code, above, cut) = grind (arith, common_steps)
-scale_found_is k S x (invalid_size size) eight (rest, h, over) = grind (arith, common_steps)
-scale_found_is k S x (malformed error) eight h = absurd h
-scale_found_is k S x unexpected_eof eight (inl short) = rw (lt-ltb (length x) k (omega (arith, short, eight))) refl
-scale_found_is k S x unexpected_eof eight (inr (inl (code, is_code, below))) = grind (arith)
-scale_found_is k S x unexpected_eof eight (inr (inr (size, rest, h, within, short))) = grind (arith, common_steps)
+scale_found_is k S x v eight h = grind (arith, common_steps)
 
 abbrev pub scale_found : ℕ → List ℕ → Verdict
 scale_found S x = found_at 8 S x
@@ -173,9 +166,7 @@ has_scale_found S x bytes = let (v, h) = scale_verdict_exists S x bytes in subst
 
 -- one byte
 pub one_item : (xs : List ℕ) → length xs ≡ 1 → xs ≡ get_or xs 0 0 ∷ []
-one_item [] one = absurd (omega arith)
-one_item (x ∷ []) one = refl
-one_item (x ∷ y ∷ xs) one = absurd (omega arith)
+one_item xs one = grind (arith, common_steps)
 
 abbrev pub ScaleMeets : (S : ℕ) → Option (List ℕ) → Option (List ℕ) → ℕ → ℕ → Result (Fields S) Refusal → Type 0
 ScaleMeets S old new before after r = record {

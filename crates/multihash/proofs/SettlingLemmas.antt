@@ -55,9 +55,7 @@ code_kept x rest more c = coded c.code c.code_bytes (x ++ more) (rest ++ more) c
 
 -- unless its end is missing, a malformed varint stays so whatever follows
 pub error_kept : (f : VarintError) (x more : List ℕ) → ¬ (IsIncomplete (malformed f)) → BeginsMalformed f x → BeginsMalformed f (x ++ more)
-error_kept insufficient x more late h = absurd (late tt)
-error_kept overflow x more late h = grind (arith, common_steps)
-error_kept not_minimal x more late h = grind (arith, common_steps)
+error_kept f x more late h = grind (arith, common_steps)
 
 -- so the front of an input that starts with a varint is malformed only if it ends within it
 pub error_of_part : (n : ℕ) (bytes rest x more : List ℕ) (f : VarintError) → IsVarint n bytes → bytes ++ rest ≡ x ++ more

@@ -123,9 +123,7 @@ front_ends ms b rest x all few small most cut =
 
 ends_number : (ms : List ℕ) (b : ℕ) (rest : List ℕ) → (b ≡ 0 → ms ≡ [])
     → ends_with ms b rest ≡ number (place_value 128 (low_digits (ms ++ b ∷ []))) rest
-ends_number [] b rest minimal = refl
-ends_number (m ∷ ms) zero rest minimal = let none = minimal refl in cc
-ends_number (m ∷ ms) (suc b) rest minimal = refl
+ends_number ms b rest minimal = grind arith
 
 ends_zero : (ms rest : List ℕ) → 0 < length ms → ends_with ms 0 rest ≡ error not_minimal
 ends_zero [] rest some = absurd (omega arith)

@@ -186,11 +186,7 @@ has_whole_found S x bytes = let (v, h) = whole_from S x _ (has_found S x bytes) 
 -- the error of the verdict is the error of the whole verdict
 pub whole_rejected : (S : ℕ) (x : List ℕ) (e : Refusal) (v : Verdict) → HasVerdict S x v → IsErrorOf e v
     → (w : Verdict) × HasWholeVerdict S x w × IsErrorOf e w
-whole_rejected S x e (accepted p) has given = absurd given
-whole_rejected S x e (invalid_size size) has given = (invalid_size size, inl has, given)
-whole_rejected S x e (invalid_code code) has given = absurd has
-whole_rejected S x e (malformed f) has given = (malformed f, has, given)
-whole_rejected S x e unexpected_eof has given = (unexpected_eof, has, given)
+whole_rejected S x e v has given = grind arith
 
 -- ---- the verdict on the whole, by the two varints and what follows them
 

@@ -47,8 +47,7 @@ pub high_bytes : (ys : List ℕ) (n : ℕ) → IsBytes ys → place_value 256 ys
 high_bytes ys n all = ap (λ (m : ℕ). m / 2 ^ (8 * n)) (halves ys n all).1 ∙ shr_high _ (8 * n) _ (halves ys n all).0
 
 lowest_byte : (ys : List ℕ) → IsBytes ys → place_value 256 ys % 2 ^ 8 ≡ get_or ys 0 0
-lowest_byte [] all = omega (arith, place_value-nil 256)
-lowest_byte (y ∷ ys) all = omega (arith, All-head (λ b. b < 256) y ys all, byte_more y ys)
+lowest_byte ys all = grind (arith, common_steps, place_value-nil, byte_more)
 
 -- byte i of the value
 pub byte_of : (ys : List ℕ) (i : ℕ) → IsBytes ys → byte_at (place_value 256 ys) i ≡ get_or ys i 0

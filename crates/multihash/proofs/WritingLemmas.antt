@@ -1,13 +1,12 @@
 -- What has been appended after several writes; a writer to a slice fails only if its capacity is too small.
 use Rattle.std.proofs.lemmas.Grind.{common_steps}
 use Rattle.std.proofs.Common.{◌≡◌, ◌≢◌, ◌<◌, [], ◌∷◌, refl, ℕ, ◌-◌, List, ◌++◌, length, take, drop, Result, OnErr, sym, ap, ◌∙◌, arith}
-use Rattle.std.proofs.Common.{append_assoc, take-append-drop, length-append, length-drop, ◌≤◌, false, inl, inr, Ok, Err, IsOk, ◌+◌}
+use Rattle.std.proofs.Common.{append_assoc, take-append-drop, length-append, length-drop, ◌≤◌, false, IsOk, ◌+◌}
 use Rattle.std.proofs.lemmas.List.{take_rest, length-take-le, drop-drop}
 use Rattle.std.proofs.Math.Seq.{drop-append_seam, take-append_seam}
 use Rattle.multihash.specs.Bytes.{IsStrictPrefix}
 use Rattle.multihash.specs.Writing.{AppendsPrefix, IsWriterFaultOrFull, CountsWriterFailures}
 use Rattle.multihash.proofs.OutcomeLemmas.{OnErr-always}
-use Rattle.std.proofs.lemmas.Bool.{false≢true}
 use Rattle.multihash.specs.Fault.{Fault}
 use Rattle.multihash.specs.Refusal.{Refusal, IsIo}
 use Rattle.multihash.specs.Filling.{FillsSlice, Fills, IsFilled}
@@ -110,8 +109,7 @@ module _ {W : Type 0} (appended : W → List ℕ → W → Type 0) (join : Appen
 
 -- a writer that doesn't allocate and counted no failure returned an error because it was full
 pub full_of_errors : (n : ℕ) (is_full : Type 0) (e : Fault) → IsWriterFaultOrFull false n n is_full e → is_full
-full_of_errors n is_full e (inl error) = elim error.cause [ inl rose ↦ absurd (omega arith) | inr memory ↦ absurd (false≢true memory.0) ]
-full_of_errors n is_full e (inr full) = full.2
+full_of_errors n is_full e errors = grind arith
 
 -- a slice with the bytes after its first `n` has been filled with them
 pub fills_slice : {old bytes new : List ℕ} {n m : ℕ} → n + length bytes ≤ length old → m ≡ n + length bytes
@@ -151,5 +149,4 @@ filled_length {old = old} {bytes = bytes} {new = new} {n = n} {m = m} h =
 pub slice_writer_has_room : {T : Type 0} (old new : SliceWriter) (IsForm : List ℕ → Type 0) (r : Result T Refusal)
     → OnErr r ((bytes : List ℕ) × IsForm bytes × AppendsPrefix Fills old bytes new) → CountsWriterFailures IsIo false 0 0 (IsFilled new) r
     → ((bytes : List ℕ) → IsForm bytes → old.filled + length bytes ≤ length old.buffer.now) → IsOk r
-slice_writer_has_room old new IsForm (Ok x) stopped errors enough = refl
-slice_writer_has_room old new IsForm (Err e) stopped errors enough = grind (arith, common_steps)
+slice_writer_has_room old new IsForm r stopped errors enough = grind (arith, common_steps)

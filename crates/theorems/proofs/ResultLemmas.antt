@@ -1,27 +1,19 @@
 -- What the library's definitions say of results and errors, in the words of `Results`.
-use Rattle.std.proofs.Common.{◌≡◌, ◌≢◌, ◌↔◌, ◌⊎◌, IsOkAnd, ◌<◌, ℕ, Bool, Some, Result, Ok, Err, refl, inl, inr, sym, ap, ◌∙◌, subst, IsTrue}
+use Rattle.std.proofs.Common.{arith}
+use Rattle.std.proofs.Common.{◌≡◌, ◌≢◌, ◌↔◌, ◌⊎◌, IsOkAnd, ◌<◌, ℕ, Bool, Some, Result, inl, inr, ap, ◌∙◌, IsTrue}
 use Rattle.multihash.specs.Fault.{OutOfMemory, IsOutOfMemoryFault}
 use Rattle.multihash.specs.Multihash.{Fields, pair_of}
-use Rattle.multihash.specs.Outcome.{IsErrorOf, IsResultOf}
+use Rattle.multihash.specs.Outcome.{IsResultOf}
 use Rattle.multihash.specs.Pair.{Pair}
 use Rattle.multihash.specs.Refusal.{Refusal, of_io, IsIo, IsOutOfMemory, IsReaderError}
-use Rattle.multihash.specs.Varint.{insufficient, overflow, not_minimal}
-use Rattle.multihash.specs.Verdict.{Verdict, accepted, invalid_size, invalid_code, malformed, unexpected_eof, IsIncomplete}
+use Rattle.multihash.specs.Varint.{insufficient}
+use Rattle.multihash.specs.Verdict.{Verdict, accepted, malformed, unexpected_eof, IsIncomplete}
 use Rattle.multihash.specs.Writing.{IsWriterFaultOrFull}
 use Rattle.theorems.specs.Results.{verdict_of, IsOwnError, IsWriterError}
 
 -- a result is the verdict's
 pub verdict_stated : {S : ℕ} (r : Result (Fields S) Refusal) (v : Verdict) → IsResultOf r v → verdict_of r ≡ Some v
-verdict_stated (Ok m) v is = ap Some (sym is)
-verdict_stated (Err e) (accepted p) is = absurd is
-verdict_stated {S = S} (Err e) (invalid_size size) is =
-    subst (λ x. verdict_of {S = S} (Err x) ≡ Some (invalid_size size)) (sym is) refl
-verdict_stated {S = S} (Err e) (invalid_code code) is =
-    subst (λ x. verdict_of {S = S} (Err x) ≡ Some (invalid_code code)) (sym is) refl
-verdict_stated {S = S} (Err e) (malformed error) is =
-    subst (λ x. verdict_of {S = S} (Err x) ≡ Some (malformed error)) (sym is) refl
-verdict_stated {S = S} (Err e) unexpected_eof (error, is, eof) =
-    subst (λ x. verdict_of {S = S} (Err x) ≡ Some unexpected_eof) (sym (is ∙ ap of_io eof)) refl
+verdict_stated r v is = grind arith
 
 -- an allocation failed
 pub memory_error : (e : Refusal) → IsOutOfMemory e → e ≡ of_io OutOfMemory
@@ -44,22 +36,9 @@ write_error allocates before after is_full {e = e} (error, is, inl fault) = caus
 
 -- a verdict that is neither of the two of a truncated input is not incomplete
 pub is_complete : (v : Verdict) → v ≢ malformed insufficient → v ≢ unexpected_eof → ¬ (IsIncomplete v)
-is_complete (accepted p) short eof incomplete = incomplete
-is_complete (invalid_size size) short eof incomplete = incomplete
-is_complete (invalid_code code) short eof incomplete = incomplete
-is_complete (malformed insufficient) short eof incomplete = short refl
-is_complete (malformed overflow) short eof incomplete = incomplete
-is_complete (malformed not_minimal) short eof incomplete = incomplete
-is_complete unexpected_eof short eof incomplete = eof refl
+is_complete v short eof incomplete = grind arith
 
 -- if no other verdict holds, a pair is the result exactly if its verdict holds
 pub returns_pair : {S : ℕ} (Has : Verdict → Type 0) (r : Result (Fields S) Refusal) (v : Verdict) → Has v → IsResultOf r v
     → ((w : Verdict) → Has w → w ≡ v) → (p : Pair) → Has (accepted p) ↔ IsOkAnd r (λ m. pair_of m ≡ p)
-returns_pair Has (Ok m) v has is_result only p = (
-  (λ own. let told : accepted (pair_of m) ≡ accepted p = sym is_result ∙ sym (only (accepted p) own) in cc),
-  λ same. subst (λ q. Has (accepted q)) same (subst Has is_result has),
-)
-returns_pair Has (Err e) v has is_result only p = (
-  (λ own. subst (IsErrorOf e) (sym (only (accepted p) own)) is_result),
-  λ is_ok. absurd is_ok,
-)
+returns_pair Has r v has is_result only p = grind arith

@@ -1,8 +1,7 @@
 -- What was written is a concatenation of encodings, and reading a concatenation of encodings returns their pairs, unless an
 -- allocation or the reader itself fails (`unless_failed`).
-use Rattle.std.proofs.Common.{rules}
 use Rattle.std.proofs.Common.{arith}
-use Rattle.std.proofs.Common.{map, inl, inr, ◌≡◌, ◌⊎◌, ◌<◌, ℕ, Result, Ok, Err, MatchResult, IsErrAnd, sym, subst}
+use Rattle.std.proofs.Common.{map, ◌≡◌, ◌⊎◌, ◌<◌, ℕ, Result, Ok, Err, MatchResult, IsErrAnd, sym, subst}
 use Rattle.std.proofs.lemmas.List.{length-map}
 use Rattle.multihash.specs.Multihash.{pair_of}
 use Rattle.multihash.specs.Fault.{OutOfMemory}
@@ -10,18 +9,15 @@ use Rattle.multihash.specs.Consuming.{ReadMayFailWith}
 use Rattle.multihash.specs.Reading.{CountsReaderFailures}
 use Rattle.multihash.specs.Refusal.{Refusal, of_io, IsOutOfMemory, IsReaderError}
 use Rattle.multihash.proofs.CallingLemmas.{read_list_of_encodings}
-use Rattle.multihash.proofs.OutcomeLemmas.{passed_error}
 use Rattle.theorems.specs.Results.{IsOwnError}
-use Rattle.theorems.proofs.ResultLemmas.{memory_error, own_error, write_error}
+use Rattle.theorems.proofs.ResultLemmas.{memory_error, own_error}
 use Rattle.theorems.proofs.list_through.Goals as goal
 
 -- what holds if the reader does not fail holds, or memory ran out, or the reader failed
 unless_failed : {A : Type 0} (P : A → Type 0) (Writer IsListed : Refusal → Type 0) {before after : ℕ} (r : Result A Refusal)
     → CountsReaderFailures IsReaderError IsListed before after r → (after ≡ before → MatchResult r P IsOutOfMemory)
     → MatchResult r P (λ e. (e ≡ of_io OutOfMemory) ⊎ Writer e ⊎ ((before < after) × IsOwnError e))
-unless_failed P Writer IsListed (Ok x) same met = met same
-unless_failed P Writer IsListed (Err e) (inl own) met = inr (inr (own.0, own_error e own.1))
-unless_failed P Writer IsListed (Err e) (inr (same, listed)) met = inl (memory_error e (met same))
+unless_failed P Writer IsListed r counts met = grind (arith, own_error, memory_error)
 
 -- what holds of the writer's error holds of the result
 error_passed : {A : Type 0} (r : Result A Refusal) (e : Refusal) (P : Refusal → Type 0) → IsErrAnd r (λ x. x ≡ e) → P e → IsErrAnd r P

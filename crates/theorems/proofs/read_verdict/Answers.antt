@@ -1,15 +1,14 @@
 -- `read` decides at the first byte that can: each clause is one of its contract with what is proved of all inputs, that
 -- they have one verdict and at most one shortest prefix that settles it (`one_verdict`, `settles`).
-use Rattle.std.proofs.Common.{rules}
 use Rattle.std.proofs.Common.{arith}
 use Rattle.std.proofs.Common.{◌≡◌, ◌≢◌, ◌↔◌, ◌⊎◌, ◌<◌, ◌++◌, ℕ, List, Option, Some, None, Result, Ok, Err, IfSome, IsErrAnd, IsOkAnd}
-use Rattle.std.proofs.Common.{inl, inr, sym, ap, ◌∙◌, subst, [], IfErr}
+use Rattle.std.proofs.Common.{inl, inr, ap, ◌∙◌, subst, [], IfErr}
 use Rattle.std.specs.Io.KnownBytes.{IsAtEnd}
 use Rattle.std.proofs.lemmas.Option.{IfSome_then}
 use Rattle.multihash.specs.Bytes.{ExactlyOne, IsPrefix}
 use Rattle.multihash.specs.Varint.{insufficient}
 use Rattle.multihash.specs.Pair.{Pair, FitsBuffer}
-use Rattle.multihash.specs.Verdict.{Verdict, accepted, malformed, unexpected_eof, BeginsWith, HasVerdict, IsIncomplete}
+use Rattle.multihash.specs.Verdict.{Verdict, malformed, unexpected_eof, BeginsWith, HasVerdict, IsIncomplete}
 use Rattle.multihash.specs.Settling.{Settles, IsShortestSettling}
 use Rattle.multihash.specs.Consuming.{ReadMayFailWith, ConsumesAtError, ConsumesShortestSettling, ConsumesNothingSettling}
 use Rattle.multihash.specs.Reading.{Consumes, CountsReaderFailures}
@@ -40,9 +39,7 @@ module _ (S before after : ℕ) (old : Option (List ℕ)) (r : Result (Fields S)
 failed_or : {S : ℕ} {P : Type 0} (before after : ℕ) (r : Result (Fields S) Refusal)
     → CountsReaderFailures IsReaderError (ReadMayFailWith S) before after r → (after ≡ before → P)
     → ((before < after) × IsErrAnd r IsOwnError) ⊎ ((after ≡ before) × P)
-failed_or before after (Ok m) same met = inr (same, met same)
-failed_or before after (Err e) (inl own) met = inl (own.0, own_error e own.1)
-failed_or before after (Err e) (inr (same, listed)) met = inr (same, met same)
+failed_or before after r counts met = grind (arith, own_error)
 
 -- what was consumed is the one shortest prefix that settles
 one_taken : (S before after : ℕ) (old new : Option (List ℕ))

@@ -1,5 +1,4 @@
 -- Each clause is one of `prefix_free`, for the pairs that `same_as` compares.
-use Rattle.std.proofs.Common.{rules}
 use Rattle.std.proofs.Common.{inl, inr, sym, ◌∙◌, subst, arith, [], append-nil}
 use Rattle.multihash.specs.Encoding.{IsEncoding}
 use Rattle.multihash.specs.Multihash.{pair_of}

@@ -1,12 +1,7 @@
 -- The verdict that `from_bytes` returns is the only one (`one_verdict`), so the result states it, and is a pair exactly if the
 -- bytes are its encoding and it fits (`returns_pair`).
-use Rattle.std.proofs.Common.{◌≡◌, ◌↔◌, ℕ, List, Result, Ok, Err, IsOkAnd, sym, ◌∙◌, subst}
-use Rattle.multihash.specs.Pair.{Pair, FitsBuffer}
-use Rattle.multihash.specs.Encoding.{IsEncoding}
-use Rattle.multihash.specs.Verdict.{Verdict, accepted, HasWholeVerdict}
-use Rattle.multihash.specs.Refusal.{Refusal}
-use Rattle.multihash.specs.Outcome.{IsErrorOf, IsResultOf}
-use Rattle.multihash.specs.Multihash.{Fields, pair_of}
+use Rattle.std.proofs.Common.{◌≡◌}
+use Rattle.multihash.specs.Verdict.{Verdict, HasWholeVerdict}
 use Rattle.theorems.proofs.ResultLemmas.{verdict_stated, returns_pair}
 use Rattle.theorems.proofs.verdict.Goals as goal
 

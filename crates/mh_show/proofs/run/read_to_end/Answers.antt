@@ -4,7 +4,7 @@ use Rattle.std.proofs.Common.{drop_at, length-take-le}
 use Rattle.std.proofs.lemmas.Slice.{take-put_mid_below}
 use Rattle.std.specs.Io.KnownBytes.{Consumes as ReadsKnown}
 use Rattle.std.proofs.KnownBytes.{Consumes-trans}
-use borrow.Rule.Slice.PartMut.{put_mid, post_of}
+use borrow.Rule.Slice.PartMut.{put_mid}
 use lib.Seq.{take-add, take-append-le}
 use Rattle.mh_show.proofs.run.read_to_end.Goals as goal
 

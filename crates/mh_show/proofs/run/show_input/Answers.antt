@@ -1,14 +1,13 @@
 -- A run ends with the error of reading, of `show` or of writing: the first two are those of the call, and at the third a
 -- prefix of the lines that `show` returned has been appended.
-use Rattle.std.proofs.Common.{◌≡◌, ℕ, List, Option, Result, Ok, Err, IfErr, OnErr, refl, sym, ap, subst}
+use Rattle.std.proofs.Common.{◌≡◌, ℕ, List, Option, Err, refl, ap}
 use Rattle.multihash.specs.Refusal.{Refusal}
 use Rattle.multihash.proofs.OutcomeLemmas.{passed_error}
-use Rattle.mh_show.specs.declared.run.RunError.{RunError}
-use Rattle.mh_show.specs.declared.run.RunError.TheVariants.{NotShown, Output}
+use Rattle.mh_show.specs.declared.run.RunError.TheVariants.{NotShown}
 use Rattle.mh_show.specs.declared.show.ShowError.{ShowError}
 use Rattle.mh_show.specs.declared.show.ShowError.TheVariants.{NotHex, Refused, Memory}
-use Rattle.mh_show.specs.Shown.{IsLine, NamesBytes, IsRejectedAs, ShowsAs}
-use Rattle.mh_show.specs.Run.{ReadsWhole, AppendsPrefixOf, EndsRun}
+use Rattle.mh_show.specs.Shown.{IsLine, NamesBytes, IsRejectedAs}
+use Rattle.mh_show.specs.Run.{ReadsWhole, EndsRun}
 use Rattle.mh_show.proofs.run.show_input.Goals as goal
 
 -- how a run ends at each error of `show`

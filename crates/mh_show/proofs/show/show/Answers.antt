@@ -1,15 +1,10 @@
 -- A text has one line (`line_unique`), so what the calls say of the line that was found holds of each line of the text.
-use Rattle.std.proofs.Common.{rules}
 use Rattle.std.proofs.Common.{arith}
 use Rattle.std.proofs.Common.{◌≡◌, ℕ, ◌%◌, ◌⊎◌, List, length, Result, Ok, Err, sym, ap, ◌∙◌, subst, inl, inr}
 use Rattle.std.specs.Result.{IsErrAnd}
 use Rattle.hex.specs.declared.error.FromHexError.{FromHexError}
 use Rattle.hex.specs.declared.error.FromHexError.TheVariants.{OutOfMemory}
 use Rattle.hex.specs.Hex.{decode_of}
-use Rattle.multihash.specs.Refusal.{Refusal}
-use Rattle.multihash.specs.Outcome.{IsErrorOf}
-use Rattle.multihash.specs.Multihash.{pair_of}
-use Rattle.multihash.specs.Verdict.{HasWholeVerdict}
 use Rattle.mh_show.specs.declared.show.ShowError.{ShowError}
 use Rattle.mh_show.specs.declared.show.ShowError.TheVariants.{NotHex}
 use Rattle.mh_show.specs.Shown.{IsLine, NamesBytes}

@@ -1,6 +1,6 @@
 -- The form is the code's eight bytes, the size and the digest (`form`): two calls that succeed append it, and one that fails
 -- has appended a strict prefix of it.
-use Rattle.std.proofs.Common.{[], ◌++◌, length, ap, arith, append_assoc, refl}
+use Rattle.std.proofs.Common.{◌++◌, length, ap, arith, append_assoc, refl}
 use Rattle.multihash.specs.Scale.{IsScale}
 use Rattle.multihash.specs.Multihash.{pair_of}
 use Rattle.multihash.proofs.ScaleLemmas.{scale_length}
