@@ -78,7 +78,7 @@ write_of_encoded_len old new p len r (own, is_own, long) room empty kept stopped
 pub scale_pair : (S : ℕ) (p q : Pair) (input bytes consumed more left : List ℕ) (v : Verdict) → input ≡ bytes ++ more → IsScale p bytes
     → FitsBuffer S p → HasScaleVerdict S input v → v ≡ accepted q → IsScale q consumed → input ≡ consumed ++ left → (q ≡ p) × (left ≡ more)
 scale_pair S p q input bytes consumed more left v whole form fits found is_result is_taken cut =
-    let same = scale_split q p consumed bytes left more is_taken form (sym cut ∙ whole) in (same.0, same.2)
+    let same : (q ≡ p) × (consumed ≡ bytes) × (left ≡ more) = scale_split q p consumed bytes left more is_taken form (sym cut ∙ whole) in (same.0, same.2)
 
 -- a SCALE form of a pair that fits, and more, is not rejected
 pub scale_taken : (S : ℕ) (p : Pair) (input bytes more : List ℕ) (v : Verdict) (e : Refusal) → input ≡ bytes ++ more → IsScale p bytes

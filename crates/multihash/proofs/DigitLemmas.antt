@@ -64,7 +64,7 @@ place_value_unique base [] [] p q l v = refl
 place_value_unique base [] (e ∷ es) p q l v = absurd (omega arith)
 place_value_unique base (d ∷ ds) [] p q l v = absurd (omega arith)
 place_value_unique base (d ∷ ds) (e ∷ es) p q l v =
-    let same = same_from_place (place_value base ds) d (place_value base es) e base
+    let same : (place_value base ds ≡ place_value base es) × (d ≡ e) = same_from_place (place_value base ds) d (place_value base es) e base
     (All-head (λ x. x < base) d ds p) (All-head (λ x. x < base) e es q)
     (omega (arith, v, place_value-cons base d ds, place_value-cons base e es)) in
     let rest : ds ≡ es = place_value_unique base ds es (All-tail (λ x. x < base) d ds p) (All-tail (λ x. x < base) e es q)

@@ -191,7 +191,7 @@ scale_reads_after_failure : (text : List ℕ) → ¬
     (ConsumesAtScaleError 4 (of_io (Other text)) (Some (zeros ++ 0x01 ∷ 0x07 ∷ [])) (Some []))
 unfolding place_value
 scale_reads_after_failure text h =
-    let same = truncated_input (zeros ++ 0x01 ∷ 0x07 ∷ []) (of_io (Other text)) refl h (inr (Other text, refl, inl (text, refl))) in cc
+    let same : unexpected_eof ≡ accepted (pair 0 (0x07 ∷ [])) = truncated_input (zeros ++ 0x01 ∷ 0x07 ∷ []) (of_io (Other text)) refl h (inr (Other text, refl, inl (text, refl))) in cc
 
 -- ---- JSON
 

@@ -124,7 +124,7 @@ module _ (S : ℕ) (consumed : List ℕ) {old : Option (List ℕ)} (new : Option
         consumed = consumed;
         consumes = consumes;
         insufficient = λ h.
-            let same = error_unique e v (malformed insufficient) given h in (subst (HasVerdict S consumed) same has, all same);
+            let same : v ≡ malformed insufficient = error_unique e v (malformed insufficient) given h in (subst (HasVerdict S consumed) same has, all same);
         eof = λ h. subst (HasVerdict S consumed) (error_unique e v unexpected_eof given h) has;
         failed = λ _. (v, soon, has);
       };

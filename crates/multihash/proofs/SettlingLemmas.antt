@@ -115,10 +115,12 @@ incomplete_not_settles S x (invalid_size size) incomplete h s = incomplete
 incomplete_not_settles S x (invalid_code code) incomplete h s = incomplete
 incomplete_not_settles S x (malformed insufficient) incomplete (inl h) s =
     let (more, bytes, ends) = open_varint x h in
-    let same = same_after S x more (malformed insufficient) (malformed not_minimal) s (inl h) bytes (inl ends) in cc
+    let same : malformed insufficient ≡ malformed not_minimal =
+    same_after S x more (malformed insufficient) (malformed not_minimal) s (inl h) bytes (inl ends) in cc
 incomplete_not_settles S x (malformed insufficient) incomplete (inr (rest, c, h)) s =
     let (more, bytes, ends) = open_varint rest h in
-    let same = same_after S x more (malformed insufficient) (malformed not_minimal) s (inr (rest, c, h)) bytes
+    let same : malformed insufficient ≡ malformed not_minimal =
+    same_after S x more (malformed insufficient) (malformed not_minimal) s (inr (rest, c, h)) bytes
     (inr (rest ++ more, code_kept x rest more c, ends)) in cc
 incomplete_not_settles S x (malformed overflow) incomplete h s = incomplete
 incomplete_not_settles S x (malformed not_minimal) incomplete h s = incomplete

@@ -46,7 +46,7 @@ varint_same n a b v w =
     let long : length (v.front ++ v.last ∷ []) ≡ length (w.front ++ w.last ∷ []) =
     omega (arith, length_push v.front v.last, length_push w.front w.last, front_no_longer n a b v w, front_no_longer n b a w v) in
     let digits = place_value_unique 128 (v.front ++ v.last ∷ []) (w.front ++ w.last ∷ []) v.digits w.digits long (v.value ∙ sym w.value) in
-    let same = same_from_push v.front w.front v.last w.last digits in
+    let same : (v.front ≡ w.front) × (v.last ≡ w.last) = same_from_push v.front w.front v.last w.last digits in
     cc (v.encoded, w.encoded, same.0, same.1)
 
 -- ---- what bytes encode
@@ -192,7 +192,7 @@ front_of_has x bytes = front_has max_continuation [] x (All-nil IsContinuation) 
 
 -- an input has at most one number at its front, and one rest
 pub number_unique : (x : List ℕ) (m n : ℕ) (r q : List ℕ) → HasFront x (number m r) → HasFront x (number n q) → (m ≡ n) × (r ≡ q)
-number_unique x m n r q h k = let same = front_unique x (number m r) (number n q) h k in (cc, cc)
+number_unique x m n r q h k = let same : number m r ≡ number n q = front_unique x (number m r) (number n q) h k in (cc, cc)
 
 -- two varints at the front of one input are equal, of the same number, and so is what follows them
 pub varint_unique : (m n : ℕ) (a b r s : List ℕ) → IsVarint m a → IsVarint n b → a ++ r ≡ b ++ s
