@@ -46,7 +46,7 @@ STATED = (
     (FORMAT, "an encoding | 2 to {} bytes", HEADER, r"MULTIHASH_LENGTH_MAX (\d+)"),
     (FORMAT, "both varints together | 2 to {} bytes", HEADER, r"MULTIHASH_HEAD_MAX (\d+)"),
     (FORMAT, "SCALE encoding | 9 to {} bytes", HEADER, r"MULTIHASH_SCALE_LENGTH_MAX (\d+)"),
-    (MAN, "status {}", RUN, r"ExitCode::from\((\d+)\)"),
+    (MAN, "status {}", RUN, r"ensures status { result ≤ (\d+) }"),
     (MAN, "digest of at most {}", "crates/mh_show/src/show.rt", r"Multihash::<(\d+)>::from_bytes"),
     (MAN, "at most {} bytes", RUN, r"MOST_INPUT: usize = (.*);"),
 )
