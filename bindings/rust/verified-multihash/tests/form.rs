@@ -1,32 +1,106 @@
-//! Formats: the laws, over drawn values, changed inputs, and readers that are cut or fail.
+//! Formats: the laws, over drawn values, changed inputs, and readers that are short or fail.
 #![cfg(feature = "alloc")]
-#[path = "support/draw.rs"]
-mod draw;
-
-use draw::{Draw, Fails, Slow};
-use std::fmt::Debug;
-use verified_multihash::form::*;
-use verified_multihash::{form, Multihash};
-
 #[cfg(feature = "std")]
 use std::io;
 #[cfg(not(feature = "std"))]
 use verified_multihash::no_std_io as io;
 
-use io::Error;
+use std::fmt::Debug;
+use verified_multihash::form::*;
+use verified_multihash::{form, Multihash};
 
-/// The error of a reader or a writer itself.
-fn other(text: &'static str) -> Error {
-    #[cfg(feature = "std")]
-    return Error::new(io::ErrorKind::Other, text);
-    #[cfg(not(feature = "std"))]
-    return Error::other(text);
+/// Returns one byte a call, and fails once, before the byte with that index.
+struct Slow<'a>(&'a [u8], usize);
+
+impl io::Read for Slow<'_> {
+    fn read(&mut self, buf: &mut [u8]) -> Result<usize, io::Error> {
+        if self.1 == 0 {
+            self.1 = usize::MAX;
+            #[cfg(feature = "std")]
+            return Err(io::Error::new(io::ErrorKind::Other, "reader"));
+            #[cfg(not(feature = "std"))]
+            return Err(io::Error::other("reader"));
+        }
+        let length = buf.len().min(1);
+        self.1 -= length;
+        self.0.read(&mut buf[..length])
+    }
 }
 
-type Cid = Both<Tag<1>, Both<Number, Multihash<64>>>;
-type Identifier = Choice<Case<Both<Number, Multihash<64>>, 1, Tagged<Both<Tag<32>, Bytes<32>>, 0x12>>>;
-type Node = Both<Number, Both<Counted<Multihash<64>, 1000>, Block<1_000_000>>>;
-type PeerRecord = Both<Multihash<42>, Both<LittleEndian<8>, Counted<Block<1000>, 1>>>;
+/// A reader of these bytes that does not fail.
+fn slow(bytes: &[u8]) -> Slow<'_> {
+    Slow(bytes, usize::MAX)
+}
+
+/// Pseudo-random numbers, by xorshift.
+struct Draw(u64);
+
+impl Draw {
+    fn next(&mut self) -> u64 {
+        self.0 ^= self.0 << 13;
+        self.0 ^= self.0 >> 7;
+        self.0 ^= self.0 << 17;
+        self.0.wrapping_mul(0x2545_f491_4f6c_dd1d)
+    }
+
+    fn below(&mut self, limit: u64) -> u64 {
+        (self.next() >> 11) % limit
+    }
+
+    /// Returns a number, of each length of a varint.
+    fn number(&mut self) -> Number {
+        let bits = 1 + self.below(63);
+        Number::new(self.next() >> (64 - bits)).expect("it is below 2^63")
+    }
+
+    /// Returns at most that many bytes.
+    fn bytes(&mut self, most: u64) -> Vec<u8> {
+        (0..self.below(most + 1)).map(|_| self.next() as u8).collect()
+    }
+
+    fn multihash(&mut self) -> Multihash<64> {
+        let (code, digest) = (self.number().get(), self.bytes(64));
+        Multihash::wrap(code, &digest).expect("it fits")
+    }
+
+    fn named(&mut self) -> Named {
+        Named { version: Tag::new(), codec: self.number(), hash: self.multihash() }
+    }
+
+    fn protocol(&mut self) -> Protocol {
+        match self.below(5) {
+            0 => Protocol::Ip4([self.next() as u8; 4].into()),
+            1 => Protocol::Tcp((self.next() as u16).into()),
+            2 => Protocol::Dns(Block::new(self.bytes(253)).expect("it fits")),
+            3 => Protocol::P2p(self.named()),
+            _ => Protocol::Far(self.number()),
+        }
+    }
+
+    fn node(&mut self) -> Node {
+        let blocks: Vec<_> = (0..self.below(4)).map(|_| Block::new(self.bytes(30)).expect("it fits")).collect();
+        let content = Block::new(self.bytes(300)).expect("it fits");
+        let second = Both { first: Counted::new(blocks).expect("they fit"), second: content };
+        Both { first: self.next().into(), second }
+    }
+
+    /// Returns the bytes, of which one to three of the first are others or more, and sometimes more bytes.
+    fn changed(&mut self, bytes: &[u8]) -> Vec<u8> {
+        let mut other = bytes.to_vec();
+        for _ in 0..1 + self.below(3) {
+            let at = self.below(other.len().min(24) as u64) as usize;
+            match self.below(3) {
+                0 => other[at] = self.next() as u8,
+                1 => other[at] ^= 0x80,
+                _ => other.insert(at, self.next() as u8),
+            }
+        }
+        let most = 300 * (self.0 % 2);
+        other.extend(self.bytes(most));
+        other
+    }
+}
+
 form! {
     #[derive(Clone, Debug, PartialEq)]
     struct Named { version: Tag<1>, codec: Number, hash: Multihash<64> }
@@ -41,9 +115,12 @@ form! {
         Far(Number) = 0x7fff_ffff_ffff_ffff, // FAR: a literal
     }
 }
+type Node = Both<LittleEndian<8>, Both<Counted<Block<1000>, 1000>, Block<1_000_000>>>;
 
-/// The same cases by the proved parts alone.
-type Protocols = Case<Bytes<4>, 4, Case<BigEndian<2>, 6, Case<Block<253>, 53, Case<Named, 421, Tagged<Number, FAR>>>>>;
+/// The same struct and enum by the proved parts alone.
+type Cid = Both<Tag<1>, Both<Number, Multihash<64>>>;
+type Protocols =
+    Case<Bytes<4>, 4, Case<BigEndian<2>, 6, Case<Block<253>, 53, Case<Cid, 421, Tagged<Number, FAR>>>>>;
 const FAR: u64 = 0x7fff_ffff_ffff_ffff;
 
 fn text<T>(result: &Result<T, FormError>) -> String {
@@ -53,7 +130,6 @@ fn text<T>(result: &Result<T, FormError>) -> String {
 /// A value is read back, alone and with more bytes after it, from a slice and from a stream.
 fn check_value<T: Form + PartialEq + Debug>(value: &T, bytes: &[u8], more: &[u8]) {
     assert_eq!(encoded_len(value), bytes.len() as u64);
-    assert!(!bytes.is_empty());
     assert_eq!(from_bytes::<T>(bytes).expect("a value"), *value);
     let all = [bytes, more].concat();
     let (found, rest) = read_front::<T>(&all).expect("a value");
@@ -63,7 +139,7 @@ fn check_value<T: Form + PartialEq + Debug>(value: &T, bytes: &[u8], more: &[u8]
         Err(error) => assert!(matches!(error, FormError::Trailing(n) if n == more.len() && n > 0)),
     }
     let two = [bytes, bytes].concat();
-    let mut stream = Stream::new(Slow(&two));
+    let mut stream = Stream::new(slow(&two));
     for wanted in [Some(value), Some(value), None] {
         assert_eq!(stream.read_next::<T>().expect("whole values").as_ref(), wanted);
     }
@@ -76,11 +152,10 @@ fn check_prefixes<T: Form + PartialEq + Debug>(value: &T, bytes: &[u8]) {
     for length in 0..bytes.len() {
         let cut = &bytes[..length];
         assert!(from_bytes::<T>(cut).expect_err("a prefix").is_incomplete());
-        assert!(read::<T, _>(&mut Slow(cut)).expect_err("a prefix").is_incomplete());
         let mut out = vec![0xa5; bytes.len()];
         assert!(value.write(&mut &mut out[..length]).is_err());
         assert_eq!((&out[..length], out[length]), (cut, 0xa5));
-        let mut fails = Fails(bytes, length);
+        let mut fails = Slow(bytes, length);
         match read::<T, _>(&mut fails) {
             Err(FormError::Failed(error)) => assert_eq!(error.io().expect("the reader's").to_string(), "reader"),
             other => panic!("{other:?}"),
@@ -89,37 +164,36 @@ fn check_prefixes<T: Form + PartialEq + Debug>(value: &T, bytes: &[u8]) {
     }
 }
 
-/// An input that is accepted is an encoding. One that is rejected has one error, which one byte shows, whatever follows.
-/// Returns whether it is rejected.
-fn check_input<T: Form + PartialEq + Debug>(input: &[u8], draw: &mut Draw) -> bool {
-    let (mut rest, mut slow) = (input, Slow(input));
-    let (found, slowly) = (read::<T, _>(&mut rest), read::<T, _>(&mut slow));
-    assert_eq!(text(&found), text(&slowly));
-    let taken = input.len() - slow.0.len();
-    let mut counted = Position::new(Slow(input));
-    assert_eq!((text(&read::<T, _>(&mut counted)), counted.offset), (text(&found), taken as u64));
-    match found {
+/// An input that is accepted is an encoding. One that is rejected has one error, which one byte shows, whatever follows,
+/// and which is found after a value too. Returns whether it is rejected.
+fn check_input<T: Form + PartialEq + Debug>(input: &[u8], before: &[u8], draw: &mut Draw) -> bool {
+    let (mut rest, mut counted) = (input, Position::new(slow(input)));
+    let (found, slowly) = (read::<T, _>(&mut rest), read::<T, _>(&mut counted));
+    let taken = counted.offset as usize;
+    assert_eq!((text(&found), counted.inner.0), (text(&slowly), &input[taken..]));
+    let error = match found {
         Ok(found) => {
             assert_eq!(to_bytes(&found).expect("memory"), input[..taken]);
-            assert_eq!((&found, rest.len()), (&slowly.expect("the same"), slow.0.len()));
-            false
+            assert_eq!((&found, rest), (&slowly.expect("the same"), &input[taken..]));
+            return false;
         }
-        Err(error) if error.is_incomplete() => {
-            assert_eq!(slow.0.len(), 0);
-            false
-        }
-        Err(error) => {
-            assert!(taken > 0 && rest.len() == slow.0.len());
-            assert!(read::<T, _>(&mut Slow(&input[..taken - 1])).expect_err("a prefix").is_incomplete());
-            for more in [vec![], draw.bytes(9)] {
-                let other = [&input[..taken], &more].concat();
-                let mut slow = Slow(&other);
-                assert_eq!(text(&read::<T, _>(&mut slow)), format!("{error:?}"));
-                assert_eq!(slow.0.len(), more.len());
-            }
-            true
-        }
+        Err(error) => error,
+    };
+    let located = first_error::<T>(&[before, input].concat()).expect("an error");
+    assert_eq!((located.item, located.start, located.offset), (1, before.len(), before.len() + taken));
+    assert_eq!(format!("{:?}", located.error), format!("{error:?}"));
+    if error.is_incomplete() {
+        assert_eq!(taken, input.len());
+        return false;
     }
+    assert!(taken > 0 && rest == &input[taken..]);
+    assert!(read::<T, _>(&mut slow(&input[..taken - 1])).expect_err("a prefix").is_incomplete());
+    for more in [vec![], draw.bytes(9)] {
+        let other = [&input[..taken], &more].concat();
+        let mut other = slow(&other);
+        assert_eq!((text(&read::<T, _>(&mut other)), other.0), (format!("{error:?}"), &more[..]));
+    }
+    true
 }
 
 /// The laws of the trait, for a value and for inputs like its encoding. Returns how many were rejected.
@@ -127,53 +201,18 @@ fn check<T: Form + PartialEq + Debug>(value: &T, draw: &mut Draw) -> usize {
     let bytes = to_bytes(value).expect("memory");
     check_value(value, &bytes, &draw.bytes(9));
     check_prefixes(value, &bytes);
-    (0..20).filter(|_| check_input::<T>(&draw.changed(&bytes), draw)).count()
+    (0..20).filter(|_| check_input::<T>(&draw.changed(&bytes), &bytes, draw)).count()
 }
 
-fn named(draw: &mut Draw) -> Named {
-    Named { version: Tag::new(), codec: draw.number(), hash: draw.multihash() }
-}
-
-fn protocol(draw: &mut Draw) -> Protocol {
-    match draw.below(5) {
-        0 => Protocol::Ip4([draw.next() as u8; 4].into()),
-        1 => Protocol::Tcp((draw.next() as u16).into()),
-        2 => Protocol::Dns(Block::new(draw.bytes(253)).expect("it fits")),
-        3 => Protocol::P2p(named(draw)),
-        _ => Protocol::Far(draw.number()),
-    }
-}
-
-fn identifier(draw: &mut Draw) -> Identifier {
-    if draw.below(2) == 0 {
-        return Choice { case: Case::this(Both { first: draw.number(), second: draw.multihash() }) };
-    }
-    let second = Tagged::new(Both { first: Tag::new(), second: [draw.next() as u8; 32].into() });
-    Choice { case: Case::other(second).expect("another tag") }
-}
-
-fn node(draw: &mut Draw) -> Node {
-    let links: Vec<Multihash<64>> = (0..draw.below(4)).map(|_| draw.multihash()).collect();
-    let content = Block::new(draw.bytes(30)).expect("it fits");
-    Both { first: draw.number(), second: Both { first: Counted::new(links).expect("they fit"), second: content } }
-}
-
-fn peer_record(draw: &mut Draw) -> PeerRecord {
-    let blocks: Vec<_> = (0..draw.below(2)).map(|_| Block::new(draw.bytes(50)).expect("it fits")).collect();
-    let rest = Both { first: draw.next().into(), second: Counted::new(blocks).expect("they fit") };
-    Both { first: draw.multihash(), second: rest }
-}
-
-/// An enum of `form!` reads as a choice, and writes what it does.
-fn check_choice(value: &Protocol, draw: &mut Draw) {
+/// A type of `form!` reads as the same parts do, and writes what they do.
+fn check_same<T: Form, Parts: Form>(value: &T, draw: &mut Draw) {
     let bytes = to_bytes(value).expect("memory");
-    let choice: Choice<Protocols> = from_bytes(&bytes).expect("a value");
-    assert_eq!(to_bytes(&choice).expect("memory"), bytes);
+    assert_eq!(to_bytes(&from_bytes::<Parts>(&bytes).expect("a value")).expect("memory"), bytes);
     for _ in 0..20 {
         let other = draw.changed(&bytes);
-        let (mut rest, mut by_choice) = (&other[..], &other[..]);
-        let found = (read::<Protocol, _>(&mut rest), read::<Choice<Protocols>, _>(&mut by_choice));
-        assert_eq!((text(&found.0), rest), (text(&found.1), by_choice));
+        let (mut rest, mut by_parts) = (&other[..], &other[..]);
+        let found = (read::<T, _>(&mut rest), read::<Parts, _>(&mut by_parts));
+        assert_eq!((text(&found.0), rest), (text(&found.1), by_parts));
     }
 }
 
@@ -184,16 +223,11 @@ fn drawn() {
     let draw = &mut Draw(0x9e37_79b9_7f4a_7c15);
     let mut rejected = 0;
     for _ in 0..rounds {
-        let named = named(draw);
-        let cid: Cid = Both { first: named.version, second: Both { first: named.codec, second: named.hash } };
-        assert_eq!(to_bytes(&named).expect("memory"), to_bytes(&cid).expect("memory"));
-        rejected += check(&cid, draw) + check(&named, draw);
-        let protocol = protocol(draw);
-        check_choice(&protocol, draw);
-        rejected += check(&identifier(draw), draw) + check(&protocol, draw);
-        rejected += check(&node(draw), draw) + check(&peer_record(draw), draw);
+        let (named, protocol, node) = (draw.named(), draw.protocol(), draw.node());
+        rejected += check(&named, draw) + check(&protocol, draw) + check(&node, draw);
+        check_same::<_, Cid>(&named, draw);
+        check_same::<_, Choice<Protocols>>(&protocol, draw);
     }
-    println!("{rejected} inputs rejected");
     assert!(rejected > 0);
 }
 
@@ -220,10 +254,12 @@ fn limits() {
     assert_eq!(from_bytes::<BigEndian<1>>(b"\xff").map(u8::from).ok(), Some(255));
     assert_eq!(from_bytes::<LittleEndian<8>>(&[255; 8]).map(u64::from).ok(), Some(u64::MAX));
     assert!(from_bytes::<BigEndian<0>>(b"").is_err() && from_bytes::<LittleEndian<9>>(&[0; 9]).is_err());
-    let [one, twice] = [Tagged::new(Number::from(7)), Tagged::new(Number::from(8))];
-    assert_eq!(Case::<Number, 3, Tagged<Number, 4>>::other(one.clone()).expect("another").tag().get(), 4);
-    assert!(matches!(Case::<Number, 4, Tagged<Number, 4>>::other(twice), Err(FormError::OtherTag(4))));
-    assert!(matches!(from_bytes::<Protocol>(b"\x05"), Err(FormError::OtherTag(5))));
+    type Two = Case<Number, 3, Tagged<Number, 4>>;
+    for (case, bytes) in [(Two::this(5.into()), [3, 5]), (Two::other(Tagged::new(7.into())).expect("it differs"), [4, 7])] {
+        assert_eq!(to_bytes(&Choice { case }).expect("memory"), bytes);
+    }
+    let twice = Case::<Number, 4, Tagged<Number, 4>>::other(Tagged::new(8.into()));
+    assert!(matches!(twice, Err(FormError::OtherTag(4))));
 }
 
 /// The error is the reader's own, or that of the bytes.
@@ -231,13 +267,10 @@ fn limits() {
 #[test]
 fn kinds() {
     use io::ErrorKind;
-    let kind = |mut bytes: &[u8]| Error::from(read::<Node, _>(&mut bytes).expect_err("no node")).kind();
-    assert_eq!(kind(b"\x01\xe9\x07"), ErrorKind::InvalidData); // 1,001 links
-    assert_eq!(kind(b"\x80\0"), ErrorKind::InvalidData);
-    assert_eq!(kind(b"\x01\x01\x12\x03ab"), ErrorKind::UnexpectedEof);
-    let full = node(&mut Draw(3)).write(&mut &mut [0; 2][..]).expect_err("it is full");
-    assert_eq!(Error::from(full).kind(), ErrorKind::WriteZero);
-    assert_eq!(read::<Node, _>(&mut io::Cursor::new(b"\x01\0\0")).expect("a node").first.get(), 1);
-    let mut file: Box<dyn io::Read> = Box::new(&b"\x01\0\0"[..]);
-    assert_eq!(read::<Node, _>(&mut file).expect("a node").first.get(), 1);
+    let kind = |mut bytes: &[u8]| io::Error::from(read::<Node, _>(&mut bytes).expect_err("no node")).kind();
+    assert_eq!(kind(b"01234567\xe9\x07"), ErrorKind::InvalidData); // 1,001 blocks
+    assert_eq!(kind(b"01234567\x80\0"), ErrorKind::InvalidData);
+    assert_eq!(kind(b"01234567\0\x03ab"), ErrorKind::UnexpectedEof);
+    let full = Number::from(300).write(&mut &mut [0; 1][..]).expect_err("it is full");
+    assert_eq!(io::Error::from(full).kind(), ErrorKind::WriteZero);
 }

@@ -1,8 +1,5 @@
-//! Values: what is implemented, limits, and readers and writers that break the rules of theirs.
-#![cfg(feature = "std")]
-use std::io::{self, Read, Write};
-use verified_multihash::varint::{self, MAX as CODE_MAX};
-use verified_multihash::{codes, Decoder, Error, Head, Multihash, Reader, TextError};
+//! Values, their texts, names of codes, limits, and the texts of errors that the test vectors do not have.
+use verified_multihash::{codes, varint, Decoder, Error, Head, Multihash, TextError};
 
 type Value = Multihash<64>;
 
@@ -19,18 +16,24 @@ fn implemented() {
     is_error::<Error>();
     is_error::<TextError>();
     is_stream::<Decoder<64>>();
-    is_stream::<Reader<&[u8], 64>>();
-    assert_eq!(Value::default(), Value::wrap(0, b"").expect("it fits"));
-    // a result of a varint is returned in three words, and a multihash with one more than it has
-    assert_eq!([24, 88], [std::mem::size_of::<Error>(), std::mem::size_of::<Result<Value, Error>>()]);
+    #[cfg(feature = "std")]
+    {
+        is_stream::<verified_multihash::Reader<&[u8], 64>>();
+        // a result of a varint is returned in three words, and a multihash with one more than it has
+        assert_eq!([24, 88], [std::mem::size_of::<Error>(), std::mem::size_of::<Result<Value, Error>>()]);
+    }
 }
 
 #[test]
-fn limits() {
+fn shortened() {
     let value = Value::wrap(0x12, b"abc").expect("it fits");
     assert_eq!([3, 4, 64, 255].map(|size| value.truncate(size)), [value; 4]);
-    let error = varint::write(CODE_MAX + 1, &mut io::sink()).expect_err("too large");
-    assert_eq!((error.invalid_code(), varint::len(CODE_MAX + 1).is_ok()), (Some(1 << 63), false));
+    // `truncate` keeps the bytes that are removed, as upstream, and `resize` does not copy them
+    let short = value.truncate(2);
+    assert_eq!((short.digest(), &short.into_inner().1[..4]), (&b"ab"[..], &b"abc\0"[..]));
+    assert_eq!(short.resize::<4>().expect("it fits").into_inner(), (0x12, *b"ab\0\0", 2));
+    let shown = "Multihash { code: 18, size: 2, digest: [97, 98, 99, 0] }";
+    assert_eq!(format!("{:?}", value.resize::<4>().expect("it fits").truncate(2)), shown);
 }
 
 /// Names of the multicodec table, and what is none.
@@ -38,16 +41,10 @@ fn limits() {
 fn names() {
     for (constant, code, name) in [
         (codes::IDENTITY, 0, "identity"),
+        (codes::SHA2_256, 0x12, "sha2-256"),
         (codes::BLAKE2B_8, 0xb201, "blake2b-8"),
         (codes::BLAKE2S_256, 0xb260, "blake2s-256"),
         (codes::SKEIN1024_1024, 0xb3e0, "skein1024-1024"),
-        (codes::KANGAROOTWELVE, 0x1d01, "kangarootwelve"),
-        (codes::KECCAK_224, 0x1a, "keccak-224"),
-        (codes::KECCAK_384, 0x1c, "keccak-384"),
-        (codes::KECCAK_512, 0x1d, "keccak-512"),
-        (codes::BLAKE3, 0x1e, "blake3"),
-        (codes::RIPEMD_256, 0x1054, "ripemd-256"),
-        (codes::XXH_64, 0xb3e2, "xxh-64"),
         (codes::POSEIDON_BLS12_381_A2_FC1_SC, 0xb402, "poseidon-bls12_381-a2-fc1-sc"),
     ] {
         assert_eq!((constant, codes::name(code), codes::code(name)), (code, Some(name), Some(code)));
@@ -64,6 +61,7 @@ fn long_slices() {
     // 2^32 and 1, or as much as fits: no page is touched but the first
     let long = vec![0; 1_usize.checked_shl(32).unwrap_or(1 << 16) + 1];
     let length = long.len();
+    assert_eq!(Value::wrap(1, &long).expect_err("too long").invalid_size(), Some(length as u64));
     assert_eq!(Value::from_bytes(&long).expect_err("trailing bytes").invalid_size(), Some(length as u64 - 2));
     assert_eq!(Head::read_front(&long).map(|head| head.digest_offset).ok(), Some(2));
     let (mut rest, mut form) = (&long[..], &long[..]);
@@ -75,34 +73,66 @@ fn long_slices() {
     assert_eq!(head.digest_len, (1 << 32) + 3);
 }
 
-/// Returns a count that may be too large, and sets no byte.
-struct Wrong(usize);
-
-impl Read for Wrong {
-    fn read(&mut self, _: &mut [u8]) -> io::Result<usize> {
-        Ok(self.0)
-    }
-}
-
-impl Write for Wrong {
-    fn write(&mut self, _: &[u8]) -> io::Result<usize> {
-        Ok(self.0)
-    }
-
-    fn flush(&mut self) -> io::Result<()> {
-        Ok(())
-    }
-}
-
-/// A count that is too large is a panic, or does no harm, and a varint that never ends has an error.
+/// The text of a value, which an alignment and a precision shape, and which is read in either case.
 #[test]
-fn too_large_counts() {
-    for count in [0, 1, 2, 5, usize::MAX] {
-        let caught = std::panic::catch_unwind(|| {
-            let _ = Value::wrap(0x12, b"abc").expect("it fits").write(Wrong(count));
-        });
-        assert_eq!(caught.is_err(), count > 1);
-        let read = std::panic::catch_unwind(|| (Value::read(Wrong(count)), Value::scale_decode(Wrong(count))));
-        assert!(count > 1 || read.is_ok());
+fn hexadecimal() {
+    let value: Value = "12034A4b4C".parse().expect("a multihash");
+    assert_eq!(value, Value::wrap(0x12, b"JKL").expect("it fits"));
+    assert_eq!(format!("{value} {value:.4}|{value:12}|{value:>12}|"), "12034a4b4c 1203|12034a4b4c  |  12034a4b4c|");
+    let full = Multihash::<255>::wrap(u64::MAX >> 1, &[0xf7; 255]).expect("it fits");
+    assert_eq!(full.to_string().parse().ok(), Some(full));
+}
+
+/// Texts that are no multihash, the longest encoding with bytes that follow too.
+#[test]
+fn rejected_texts() {
+    let full = Multihash::<255>::wrap(u64::MAX >> 1, &[7; 255]).expect("it fits");
+    for (text, wanted) in [
+        ("1", "the text has an odd number of digits, 1"),
+        (&*"0".repeat(535), "the text has an odd number of digits, 535"),
+        ("1203é1", "the text has \"é\" at index 4, which is no hexadecimal digit"),
+        ("+1", "the text has \"+\" at index 0, which is no hexadecimal digit"),
+        ("\"", r#"the text has "\"" at index 0, which is no hexadecimal digit"#),
+        (&*("0".repeat(535) + " "), "the text has \" \" at index 535, which is no hexadecimal digit"),
+        ("", "the input is empty"),
+        (&*format!("{full}00"), "1 byte follows the multihash"),
+        (&*format!("{full}{full}"), "266 bytes follow the multihash"),
+        (&*"00".repeat(300), "298 bytes follow the multihash"),
+        (&*"ff".repeat(300), "the varint of the code has more than nine bytes"),
+        (&*format!("12ac02{}", "00".repeat(300)), "the digest has 300 bytes, and the limit is 255"),
+    ] {
+        assert_eq!(text.parse::<Multihash<255>>().expect_err("no multihash").to_string(), wanted);
+    }
+}
+
+/// The texts of errors that are not of bytes which are known.
+#[test]
+fn errors() {
+    type Small = Multihash<4>;
+    let large = "the code 9223372036854775808 is 2^63 or more";
+    let long = "the digest has 5 bytes, and the limit is 4";
+    for (error, wanted) in [
+        (Value::default().write(&mut [][..]).err(), "failed to write whole buffer"),
+        (Value::wrap(1 << 63, b"").err(), large),
+        (varint::len(1 << 63).err(), large),
+        (varint::write(1 << 63, &mut &mut [0; 10][..]).err(), large),
+        (Small::scale_decode(&b"\x12\0\0\0\0\0\0\0\x05abcde"[..]).err(), long),
+        (Small::read_next(&b"\x12\x05abcde"[..]).err(), long),
+        (Small::wrap(18, b"abcde").err(), long),
+        (Multihash::<5>::wrap(18, b"abcde").expect("it fits").resize::<4>().err(), long),
+        (Small::read(&b""[..]).err(), "the input is empty"),
+        (Small::read(&b"\x12\x03ab"[..]).err(), "the input is truncated"),
+    ] {
+        // without width and precision, as upstream
+        assert_eq!(format!("{:99.3}", error.expect("an error")), wanted);
+    }
+    for (input, wanted) in [
+        (&b"\x80"[..], "the input ends before the end of a varint"),
+        (b"\x80\0", "the varint is not minimal: it ends in a zero byte"),
+        (&[0xff; 9], "the varint has more than nine bytes"),
+    ] {
+        for error in [varint::read(&mut &*input).err(), varint::read_front(input).err(), Head::read_front(input).err()] {
+            assert_eq!(error.expect("no varint").to_string(), wanted);
+        }
     }
 }

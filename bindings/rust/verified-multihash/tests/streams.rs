@@ -1,0 +1,244 @@
+//! Readers and writers, of `std::io` or `no_std_io`, that are short, interrupted, full, or fail, and the kinds of errors.
+#[cfg(feature = "std")]
+use std::io;
+#[cfg(not(feature = "std"))]
+use verified_multihash::no_std_io as io;
+
+use io::{Read, Write};
+use std::error::Error as _;
+#[cfg(feature = "alloc")]
+use verified_multihash::list;
+use verified_multihash::{varint, Error, Multihash};
+
+type Value = Multihash<200>;
+type Event = fn() -> Result<usize, io::Error>;
+
+/// Reads or writes one byte a call, and once does something else, before the byte at `at`.
+struct Slow<T> {
+    bytes: T,
+    at: usize,
+    event: Event,
+}
+
+impl<T> Slow<T> {
+    fn next(&mut self) -> Option<Event> {
+        let is_event = self.at == 0;
+        self.at = self.at.wrapping_sub(1);
+        is_event.then_some(self.event)
+    }
+}
+
+impl Read for Slow<&[u8]> {
+    fn read(&mut self, out: &mut [u8]) -> Result<usize, io::Error> {
+        self.next().map_or_else(|| self.bytes.read(&mut out[..1]), |event| event())
+    }
+}
+
+impl Write for Slow<Vec<u8>> {
+    fn write(&mut self, bytes: &[u8]) -> Result<usize, io::Error> {
+        if let Some(event) = self.next() {
+            return event();
+        }
+        self.bytes.push(bytes[0]);
+        Ok(1)
+    }
+
+    #[cfg(feature = "std")]
+    fn flush(&mut self) -> Result<(), io::Error> {
+        unreachable!("nothing flushes")
+    }
+}
+
+/// Returns a value whose encoding has two numbers of two bytes.
+fn value() -> Value {
+    Value::wrap(0x100, &[7; 150]).expect("it fits")
+}
+
+type Reads = fn(&mut Slow<&[u8]>) -> Result<Value, Error>;
+type Writes = fn(&Value, &mut Slow<Vec<u8>>) -> Result<(), Error>;
+
+const CALLS: &[(Reads, Writes)] = &[
+    (|input| Value::read(input as &mut dyn Read), |value, out| value.write(out as &mut dyn Write).map(|_| ())),
+    (|input| Value::scale_decode(input), |value, out| value.scale_encode(out).map(|_| ())),
+    #[cfg(feature = "alloc")]
+    (|input| list::read_list(input, 1).map(|list| list[0]), |value, out| list::write_list(&[*value], out)),
+];
+
+/// Reads and writes two encodings, with an event before each byte of the second, and calls `check` with the error, and
+/// whether it is that of a reader. Nothing after the event is read or written.
+fn each_byte(event: Event, check: impl Fn(Error, bool)) {
+    for (read, write) in CALLS {
+        let mut whole = Slow { bytes: Vec::new(), at: usize::MAX, event };
+        write(&value(), &mut whole).expect("memory");
+        let both = [&whole.bytes[..], &whole.bytes].concat();
+        let length = whole.bytes.len();
+        for at in length..2 * length {
+            let mut reader = Slow { bytes: &both[..], at, event };
+            assert_eq!(read(&mut reader).expect("it is whole"), value());
+            check(read(&mut reader).expect_err("the event"), true);
+            let mut writer = Slow { bytes: Vec::new(), at, event };
+            write(&value(), &mut writer).expect("it is whole");
+            check(write(&value(), &mut writer).expect_err("the event"), false);
+            assert_eq!((reader.bytes, &writer.bytes[..]), (&both[at..], &both[..at]));
+        }
+    }
+}
+
+fn source(error: &Error) -> &io::Error {
+    error.source().and_then(|source| source.downcast_ref()).expect("an error of the reader or the writer")
+}
+
+/// The source of the error, and what `?` makes of it, are the reader's or the writer's own, whatever its kind.
+#[test]
+fn failing() {
+    #[cfg(not(feature = "std"))]
+    let events: [Event; 1] = [|| Err(io::Error::other("größer"))];
+    #[cfg(feature = "std")]
+    let events: [Event; 4] = [
+        || Err(io::Error::new(io::ErrorKind::TimedOut, "größer")),
+        || Err(io::Error::new(io::ErrorKind::UnexpectedEof, "größer")),
+        || Err(io::Error::from_raw_os_error(5)),
+        || Err(io::ErrorKind::WouldBlock.into()),
+    ];
+    for event in events {
+        let wanted = event().expect_err("a failure");
+        each_byte(event, |error, _| {
+            assert_eq!((error.to_string(), error.consumed()), (wanted.to_string(), None));
+            assert_eq!((source(&error).to_string(), error.io().is_some()), (wanted.to_string(), true));
+            #[cfg(feature = "std")]
+            {
+                let own = io::Error::from(error);
+                assert_eq!((own.kind(), own.raw_os_error()), (wanted.kind(), wanted.raw_os_error()));
+                assert_eq!(own.to_string(), wanted.to_string());
+            }
+        });
+    }
+}
+
+/// At the end of the input, and if a writer is full.
+#[test]
+fn ends() {
+    each_byte(|| Ok(0), |error, is_reader| {
+        assert_eq!(error.is_incomplete(), is_reader);
+        let kind = if is_reader { "UnexpectedEof" } else { "WriteZero" };
+        assert!(format!("{:?}", source(&error)).contains(kind));
+    });
+    assert_eq!(Value::read_next(&b""[..]).expect("the end"), None);
+    assert_eq!(varint::read_next(&mut &b""[..]).expect("the end"), None);
+}
+
+/// A writer's count that is too large is a panic, and a reader's within a digest.
+#[test]
+fn too_large_counts() {
+    let (bytes, event): (_, Event) = (&[0x12, 2, 7, 7][..], || Ok(1000));
+    for at in 0..3 {
+        let written = std::panic::catch_unwind(|| value().write(&mut Slow { bytes: Vec::new(), at, event }));
+        let read = std::panic::catch_unwind(|| Value::read(&mut Slow { bytes, at, event }));
+        assert_eq!((written.is_err(), read.is_err()), (true, at > 1));
+    }
+}
+
+#[cfg(feature = "std")]
+mod of_std {
+    use super::*;
+    use std::io::{BufReader, ErrorKind};
+    use verified_multihash::Reader;
+
+    /// As upstream, `read` repeats an interrupted call only within the digest, and `write` repeats each.
+    #[test]
+    fn interrupted() {
+        let (encoding, event): (_, Event) = (value().to_bytes(), || Err(ErrorKind::Interrupted.into()));
+        for at in 0..encoding.len() {
+            let mut reader = Slow { bytes: &encoding[..], at, event };
+            match Value::read(&mut reader) {
+                Ok(read) => assert!(read == value() && at >= 4),
+                Err(error) => assert!(source(&error).kind() == ErrorKind::Interrupted && at < 4),
+            }
+            let mut writer = Slow { bytes: Vec::new(), at, event };
+            value().write(&mut writer).expect("it is written");
+            assert_eq!(writer.bytes, encoding);
+        }
+    }
+
+    /// The kind is that of a reader or a writer that failed, and otherwise says whether the input is incomplete.
+    #[test]
+    fn kinds() {
+        let own = |error: Error| {
+            let text = error.to_string();
+            let error = io::Error::from(error);
+            assert_eq!(error.get_ref().and_then(|it| it.downcast_ref::<Error>()).map(Error::to_string), Some(text));
+            error.kind()
+        };
+        for bytes in [&b"\x12\xff\x01"[..], b"\x92\x00", &[0xff; 9], b"\x00\x00\x00"] {
+            assert_eq!(own(Value::from_bytes(bytes).expect_err("no multihash")), ErrorKind::InvalidData);
+        }
+        assert_eq!(own(Value::wrap(u64::MAX, b"").expect_err("too large")), ErrorKind::InvalidData);
+        for bytes in [&b"\x12\x03ab"[..], b"\x12"] {
+            assert_eq!(own(Value::from_bytes(bytes).expect_err("an end")), ErrorKind::UnexpectedEof);
+            assert_eq!(own(Value::read(bytes).expect_err("an end")), ErrorKind::UnexpectedEof);
+        }
+        let full = value().write(&mut [0; 9][..]).expect_err("it is full");
+        assert_eq!(io::Error::from(full).kind(), ErrorKind::WriteZero);
+        let failed = list::read_list::<4, _>(io::empty(), usize::MAX).expect_err("out of memory");
+        assert_eq!(io::Error::from(failed).kind(), ErrorKind::OutOfMemory);
+    }
+
+    /// A `Reader` continues after a source that fails, is interrupted or ends before any byte, and loses none.
+    #[test]
+    fn continued() {
+        let events: [(Event, Option<ErrorKind>); 4] = [
+            (|| Err(ErrorKind::TimedOut.into()), Some(ErrorKind::TimedOut)),
+            (|| Err(ErrorKind::WouldBlock.into()), Some(ErrorKind::WouldBlock)),
+            (|| Err(ErrorKind::Interrupted.into()), None),
+            (|| Ok(0), Some(ErrorKind::UnexpectedEof)),
+        ];
+        let encoding = value().to_bytes();
+        let both = [&encoding[..], &encoding].concat();
+        for (event, kind) in events {
+            for at in 0..both.len() {
+                let source = Slow { bytes: &both[..], at, event };
+                let mut reader = Reader::<_, 200>::new(BufReader::with_capacity(1, source));
+                let (mut found, mut failed) = (Vec::new(), None);
+                while found.len() < 2 {
+                    match reader.read_next() {
+                        Ok(Some(multihash)) => found.push(multihash),
+                        Ok(None) => failed = Some(ErrorKind::UnexpectedEof), // between two multihashes
+                        Err(error) => failed = Some(error.kind()),
+                    }
+                    let consumed = both.len() - reader.get_ref().get_ref().bytes.len();
+                    assert_eq!(found.len() * encoding.len() + reader.kept().len(), consumed);
+                }
+                assert_eq!((found, failed), (vec![value(); 2], kind));
+            }
+        }
+    }
+
+    /// Nothing after a multihash is consumed. The error of one that is malformed stays, and the source is not read again,
+    /// which could fail or wait.
+    #[test]
+    fn malformed() {
+        let source = Slow { bytes: &b"\x12\x03abc\x12\x05a"[..], at: 7, event: || Err(ErrorKind::TimedOut.into()) };
+        let mut reader = Reader::<_, 4>::new(BufReader::with_capacity(1, source));
+        assert_eq!(reader.read_next().expect("it is whole").map(|found| found.size()), Some(3));
+        assert_eq!(reader.get_ref().get_ref().bytes, b"\x12\x05a");
+        for _ in 0..2 {
+            let error = reader.read_next().expect_err("it is too long");
+            let inner = error.get_ref().and_then(|inner| inner.downcast_ref::<Error>()).expect("it");
+            assert_eq!((error.kind(), inner.invalid_size()), (ErrorKind::InvalidData, Some(5)));
+            assert_eq!(reader.kept(), b"\x12\x05");
+        }
+    }
+
+    /// A loop over a `Reader` ends after the error of an input that is malformed or truncated.
+    #[test]
+    fn loops() {
+        for (bytes, wanted) in [
+            (&b"\0\0\x12\x05abcde"[..], &[false, true][..]),
+            (b"\0\0\x12\x01", &[false, true]),
+            (b"\0\0\x12\x01a", &[false, false]),
+        ] {
+            let found: Vec<_> = Reader::<_, 4>::new(bytes).take(3).map(|next| next.is_err()).collect();
+            assert_eq!(found, wanted);
+        }
+    }
+}
