@@ -45,7 +45,7 @@ struct Place {
     consumed: Option<u16>,
 }
 
-#[derive(Clone, Copy, Debug, PartialEq)]
+#[derive(Clone, Copy, Debug)]
 enum Part {
     Unknown,
     Code,
@@ -268,7 +268,7 @@ impl std::error::Error for Error {
 impl From<Error> for io::Error {
     fn from(error: Error) -> Self {
         let kind = match error.kind {
-            Kind::Io(own) if error.place.part == Part::Unknown && !is_end(&own) => return own,
+            Kind::Io(own) if !is_end(&own) => return own,
             _ if error.is_incomplete() => ErrorKind::UnexpectedEof,
             _ => ErrorKind::InvalidData,
         };

@@ -9,7 +9,6 @@ extern crate alloc;
 #[cfg(feature = "std")]
 extern crate std as host;
 
-mod adapter;
 pub mod codes;
 mod error;
 #[cfg(feature = "alloc")]

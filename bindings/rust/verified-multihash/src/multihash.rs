@@ -71,23 +71,6 @@ impl<const S: usize> Multihash<S> {
     /// - The reader's error, if it fails. Of one that is interrupted too, if that is before the digest.
     /// - An error if the next bytes are not a multihash with a digest of at most `S` bytes. No byte of a digest
     ///   that is too long is read.
-    ///
-    /// # Examples
-    ///
-    /// ```
-    /// # #[cfg(feature = "std")]
-    /// use std::io::BufRead; // `BufReader` and `Cursor` are such readers too
-    /// # #[cfg(feature = "std")]
-    /// # {
-    /// let mut reader = &b"\x12\x03abc\x12\x03def"[..];
-    /// let mut digests = vec![];
-    /// while !reader.fill_buf()?.is_empty() {
-    ///     digests.push(verified_multihash::Multihash::<64>::read(&mut reader)?.digest().to_vec());
-    /// }
-    /// assert_eq!(digests, [b"abc", b"def"]);
-    /// # }
-    /// # Ok::<(), Box<dyn std::error::Error>>(())
-    /// ```
     pub fn read<R: Read>(mut r: R) -> Result<Self, Error> {
         Self::read_from(&mut r)
     }
@@ -142,18 +125,6 @@ impl<const S: usize> Multihash<S> {
     /// # Errors
     ///
     /// The writer's error, if it fails. A prefix of the encoding may have been written.
-    ///
-    /// # Examples
-    ///
-    /// ```
-    /// # #[cfg(feature = "alloc")]
-    /// # {
-    /// let mut bytes = Vec::new();
-    /// assert_eq!(verified_multihash::Multihash::<64>::wrap(0x12, b"abc")?.write(&mut bytes)?, 5);
-    /// assert_eq!(bytes, b"\x12\x03abc");
-    /// # }
-    /// # Ok::<(), verified_multihash::Error>(())
-    /// ```
     pub fn write<W: Write>(&self, mut w: W) -> Result<usize, Error> {
         self.0.write(&mut w)
     }

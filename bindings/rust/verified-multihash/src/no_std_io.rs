@@ -3,10 +3,7 @@ use core::fmt;
 
 /// The error of a reader or a writer of this module.
 #[derive(Debug)]
-pub struct Error {
-    kind: ErrorKind,
-    error: &'static str,
-}
+pub struct Error(ErrorKind);
 
 #[derive(Clone, Copy, Debug, PartialEq)]
 pub(crate) enum ErrorKind {
@@ -14,36 +11,35 @@ pub(crate) enum ErrorKind {
     WriteZero,
     #[cfg(feature = "alloc")]
     OutOfMemory,
-    Other,
+    Other(&'static str),
 }
 
 impl Error {
     /// Returns an error of the reader or the writer itself, with its text.
     pub const fn other(text: &'static str) -> Self {
-        Self { kind: ErrorKind::Other, error: text }
+        Self(ErrorKind::Other(text))
     }
 
     pub(crate) fn kind(&self) -> ErrorKind {
-        self.kind
+        self.0
     }
 }
 
 impl From<ErrorKind> for Error {
     fn from(kind: ErrorKind) -> Self {
-        let error = match kind {
-            ErrorKind::UnexpectedEof => "failed to fill whole buffer",
-            ErrorKind::WriteZero => "failed to write whole buffer",
-            #[cfg(feature = "alloc")]
-            ErrorKind::OutOfMemory => "out of memory",
-            ErrorKind::Other => "other error",
-        };
-        Self { kind, error }
+        Self(kind)
     }
 }
 
 impl fmt::Display for Error {
     fn fmt(&self, f: &mut fmt::Formatter<'_>) -> fmt::Result {
-        self.error.fmt(f)
+        f.pad(match self.0 {
+            ErrorKind::UnexpectedEof => "failed to fill whole buffer",
+            ErrorKind::WriteZero => "failed to write whole buffer",
+            #[cfg(feature = "alloc")]
+            ErrorKind::OutOfMemory => "out of memory",
+            ErrorKind::Other(text) => text,
+        })
     }
 }
 

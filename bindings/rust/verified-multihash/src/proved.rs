@@ -13,10 +13,35 @@ mod multihash;
 mod scale;
 pub mod varint;
 
-/// Readers and writers: all of [`crate::no_std_io`], by the adapter.
+/// Readers and writers: all those of `std::io`, or without `std` of the public module.
 pub mod no_std_io {
     mod traits;
 
     pub use self::traits::{Read, Write};
-    pub use crate::no_std_io::Error;
+    use crate::no_std_io as io;
+    pub use io::Error;
+
+    impl<R: io::Read> Read for R {
+        #[inline(always)]
+        fn read(&mut self, buf: &mut [u8]) -> Result<usize, Error> {
+            io::Read::read(self, buf)
+        }
+
+        #[inline(always)]
+        fn read_exact(&mut self, buf: &mut [u8]) -> Result<(), Error> {
+            io::Read::read_exact(self, buf)
+        }
+    }
+
+    impl<W: io::Write> Write for W {
+        #[inline(always)]
+        fn write(&mut self, buf: &[u8]) -> Result<usize, Error> {
+            io::Write::write(self, buf)
+        }
+
+        #[inline(always)]
+        fn write_all(&mut self, buf: &[u8]) -> Result<(), Error> {
+            io::Write::write_all(self, buf)
+        }
+    }
 }

@@ -23,15 +23,18 @@ impl<const S: usize> Serialize for Multihash<S> {
 /// From what [`Serialize`] makes.
 impl<'de, const S: usize> Deserialize<'de> for Multihash<S> {
     fn deserialize<D: Deserializer<'de>>(deserializer: D) -> Result<Self, D::Error> {
-        if !HAS_BYTES && deserializer.is_human_readable() {
-            deserializer.deserialize_str(Encoding)
+        if HAS_BYTES {
+            deserializer.deserialize_bytes(Encoding("a valid Multihash in bytes")) // as upstream
+        } else if deserializer.is_human_readable() {
+            deserializer.deserialize_str(Encoding("a multihash in hexadecimal"))
         } else {
-            deserializer.deserialize_bytes(Encoding)
+            deserializer.deserialize_bytes(Encoding("a multihash"))
         }
     }
 }
 
-struct Encoding<const S: usize>;
+/// What is expected, for errors.
+struct Encoding<const S: usize>(&'static str);
 
 impl<const S: usize> Encoding<S> {
     /// The numbers of a sequence that are read before its length is an error: those of the longest encoding, and for
@@ -43,7 +46,7 @@ impl<'de, const S: usize> Visitor<'de> for Encoding<S> {
     type Value = Multihash<S>;
 
     fn expecting(&self, f: &mut fmt::Formatter<'_>) -> fmt::Result {
-        f.write_str(if HAS_BYTES { "a valid Multihash in bytes" } else { "a multihash" }) // the first is upstream's
+        f.write_str(self.0)
     }
 
     fn visit_str<E: Error>(self, text: &str) -> Result<Multihash<S>, E> {

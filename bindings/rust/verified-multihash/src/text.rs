@@ -6,30 +6,16 @@ use core::{fmt, str};
 /// The maximum length of an encoding in bytes.
 pub(crate) const LENGTH_MAX: usize = 266;
 
-impl<const S: usize> Multihash<S> {
-    /// Calls a function with the encoding in hexadecimal.
-    fn with_digits(&self, call: impl FnOnce(&str) -> fmt::Result) -> fmt::Result {
+/// The encoding in hexadecimal. A precision shortens it: `{:.8}` prints the first 8 digits.
+impl<const S: usize> fmt::Display for Multihash<S> {
+    fn fmt(&self, f: &mut fmt::Formatter<'_>) -> fmt::Result {
         let (mut bytes, mut digits) = ([0; LENGTH_MAX], [0; 2 * LENGTH_MAX]);
-        let length = self.write(&mut &mut bytes[..]).map_err(|_| fmt::Error)?;
+        let length = self.write(&mut bytes[..]).map_err(|_| fmt::Error)?;
         for (pair, byte) in digits.chunks_exact_mut(2).zip(&bytes[..length]) {
             pair[0] = b"0123456789abcdef"[usize::from(byte >> 4)];
             pair[1] = b"0123456789abcdef"[usize::from(byte & 15)];
         }
-        call(str::from_utf8(&digits[..2 * length]).map_err(|_| fmt::Error)?)
-    }
-}
-
-/// The encoding in hexadecimal. A precision shortens it: `{:.8}` prints the first 8 digits.
-impl<const S: usize> fmt::Display for Multihash<S> {
-    fn fmt(&self, f: &mut fmt::Formatter<'_>) -> fmt::Result {
-        self.with_digits(|digits| f.pad(digits))
-    }
-}
-
-/// The encoding in hexadecimal, with `0x` before it if `{:#x}` asks for that.
-impl<const S: usize> fmt::LowerHex for Multihash<S> {
-    fn fmt(&self, f: &mut fmt::Formatter<'_>) -> fmt::Result {
-        self.with_digits(|digits| f.pad_integral(true, "0x", digits))
+        f.pad(str::from_utf8(&digits[..2 * length]).map_err(|_| fmt::Error)?)
     }
 }
 

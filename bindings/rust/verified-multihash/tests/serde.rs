@@ -23,8 +23,7 @@ fn json() {
     for (text, wanted) in [
         (r#""12036162""#, "the input ends inside the digest (2 of 3 bytes)"),
         (r#""120""#, "the text has an odd number of digits, 3"),
-        ("[18,3,97,98,99]", "invalid type: sequence, expected a multihash"),
-        ("7", "invalid type: integer `7`, expected a multihash"),
+        ("[18,3,97,98,99]", "invalid type: sequence, expected a multihash in hexadecimal"),
     ] {
         let error = of(text).expect_err("no multihash");
         assert!(error.starts_with(wanted), "{error}");
@@ -56,8 +55,8 @@ impl<'de> Deserializer<'de> for Bytes<'de> {
 }
 
 macro_rules! unreachable_values {
-    ($($name:ident($($type:ty),*) -> $result:ty;)*) => {
-        $(fn $name(self $(, _: $type)*) -> Result<$result, Error> { unreachable!("bytes are written") })*
+    ($($name:ident $([$($bounds:tt)*])? ($($type:ty),*) -> $result:ty;)*) => {
+        $(fn $name $(<$($bounds)*>)? (self $(, _: $type)*) -> Result<$result, Error> { unreachable!("bytes are written") })*
     };
 }
 
@@ -83,28 +82,17 @@ impl Serializer for ToBytes {
         false
     }
 
-    fn serialize_some<T: ?Sized + Serialize>(self, _: &T) -> Result<Vec<u8>, Error> {
-        unreachable!("bytes are written")
-    }
-
-    fn serialize_newtype_struct<T: ?Sized + Serialize>(self, _: &'static str, _: &T) -> Result<Vec<u8>, Error> {
-        unreachable!("bytes are written")
-    }
-
-    fn serialize_newtype_variant<T: ?Sized + Serialize>(
-        self, _: &'static str, _: u32, _: &'static str, _: &T,
-    ) -> Result<Vec<u8>, Error> {
-        unreachable!("bytes are written")
-    }
-
     unreachable_values! {
         serialize_bool(bool) -> Vec<u8>; serialize_char(char) -> Vec<u8>; serialize_str(&str) -> Vec<u8>;
         serialize_i8(i8) -> Vec<u8>; serialize_i16(i16) -> Vec<u8>; serialize_i32(i32) -> Vec<u8>;
         serialize_i64(i64) -> Vec<u8>; serialize_u8(u8) -> Vec<u8>; serialize_u16(u16) -> Vec<u8>;
         serialize_u32(u32) -> Vec<u8>; serialize_u64(u64) -> Vec<u8>; serialize_f32(f32) -> Vec<u8>;
         serialize_f64(f64) -> Vec<u8>; serialize_none() -> Vec<u8>; serialize_unit() -> Vec<u8>;
+        serialize_some[T: ?Sized + Serialize](&T) -> Vec<u8>;
         serialize_unit_struct(&'static str) -> Vec<u8>;
+        serialize_newtype_struct[T: ?Sized + Serialize](&'static str, &T) -> Vec<u8>;
         serialize_unit_variant(&'static str, u32, &'static str) -> Vec<u8>;
+        serialize_newtype_variant[T: ?Sized + Serialize](&'static str, u32, &'static str, &T) -> Vec<u8>;
         serialize_seq(Option<usize>) -> No; serialize_tuple(usize) -> No; serialize_map(Option<usize>) -> No;
         serialize_tuple_struct(&'static str, usize) -> No; serialize_struct(&'static str, usize) -> No;
         serialize_tuple_variant(&'static str, u32, &'static str, usize) -> No;
