@@ -13,8 +13,8 @@ targets=$(rustc --print sysroot 2> /dev/null)/lib/rustlib || targets=/none
 
 # Runs a command of Cargo for a package; what is set comes first. Without debug information it takes less time.
 in_crate() {
-  KEEP=1 RUSTFLAGS="-D warnings" RUSTDOCFLAGS="-D warnings" CARGO_PROFILE_DEV_DEBUG=0 CARGO_INCREMENTAL=0 \
-    bindings/rust/offline.sh "$work" "$@"
+  env -C "$work/bindings/rust/$1" CARGO_HOME="$work/cargo" CARGO_TARGET_DIR="$work/target" RUSTFLAGS="-D warnings" \
+    RUSTDOCFLAGS="-D warnings" CARGO_PROFILE_DEV_DEBUG=0 CARGO_INCREMENTAL=0 "${@:2}"
 }
 
 # Runs tests of a package, of which there are some.
@@ -65,7 +65,7 @@ test_targets() {
 # What is packed uses no repository, and the one is built over the other.
 rust_packed() {
   local package packed=$work/packed
-  (cd "$work"; "$OLDPWD/bindings/rust/pack.sh" .)
+  "$work/bindings/rust/pack.sh" "$work"
   for package in verified-multihash multihash; do
     mkdir -p "$packed/$package"
     tar xf "$work/target/package/$package"-[0-9]*.crate -C "$packed/$package" --strip-components 1
@@ -77,11 +77,16 @@ rust_packed() {
   in_crate . cargo build --manifest-path "$packed/multihash/Cargo.toml"
 }
 
-# The line of the page replaces upstream's package in a program. Without features the packages depend on nothing else.
+# The lines of the page replace upstream's package in the page's program. Without features the packages depend on nothing
+# else.
 rust_switch() {
-  block_of bindings/rust/multihash/README.md toml | sed 's,path/of/bindings/rust,../..,' \
-    >> "$work/rust/tests/program/Cargo.toml"
-  prints "the varint has more than nine bytes" in_crate tests/program cargo run
+  local page=bindings/rust/multihash/README.md program=$work/bindings/rust/program
+  cargo init --quiet --vcs none "$program"
+  echo 'multihash = { version = "0.19", features = ["serde-codec"] }' >> "$program/Cargo.toml"
+  block_of $page toml | sed "s,path/of,$work," >> "$program/Cargo.toml"
+  block_of $page rust > "$program/src/main.rs"
+  in_crate program cargo run
+  prints "($work/bindings/rust/multihash)" in_crate program cargo tree -i multihash
   in_crate multihash cargo tree -e no-dev --prefix none | sed 's/ v[0-9].*//' | diff - <(printf '%s\n' multihash verified-multihash)
   in_crate multihash cargo build --no-default-features --features serde-codec
 }
@@ -94,7 +99,9 @@ rust_lints() {
   done
 }
 
-in_crate . true # makes the copies
+# without what Cargo made, which names other versions
+tar -c --exclude=target --exclude=Cargo.lock LICENSE bindings/rust crates/vectors/data | tar -x -C "$work"
+install -D bindings/rust/offline.toml "$work/cargo/config.toml"
 needs=$cargo try "the tests" rust_tests
 needs=$bare try "the tests without std" without_std
 needs="/usr/bin/cargo /usr/bin/rustc $crates" try "the tests with Debian's Rust" debians_rust

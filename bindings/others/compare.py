@@ -112,10 +112,11 @@ def main() -> None:
         if shutil.which("go"):
             decoders["Go, by hand"] = program("go", "run", HOME / "by_hand.go")
         if shutil.which("cargo") and [*Path("/usr/share/cargo/registry").glob("cid-0.5*")]:
-            offline = HOME.parent / "rust/offline.sh"
-            run = (offline, work, "tests/neighbours", "cargo", "run", "-q", "--bin", "accepts", "--")
+            rust = HOME.parent / "rust"
+            folders = "--manifest-path", rust / "tests/neighbours/Cargo.toml", "--target-dir", work
             for name in "multihash", "cid":
-                decoders[f"Debian's `{name}`"] = program(*run, name)
+                run = "cargo", "--config", rust / "offline.toml", "run", "--quiet", *folders, "--", name
+                decoders[f"Debian's `{name}`"] = program(*run)
         for name, accepts in decoders.items():
             wrong = Counter(reason for reason, is_accepted in zip(reasons, accepts(inputs)) if reason and is_accepted)
             parts = ", ".join(f"{count} {reason}" for reason, count in wrong.most_common())
