@@ -23,22 +23,7 @@ sys.path.append(str(HOME.parents[1] / "crates/vectors"))
 from verdicts import RULES, Rejected, varint
 
 COUNT, SEED = 10_000, 7
-CODES = (
-    0,
-    0x11,
-    0x12,
-    0x13,
-    0x14,
-    0x1B,
-    0x80,
-    0xB220,
-    0xB240,
-    0x300000,
-    1 << 62,
-    (1 << 63) - 1,
-    1 << 63,
-    (1 << 64) - 1,
-)
+CODES = 0, 0x11, 0x12, 0x13, 0x14, 0x1B, 0x80, 0xB220, 0xB240, 0x300000, 1 << 62, (1 << 63) - 1, 1 << 63, (1 << 64) - 1
 
 
 def padded(data: bytes, draw: random.Random) -> bytes:

@@ -31,7 +31,7 @@ static void print_least(const char *name, void call(size_t))
         const double time = (double)(clock() - start) / CLOCKS_PER_SEC / CALLS * 1e9;
         if (time < least) least = time;
     }
-    printf("%s %.1f\n", name, least);
+    printf("%s\t%.1f\n", name, least);
 }
 
 int main(void)

@@ -1,11 +1,8 @@
-// Prints the least nanoseconds of each call, or for each of many multihashes, of the package for JavaScript and of plain
-// JavaScript with the same checks and copies, by turns.
+// For measure.py: prints the least nanoseconds of each call, or for each of many multihashes, of the package for JavaScript
+// and of plain JavaScript with the same checks and copies, by turns.
 import * as ours from '../js/index.js';
 
-const ROUNDS = 300; // short ones, so that some have no garbage collection
-const CALLS = 100;
 const COUNT = 100_000; // multihashes of a list
-const TURNS = 10;
 
 // ---- plain JavaScript
 
@@ -111,12 +108,12 @@ const bytes = Uint8Array.of(18, 32, ...digest);
 const longer = Uint8Array.of(0x96, 0xa2, 3, 32, ...digest);
 const random = Array.from({ length: 256 }, () => crypto.getRandomValues(new Uint8Array(32)));
 const list = Uint8Array.from({ length: COUNT * 34 }, (_, at) => (at % 34 < 2 ? bytes[at % 34] : (at * 7) ^ (at >> 8)));
-const stream = (source) => new ours.MultihashReader(source);
 
 async function* chunks() {
   for (let at = 0; at < list.length; at += 65536) yield list.subarray(at, at + 65536);
 }
 
+// short calls, and calls with many multihashes
 function callsOf(library) {
   const values = random.map((each) => library.Multihash.of(18, each));
   const [left, right] = [library.decode(bytes), library.decode(bytes)];
@@ -131,45 +128,37 @@ function callsOf(library) {
   };
 }
 
-const manyOf = (library) => ({
-  'a multihash by `decode`': () => {
-    let sum = 0;
-    for (let at = 0; at < list.length; at += 34) sum += library.decode(list.subarray(at, at + 34)).size;
-    return sum;
-  },
-  'a multihash of a stream': async () => {
-    let sum = 0;
-    for await (const { size } of library.stream(chunks())) sum += size;
-    return sum;
-  },
-});
-
-const least = {};
-function keep(name, column, start, count) {
-  const time = Number(process.hrtime.bigint() - start) / count;
-  (least[name] ??= [Infinity, Infinity])[column] = Math.min(least[name][column], time);
+function manyOf(library) {
+  const decodeAll = () => {
+    for (let at = 0; at < list.length; at += 34) library.decode(list.subarray(at, at + 34));
+  };
+  return {
+    'a multihash by `decode`': decodeAll,
+    'a multihash of a stream': async () => {
+      for await (const _ of library.stream(chunks()));
+    },
+    'a multihash by `readMany`': library.readMany ? () => library.readMany(list) : decodeAll,
+  };
 }
 
-const libraries = [{ ...ours, stream }, plain];
-const calls = libraries.map(callsOf);
-let objects = 0; // so that no call is optimized away
-for (let round = 0; round < ROUNDS; round++)
-  for (const name of Object.keys(calls[0]))
-    for (const column of round % 2 ? [0, 1] : [1, 0]) { // the first one has the garbage of the call before
-      const { [name]: call } = calls[column];
-      const start = process.hrtime.bigint();
-      for (let turn = 0; turn < CALLS; turn++) objects += typeof call() === 'object' ? 1 : 0;
-      keep(name, column, start, CALLS);
-    }
-const many = libraries.map(manyOf);
-many[0]['a multihash by `readMany`'] = () => ours.readMany(list).lengths.reduce((sum, size) => sum + size, 0);
-for (let turn = 0; turn < TURNS; turn++)
-  for (const [column, sums] of many.entries())
-    for (const [name, sum] of Object.entries(sums)) {
-      const start = process.hrtime.bigint();
-      if ((await sum()) !== 32 * COUNT) throw new Error(name);
-      keep(name, column, start, COUNT);
-    }
-least['a multihash by `readMany`'][1] = least['a multihash by `decode`'][1];
-for (const [name, times] of Object.entries(least)) console.log(name, ...times.map((time) => time.toFixed(1)));
-if (objects === 0) throw new Error('no call returned an object');
+// Prints the least of the times of each call, by turns of the libraries. What a call returns is kept, so that none is
+// optimized away.
+let result;
+async function measure(make, rounds, turns, count) {
+  const calls = [{ ...ours, stream: (source) => new ours.MultihashReader(source) }, plain].map(make);
+  const least = Object.fromEntries(Object.keys(calls[0]).map((name) => [name, [Infinity, Infinity]]));
+  for (let round = 0; round < rounds; round++)
+    for (const name in least)
+      for (const column of round % 2 ? [0, 1] : [1, 0]) { // the first one has the garbage of the call before
+        const { [name]: call } = calls[column];
+        const start = process.hrtime.bigint();
+        for (let turn = 0; turn < turns; turn++) result = call();
+        if (result instanceof Promise) await result;
+        const time = Number(process.hrtime.bigint() - start) / turns / count;
+        least[name][column] = Math.min(least[name][column], time);
+      }
+  for (const name in least) console.log([name, ...least[name].map((time) => time.toFixed(1))].join('\t'));
+}
+
+await measure(callsOf, 300, 100, 1); // short rounds, so that some have no garbage collection
+await measure(manyOf, 10, 1, COUNT);

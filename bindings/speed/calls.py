@@ -1,13 +1,15 @@
-"""Prints the least nanoseconds of CPU time of each call, or for each of many multihashes, of the installed package for
-Python and of plain Python with the same checks, by turns."""
+"""For measure.py: prints the least nanoseconds of CPU time of each call, or for each of many multihashes, of the installed
+package for Python and of plain Python with the same checks."""
 
 import io
 import time
-from typing import Any, BinaryIO, Callable, Iterator, NamedTuple
+import timeit
+from collections.abc import Callable, Iterator
+from typing import BinaryIO, NamedTuple
 
 import verified_multihash as vm
 
-ROUNDS, CALLS, MANY = 30, 1000, 100
+ROUNDS, CALLS, MANY = 60, 1000, 100
 DATA = bytes([18, 32]) + bytes(range(32))
 LONGER = bytes([0x96, 0xA2, 3, 32]) + bytes(range(32))
 LIST = DATA * MANY
@@ -76,7 +78,7 @@ def plain_reader(file: BinaryIO) -> Iterator[Plain]:
 LEFT, RIGHT = vm.decode(DATA), vm.decode(LIST[:34])
 PLAIN_LEFT, PLAIN_RIGHT = plain_decode(DATA), plain_decode(LIST[:34])
 # the number of multihashes, the call of the package, and that of plain Python
-ROWS: dict[str, tuple[int, Callable[[], Any], Callable[[], Any]]] = {
+ROWS: dict[str, tuple[int, Callable[[], object], Callable[[], object]]] = {
     "`decode` of 34 bytes": (1, lambda: vm.decode(DATA), lambda: plain_decode(DATA)),
     "`decode`, a code of 3 bytes": (1, lambda: vm.decode(LONGER), lambda: plain_decode(LONGER)),
     "`encode` of 32 bytes": (1, lambda: vm.encode(18, DATA[2:]), lambda: plain_encode(18, DATA[2:])),
@@ -91,14 +93,10 @@ ROWS: dict[str, tuple[int, Callable[[], Any], Callable[[], Any]]] = {
 }
 
 
-def nanoseconds(call: Callable[[], Any]) -> float:
-    began = time.process_time()
-    for _ in range(CALLS):
-        call()
-    return (time.process_time() - began) / CALLS * 1e9
+def nanoseconds(call: Callable[[], object]) -> float:
+    return min(timeit.repeat(call, timer=time.process_time, repeat=ROUNDS, number=CALLS)) / CALLS * 1e9
 
 
-for name, (count, ours, plain) in ROWS.items():
-    rounds = [[nanoseconds(each) for each in (ours, plain, lambda: None)] for _ in range(ROUNDS)]
-    mine, theirs, nothing = (min(times) for times in zip(*rounds))
-    print(name, *("%.1f" % ((least - nothing) / count) for least in (mine, theirs)))
+NOTHING = nanoseconds(lambda: None)
+for name, (count, *calls) in ROWS.items():
+    print(name, *(f"{(nanoseconds(call) - NOTHING) / count:.1f}" for call in calls), sep="\t")

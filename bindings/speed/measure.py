@@ -1,14 +1,14 @@
 #!/usr/bin/env python3
-"""Measures the packages beside what a user would write: prints the tables of docs/SPEED.md.
+"""Measures the packages beside what a user would write: prints a table of docs/SPEED.md.
 
-    bindings/speed/measure.py rust UPSTREAM     the instructions of calls, also of the Rust crate in a folder: needs Cargo
-                                                and Valgrind. Without a network CARGO_HOME as of bindings/rust/offline.sh
-    bindings/speed/measure.py js                the nanoseconds of calls, also of plain JavaScript
-    bindings/speed/measure.py python [PYTHON]   the same of the package that this interpreter has, and of plain Python
-    bindings/speed/measure.py c                 the nanoseconds of calls of the library for C
+    bindings/speed/measure.py rust UPSTREAM    the instructions of calls, also of the Rust crate in a folder: needs Cargo and
+                                               Valgrind
+    bindings/speed/measure.py js               the nanoseconds of calls, also of plain JavaScript
+    bindings/speed/measure.py python PYTHON    the same of the package that this interpreter has, and of plain Python
+    bindings/speed/measure.py c                the nanoseconds of calls of the library for C
 """
-import os
 import re
+import shutil
 import subprocess
 import sys
 import tempfile
@@ -16,45 +16,24 @@ from pathlib import Path
 
 HOME = Path(__file__).resolve().parent
 C = HOME.parent / "c"
-CALLS_COUNTED = 64  # by package.rs
-TURNS = 5
-MANIFEST = """[package]
-name = "package"
-version = "0.0.0"
-edition = "2021"
-[[bin]]
-name = "package"
-path = "{source}"
-[dependencies]
-multihash = {{ path = "{package}" }}
-[workspace]
-"""
+TURNS = 64  # of package.rs
 Rows = dict[str, list[float]]
 
 
-def run(*words: str | Path) -> str:
-    """Returns what a program printed."""
-    return subprocess.run(words, stdout=subprocess.PIPE, text=True, check=True).stdout
-
-
-def least(*words: str | Path) -> Rows:
-    """Returns the least of the times of each call that a program prints, in several runs on one core."""
-    os.sched_setaffinity(0, {max(os.sched_getaffinity(0))})
-    rows: Rows = {}
-    for _ in range(TURNS):
-        for name, times in re.findall(r"(?m)^(.+?)((?: \d+\.\d+)+)$", run(*words)):
-            found = [float(time) for time in times.split()]
-            rows[name] = [min(pair) for pair in zip(found, rows.get(name, found))]
-    return rows
+def rows_of(*words: str | Path) -> Rows:
+    """Returns what a program prints in each line: the name of a call, and numbers."""
+    lines = subprocess.run(words, stdout=subprocess.PIPE, text=True, check=True).stdout.splitlines()
+    return {name: [float(number) for number in numbers] for name, *numbers in (line.split("\t") for line in lines)}
 
 
 def count_package(package: Path) -> dict[str, int]:
     """Returns the instructions of each call of package.rs over a package, without the loop around it."""
     with tempfile.TemporaryDirectory() as work:
-        manifest = MANIFEST.format(source=HOME / "package.rs", package=package.resolve())
-        Path(work, "Cargo.toml").write_text(manifest, "utf-8")
-        for command in ["run"], ["build", "--release"]:  # the first compares the results
-            subprocess.run(["cargo", "--quiet", "--offline", *command], cwd=work, check=True, stderr=subprocess.DEVNULL)
+        Path(work, "src").mkdir()
+        shutil.copy(HOME / "package.rs", f"{work}/src/main.rs")
+        # run compares the results
+        for words in "init --name package", f"add --path {package.resolve()}", "run", "build --release":
+            subprocess.run(["cargo", "--quiet", *words.split()], cwd=work, check=True)
         program = Path(work, "target/release/package")
         subprocess.run(["valgrind", "-q", "--tool=callgrind", f"--callgrind-out-file={work}/out", program], check=True)
         found: dict[str, int] = {}
@@ -62,22 +41,23 @@ def count_package(package: Path) -> dict[str, int]:
             text = path.read_text("utf-8")
             if name := re.search(r"(?m)^desc: Trigger: Client Request: (.*)$", text):
                 found[name[1]] = int(re.findall(r"(?m)^(?:totals|summary): (\d+)$", text)[0])
-    return {name: round((all_calls - found["nothing"]) / CALLS_COUNTED) for name, all_calls in found.items()}
+    nothing = found.pop("nothing")
+    return {name: round((instructions - nothing) / TURNS) for name, instructions in found.items()}
 
 
 def count_rust(upstream: Path) -> Rows:
     ours, theirs = (count_package(package) for package in (HOME.parent / "rust/multihash", upstream))
-    return {name: [ours[name], theirs[name]] for name in ours if name != "nothing"}
+    return {name: [ours[name], theirs[name]] for name in ours}
 
 
 def time_c() -> Rows:
     with tempfile.TemporaryDirectory() as work:
         sources = HOME / "calls.c", C / "src/multihash.c"
         subprocess.run(["cc", "-O2", "-I", C / "include", *sources, "-o", f"{work}/calls"], check=True)
-        return least(f"{work}/calls")
+        return rows_of(f"{work}/calls")
 
 
-def print_table(heads: list[str], rows: Rows) -> None:
+def print_table(rows: Rows, *heads: str) -> None:
     """Prints the rows, with the share of the first number in the second one."""
     shares = ["share"] * (len(heads) - 2)
     print("|", " | ".join([*heads, *shares]), "|")
@@ -87,22 +67,14 @@ def print_table(heads: list[str], rows: Rows) -> None:
         print("|", " | ".join([name, *cells]), "|")
 
 
-def main() -> int:
-    match sys.argv[1:]:
-        case ["rust", upstream]:
-            print_table(["Instructions", "this library", "the Rust crate"], count_rust(Path(upstream)))
-        case ["js"]:
-            print_table(["Nanoseconds", "this library", "plain JavaScript"], least("node", HOME / "calls.js"))
-        case ["python", *python] if len(python) < 2:
-            interpreter = python[0] if python else sys.executable
-            print_table(["Nanoseconds", "this library", "plain Python"], least(interpreter, HOME / "calls.py"))
-        case ["c"]:
-            print_table(["Nanoseconds", "this library"], time_c())
-        case _:
-            print(__doc__, file=sys.stderr)
-            return 2
-    return 0
-
-
-if __name__ == "__main__":
-    sys.exit(main())
+match sys.argv[1:]:
+    case ["rust", upstream]:
+        print_table(count_rust(Path(upstream)), "Instructions", "this library", "the Rust crate")
+    case ["js"]:
+        print_table(rows_of("node", HOME / "calls.js"), "Nanoseconds", "this library", "plain JavaScript")
+    case ["python", python]:
+        print_table(rows_of(python, HOME / "calls.py"), "Nanoseconds", "this library", "plain Python")
+    case ["c"]:
+        print_table(time_c(), "Nanoseconds", "this library")
+    case _:
+        sys.exit(__doc__)
