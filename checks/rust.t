@@ -1,6 +1,6 @@
 #!/usr/bin/env bash
-# The packages for Rust: their tests over the test vectors, with and without std, by other versions and on other targets,
-# beside other crates; the packages as packed, and in place of upstream's; serde; lints.
+# The packages for Rust: their tests over the test vectors, with and without std, by other versions and
+# on other targets, beside other crates; the packages as packed, and in place of upstream's; serde; lints.
 # shellcheck source=checks/lib/tap.sh
 . "$(dirname "$0")/lib/tap.sh"
 registry=/usr/share/cargo/registry
@@ -32,34 +32,6 @@ rust_tests() {
   in_crate multihash cargo doc --no-deps --features serde
   all_tests cargo test
   all_tests cargo test --features serde --release
-}
-
-without_std() {
-  all_tests cargo test --no-default-features
-  all_tests cargo test --no-default-features --features alloc
-}
-
-debians_rust() { all_tests PATH=/usr/bin:/bin CARGO_TARGET_DIR="$work/debian" cargo test --features serde; }
-
-# The tests on a target with another byte order or word, by a linker and an emulator.
-on_target() {
-  local variable=CARGO_TARGET_${1^^}
-  variable=${variable//-/_}
-  all_tests RUSTFLAGS="-C target-feature=+crt-static" "${variable}_LINKER=$2" "${variable}_RUNNER=$3" \
-    cargo test --target "$1" --tests
-}
-
-test_targets() {
-  local target system emulator
-  for target in armv7-unknown-linux-gnueabihf s390x-unknown-linux-gnu; do
-    system=${target/v7-unknown/} system=${system/-unknown/} emulator=qemu-${system%%-*}
-    needs="$cargo $targets/$target/lib/libstd-*.rlib $system-gcc $emulator" try "the tests on $target" \
-      on_target $target "$system-gcc" "$emulator"
-  done
-  for target in thumbv6m-none-eabi wasm32-unknown-unknown; do
-    needs="$bare $targets/$target/lib/libcore-*.rlib" try "a build for $target" \
-      in_crate multihash cargo build --no-default-features --target $target
-  done
 }
 
 # What is packed uses no repository, and the one is built over the other.
@@ -103,12 +75,24 @@ rust_lints() {
 tar -c --exclude=target --exclude=Cargo.lock LICENSE bindings/rust crates/vectors/data | tar -x -C "$work"
 install -D bindings/rust/offline.toml "$work/cargo/config.toml"
 needs=$cargo try "the tests" rust_tests
-needs=$bare try "the tests without std" without_std
-needs="/usr/bin/cargo /usr/bin/rustc $crates" try "the tests with Debian's Rust" debians_rust
+needs=$bare try "the tests without std" all_tests cargo test --no-default-features
+needs=$bare try "the tests with alloc alone" all_tests cargo test --no-default-features --features alloc
+needs="/usr/bin/cargo /usr/bin/rustc $crates" try "the tests with Debian's Rust" \
+  all_tests PATH=/usr/bin:/bin CARGO_TARGET_DIR="$work/debian" cargo test --features serde
 needs="$cargo $registry/cid-0.5* $registry/multihash-0.11*" try "beside other crates" \
   tests tests/neighbours cargo test
 needs=$cargo try "the packed packages" rust_packed
 needs=$bare try "the switch from upstream's package" rust_switch
 needs="$bare cargo-clippy" try "lints" rust_lints
-test_targets
+# with another byte order or word, by a linker and an emulator
+for target in armv7-unknown-linux-gnueabihf s390x-unknown-linux-gnu; do
+  system=${target/v7-unknown/} system=${system/-unknown/} variable=CARGO_TARGET_${target^^} variable=${variable//-/_}
+  needs="$cargo $targets/$target/lib/libstd-*.rlib $system-gcc qemu-${system%%-*}" try "the tests on $target" \
+    all_tests RUSTFLAGS="-C target-feature=+crt-static" "${variable}_LINKER=$system-gcc" \
+    "${variable}_RUNNER=qemu-${system%%-*}" cargo test --target "$target" --tests
+done
+for target in thumbv6m-none-eabi wasm32-unknown-unknown; do
+  needs="$bare $targets/$target/lib/libcore-*.rlib" try "a build for $target" \
+    in_crate multihash cargo build --no-default-features --target $target
+done
 finish

@@ -1,9 +1,9 @@
-//! Allocations that fail, and calls that make none.
+//! Allocations that fail. Calls that make none are those of the package without the feature `alloc`.
 #![cfg(feature = "alloc")]
 use std::alloc::{GlobalAlloc, Layout, System};
 use std::cell::Cell;
 use verified_multihash::form::{self, from_bytes, Block, Both, Counted, FormError};
-use verified_multihash::{list, Decoder, Multihash};
+use verified_multihash::{list, Multihash};
 
 thread_local! {
     /// How many allocations the thread can still make.
@@ -82,21 +82,6 @@ fn read_list() {
     }
     assert!(is_out_of_memory(list::read_list::<64, _>(&mut &bytes[..], usize::MAX)));
     assert!(with(0, || list::read_list::<64, _>(&mut &bytes[..], 0)).is_ok());
-}
-
-#[test]
-fn no_allocation() {
-    let mut out = [0; 16];
-    let (written, read, decoded, full) = with(0, || {
-        let written = value().write(&mut out[..]).ok();
-        let mut parts = out[..5].chunks(3);
-        let mut decoder = Decoder::<3>::new();
-        let mut next = || decoder.decode(&mut parts.next()?).ok()?;
-        let read = (next(), next());
-        (written, read, Multihash::<2>::from_bytes(ENCODING), value().write(&mut out[..4]))
-    });
-    assert_eq!((written, read), (Some(5), (None, value().resize().ok())));
-    assert!(decoded.is_err() && full.is_err());
 }
 
 type Node = Both<Counted<Multihash<64>, 1_000_000_000>, Block<1_000_000_000>>;

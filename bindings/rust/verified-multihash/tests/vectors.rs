@@ -98,17 +98,22 @@ fn check_whole<const S: usize>(input: &[u8], whole: &str, count: usize) {
     }
 }
 
-/// Both varints, decoded at once and one by one, end where an error is determined, or before the digest.
+/// Both varints, decoded at once and one by one, end where an error is determined, or before the digest. They are written
+/// as they were read.
 fn check_head(input: &[u8], column: &str, count: usize) {
-    let mut bytes = input;
-    let code = varint::read(&mut bytes);
-    let both = code.and_then(|code| varint::read(&mut bytes).map(|length| (code, length)));
-    let offset = input.len() - bytes.len();
+    let mut rest = input;
+    let code = varint::read(&mut rest);
+    let both = code.and_then(|code| varint::read(&mut rest).map(|length| (code, length)));
+    let offset = input.len() - rest.len();
     match (Head::read_front(input), both) {
-        (Ok(head), Ok(both)) => {
-            assert_eq!((head.code, head.digest_len, head.digest_offset), (both.0, both.1, offset));
+        (Ok(head), Ok((code, length))) => {
+            assert_eq!((head.code, head.digest_len, head.digest_offset), (code, length, offset));
             assert!(column.starts_with("pair") || column == "unexpected_eof" || count == offset);
-            check_varint(head.code, input);
+            let (mut out, at) = ([0; 18], varint::len(code).expect("it was read"));
+            varint::write(code, &mut &mut out[..at]).expect("enough capacity");
+            varint::write(length, &mut &mut out[at..offset]).expect("enough capacity");
+            assert_eq!(out[..offset], input[..offset]);
+            assert_eq!(varint::read_front(input).ok(), Some((code, &input[at..])));
         }
         (Err(error), Err(other)) => {
             assert_eq!(offset, count);
@@ -117,15 +122,6 @@ fn check_head(input: &[u8], column: &str, count: usize) {
         }
         _ => panic!("one of them fails"),
     }
-}
-
-/// A number is written as the varint that the input starts with.
-fn check_varint(number: u64, input: &[u8]) {
-    let mut out = [0xa5; 10];
-    let length = varint::write(number, &mut &mut out[..]).expect("enough capacity");
-    assert_eq!(varint::read_front(input).ok(), Some((number, &input[length..])));
-    assert_eq!((&out[..length], out[length]), (&input[..length], 0xa5));
-    assert_eq!(varint::len(number).ok(), Some(length));
 }
 
 /// An input that arrives in parts is decoded as `read` decodes it, and consumed up to there.
