@@ -60,6 +60,8 @@ mod serde {
         assert!(error("[18,1]").starts_with("the input ends before the digest (0 of 1 byte)"));
         assert!(error("[18,256]").contains("256"));
         assert!(error("7").contains("expected a valid Multihash in bytes at"));
+        // a text that serde has kept is not read as hexadecimal
+        assert!(serde_json::from_value::<Value>("1203616263".into()).is_err());
     }
 
     /// The longest encoding is decoded, and a sequence of more than `most` numbers is an error before its end: as upstream,

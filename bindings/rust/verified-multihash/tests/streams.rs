@@ -107,6 +107,7 @@ fn failing() {
             assert_eq!((source(&error).to_string(), error.io().is_some()), (wanted.to_string(), true));
             #[cfg(feature = "std")]
             {
+                assert_eq!(error.is_incomplete(), wanted.kind() == io::ErrorKind::UnexpectedEof);
                 let own = io::Error::from(error);
                 assert_eq!((own.kind(), own.raw_os_error()), (wanted.kind(), wanted.raw_os_error()));
                 assert_eq!(own.to_string(), wanted.to_string());
@@ -229,16 +230,18 @@ mod of_std {
         }
     }
 
-    /// A loop over a `Reader` ends after the error of an input that is malformed or truncated.
+    /// A loop over a `Reader` ends after the error of an input that is malformed or truncated, which was consumed up to the
+    /// byte that determines the error.
     #[test]
     fn loops() {
-        for (bytes, wanted) in [
-            (&b"\0\0\x12\x05abcde"[..], &[false, true][..]),
-            (b"\0\0\x12\x01", &[false, true]),
-            (b"\0\0\x12\x01a", &[false, false]),
+        for (bytes, wanted, rest) in [
+            (&b"\0\0\x12\x05abcde"[..], [false, true], &b"abcde"[..]),
+            (b"\0\0\x12\x01", [false, true], b""),
+            (b"\0\0\x12\x01a", [false, false], b""),
         ] {
-            let found: Vec<_> = Reader::<_, 4>::new(bytes).take(3).map(|next| next.is_err()).collect();
-            assert_eq!(found, wanted);
+            let mut reader = Reader::<_, 4>::new(bytes);
+            let found: Vec<_> = reader.by_ref().take(3).map(|next| next.is_err()).collect();
+            assert_eq!((&found[..], *reader.get_ref()), (&wanted[..], rest));
         }
     }
 }

@@ -91,6 +91,7 @@ fn rejected_texts() {
         ("1", "the text has an odd number of digits, 1"),
         (&*"0".repeat(535), "the text has an odd number of digits, 535"),
         ("1203é1", "the text has \"é\" at index 4, which is no hexadecimal digit"),
+        ("0g", "the text has \"g\" at index 1, which is no hexadecimal digit"),
         ("+1", "the text has \"+\" at index 0, which is no hexadecimal digit"),
         ("\"", r#"the text has "\"" at index 0, which is no hexadecimal digit"#),
         (&*("0".repeat(535) + " "), "the text has \" \" at index 535, which is no hexadecimal digit"),

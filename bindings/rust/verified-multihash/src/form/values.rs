@@ -13,66 +13,63 @@ use core::ops::Deref;
 ///
 /// None is made without its constructor, which keeps its limits:
 ///
-/// ```compile_fail
+/// ```compile_fail,E0451
 /// let _ = verified_multihash::form::Number { value: 0 };
 /// ```
 ///
-/// ```compile_fail
+/// ```compile_fail,E0451
 /// let _ = verified_multihash::form::BigEndian::<1> { value: 0 };
 /// ```
 ///
-/// ```compile_fail
+/// ```compile_fail,E0451
 /// let _ = verified_multihash::form::LittleEndian::<1> { value: 0 };
 /// ```
 ///
-/// ```compile_fail
+/// ```compile_fail,E0451
 /// let _ = verified_multihash::form::Bytes { bytes: [0] };
 /// ```
 ///
-/// ```compile_fail
+/// ```compile_fail,E0451
 /// let _ = verified_multihash::form::Block::<1> { bytes: vec![0] };
 /// ```
 ///
-/// ```compile_fail
+/// ```compile_fail,E0451
 /// let _ = verified_multihash::form::Counted::<u8, 1> { items: vec![] };
 /// ```
 ///
-/// ```compile_fail
+/// ```compile_fail,E0639
 /// let _ = verified_multihash::form::Tag::<1> {};
 /// ```
 ///
-/// ```compile_fail
+/// ```compile_fail,E0639
 /// let _ = verified_multihash::form::Tagged::<u8, 1> { value: 0 };
 /// ```
 pub trait Part: Sized {
-    /// How deep types of parts are in this one. A type that contains itself has no such number, and does not compile:
-    /// an input could make `read` of it need any amount of stack.
-    const DEPTH: usize;
-}
-
-/// Returns the depth of a type that has parts of these depths.
-pub const fn above(a: usize, b: usize) -> usize {
-    1 + if a < b { b } else { a }
+    /// The constants of the parts of this one. A type that contains itself has none, and does not compile: an input
+    /// could make `read` of it need any amount of stack.
+    const IS_FINITE: ();
 }
 
 macro_rules! parts {
-    ($([$($parameters:tt)*] $type:ty = $depth:expr;)*) => {
-        $(impl<$($parameters)*> Part for $type { const DEPTH: usize = $depth; })*
+    ($([$($parameters:tt)*] $type:ty: $($part:ty),*;)*) => {
+        $(impl<$($parameters)*> Part for $type {
+            const IS_FINITE: () = { $(let () = <$part>::IS_FINITE;)* };
+        })*
     };
 }
 parts! {
-    [] Number = 0;
-    [const N: u64] Tag<N> = 0;
-    [const N: usize] Bytes<N> = 0;
-    [const N: usize] BigEndian<N> = 0;
-    [const N: usize] LittleEndian<N> = 0;
-    [const MAX: usize] Block<MAX> = 0;
-    [const S: usize] Multihash<S> = 0;
-    [A: Part, B: Part] Both<A, B> = above(A::DEPTH, B::DEPTH);
-    [T: Part, const MAX: usize] Counted<T, MAX> = above(T::DEPTH, 0);
-    [C: Cases] Choice<C> = above(C::DEPTH, 0);
-    [A: Part, const M: u64, C: Cases] Case<A, M, C> = above(A::DEPTH, C::DEPTH);
-    [A: Part, const M: u64] Tagged<A, M> = A::DEPTH;
+    [] Number:;
+    [const N: u64] Tag<N>:;
+    [const N: usize] Bytes<N>:;
+    [const N: usize] BigEndian<N>:;
+    [const N: usize] LittleEndian<N>:;
+    [const MAX: usize] Block<MAX>:;
+    [const S: usize] Multihash<S>:;
+    [A: Part, B: Part] Both<A, B>: A, B;
+    [T: Part, const MAX: usize] Counted<T, MAX>: T;
+    [C: Cases] Choice<C>: C;
+    [A: Part, const M: u64, C: Cases] Case<A, M, C>: A, C;
+    [A: Part, const M: u64] Tagged<A, M>: A;
 }
 
 macro_rules! derefs {
@@ -128,7 +125,11 @@ impl TryFrom<u64> for Number {
 impl<const N: u64> Tag<N> {
     const IN_RANGE: () = assert!(N <= varint::MAX, "a tag is below 2^63");
 
-    /// Returns the tag. A tag of 2^63 or more does not compile.
+    /// Returns the tag. A tag of 2^63 or more does not compile:
+    ///
+    /// ```compile_fail,E0080
+    /// let _ = verified_multihash::form::Tag::<{ 1 << 63 }>::new();
+    /// ```
     pub const fn new() -> Self {
         let () = Self::IN_RANGE;
         Tag {}
@@ -141,7 +142,11 @@ impl<const N: u64> Default for Tag<N> {
     }
 }
 
-/// An empty array does not compile.
+/// An empty array does not compile:
+///
+/// ```compile_fail,E0080
+/// let _ = verified_multihash::form::Bytes::from([]);
+/// ```
 impl<const N: usize> From<[u8; N]> for Bytes<N> {
     fn from(bytes: [u8; N]) -> Self {
         let () = Self::SOME;
@@ -200,7 +205,11 @@ impl<T, const MAX: usize> Counted<T, MAX> {
 impl<A, const M: u64> Tagged<A, M> {
     const IN_RANGE: () = assert!(M <= varint::MAX, "a tag is below 2^63");
 
-    /// Returns the value with the tag `M`. A tag of 2^63 or more does not compile.
+    /// Returns the value with the tag `M`. A tag of 2^63 or more does not compile:
+    ///
+    /// ```compile_fail,E0080
+    /// let _ = verified_multihash::form::Tagged::<u8, { 1 << 63 }>::new(0);
+    /// ```
     pub fn new(value: A) -> Self {
         let () = Self::IN_RANGE;
         Tagged { value }
@@ -284,14 +293,14 @@ pub fn to_bytes<T: Form>(value: &T) -> Result<Vec<u8>, FormError> {
 ///
 /// A tag is a number below 2^63. Equal tags do not compile, and neither does a type that contains itself:
 ///
-/// ```compile_fail
+/// ```compile_fail,E0080
 /// use verified_multihash::{form, form::Number};
 /// form! { enum Twice { A(Number) = 4, B(Number) = 4 } }
 /// ```
 ///
 /// ```compile_fail,E0391
-/// use verified_multihash::{form, form::Counted};
-/// form! { struct Tree { children: Counted<Tree, 10> } }
+/// use verified_multihash::{form, form::{Both, Counted, Number}};
+/// form! { struct Tree { name: Number, children: Counted<Both<Number, Tree>, 10> } }
 /// ```
 #[macro_export]
 macro_rules! form {
@@ -326,11 +335,7 @@ macro_rules! form {
     };
     (@of $name:ident, $($type:ty),+; $self:ident, $w:ident => $write:block, $r:ident => $read:block) => {
         impl $crate::form::values::Part for $name {
-            const DEPTH: usize = {
-                let depth = 0;
-                $(let depth = $crate::form::values::above(depth, <$type as $crate::form::values::Part>::DEPTH);)+
-                depth
-            };
+            const IS_FINITE: () = { $(let () = <$type as $crate::form::values::Part>::IS_FINITE;)+ };
         }
 
         impl $crate::form::Form for $name {
