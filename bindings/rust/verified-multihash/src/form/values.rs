@@ -9,41 +9,24 @@ use crate::{varint, Multihash};
 use alloc::vec::Vec;
 use core::ops::Deref;
 
+/// The documentation of a value that does not compile.
+macro_rules! rejected {
+    ($value:literal) => {
+        concat!("```compile_fail\nlet _ = verified_multihash::form::", $value, ";\n```\n")
+    };
+}
+
 /// What only the parts and `form!` implement, so that each [`Form`](crate::form::Form) is made of parts.
 ///
 /// None is made without its constructor, which keeps its limits:
-///
-/// ```compile_fail,E0451
-/// let _ = verified_multihash::form::Number { value: 0 };
-/// ```
-///
-/// ```compile_fail,E0451
-/// let _ = verified_multihash::form::BigEndian::<1> { value: 0 };
-/// ```
-///
-/// ```compile_fail,E0451
-/// let _ = verified_multihash::form::LittleEndian::<1> { value: 0 };
-/// ```
-///
-/// ```compile_fail,E0451
-/// let _ = verified_multihash::form::Bytes { bytes: [0] };
-/// ```
-///
-/// ```compile_fail,E0451
-/// let _ = verified_multihash::form::Block::<1> { bytes: vec![0] };
-/// ```
-///
-/// ```compile_fail,E0451
-/// let _ = verified_multihash::form::Counted::<u8, 1> { items: vec![] };
-/// ```
-///
-/// ```compile_fail,E0639
-/// let _ = verified_multihash::form::Tag::<1> {};
-/// ```
-///
-/// ```compile_fail,E0639
-/// let _ = verified_multihash::form::Tagged::<u8, 1> { value: 0 };
-/// ```
+#[doc = rejected!("Number { value: 0 }")]
+#[doc = rejected!("BigEndian::<1> { value: 0 }")]
+#[doc = rejected!("LittleEndian::<1> { value: 0 }")]
+#[doc = rejected!("Bytes { bytes: [0] }")]
+#[doc = rejected!("Block::<1> { bytes: vec![0] }")]
+#[doc = rejected!("Counted::<u8, 1> { items: vec![] }")]
+#[doc = rejected!("Tag::<1> {}")]
+#[doc = rejected!("Tagged::<u8, 1> { value: 0 }")]
 pub trait Part: Sized {
     /// The constants of the parts of this one. A type that contains itself has none, and does not compile: an input
     /// could make `read` of it need any amount of stack.
@@ -126,10 +109,7 @@ impl<const N: u64> Tag<N> {
     const IN_RANGE: () = assert!(N <= varint::MAX, "a tag is below 2^63");
 
     /// Returns the tag. A tag of 2^63 or more does not compile:
-    ///
-    /// ```compile_fail,E0080
-    /// let _ = verified_multihash::form::Tag::<{ 1 << 63 }>::new();
-    /// ```
+    #[doc = rejected!("Tag::<{ 1 << 63 }>::new()")]
     pub const fn new() -> Self {
         let () = Self::IN_RANGE;
         Tag {}
@@ -143,10 +123,7 @@ impl<const N: u64> Default for Tag<N> {
 }
 
 /// An empty array does not compile:
-///
-/// ```compile_fail,E0080
-/// let _ = verified_multihash::form::Bytes::from([]);
-/// ```
+#[doc = rejected!("Bytes::from([])")]
 impl<const N: usize> From<[u8; N]> for Bytes<N> {
     fn from(bytes: [u8; N]) -> Self {
         let () = Self::SOME;
@@ -206,10 +183,7 @@ impl<A, const M: u64> Tagged<A, M> {
     const IN_RANGE: () = assert!(M <= varint::MAX, "a tag is below 2^63");
 
     /// Returns the value with the tag `M`. A tag of 2^63 or more does not compile:
-    ///
-    /// ```compile_fail,E0080
-    /// let _ = verified_multihash::form::Tagged::<u8, { 1 << 63 }>::new(0);
-    /// ```
+    #[doc = rejected!("Tagged::<u8, { 1 << 63 }>::new(0)")]
     pub fn new(value: A) -> Self {
         let () = Self::IN_RANGE;
         Tagged { value }
@@ -293,7 +267,7 @@ pub fn to_bytes<T: Form>(value: &T) -> Result<Vec<u8>, FormError> {
 ///
 /// A tag is a number below 2^63. Equal tags do not compile, and neither does a type that contains itself:
 ///
-/// ```compile_fail,E0080
+/// ```compile_fail
 /// use verified_multihash::{form, form::Number};
 /// form! { enum Twice { A(Number) = 4, B(Number) = 4 } }
 /// ```
