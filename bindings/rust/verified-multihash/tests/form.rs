@@ -146,8 +146,8 @@ fn check_value<T: Form + PartialEq + Debug>(value: &T, bytes: &[u8], more: &[u8]
     assert_eq!(all_from_bytes::<T>(&two).expect("whole values").len(), 2);
 }
 
-/// No encoding is a prefix of another: each strict prefix is incomplete. A writer that is full has it, and a reader that
-/// fails there has consumed it.
+/// No encoding is a prefix of another: each strict prefix is incomplete. A full writer has it, and a reader that fails there
+/// has consumed it.
 fn check_prefixes<T: Form + PartialEq + Debug>(value: &T, bytes: &[u8]) {
     for length in 0..bytes.len() {
         let cut = &bytes[..length];
@@ -164,8 +164,8 @@ fn check_prefixes<T: Form + PartialEq + Debug>(value: &T, bytes: &[u8]) {
     }
 }
 
-/// An input that is accepted is an encoding. One that is rejected has one error, which one byte shows, whatever follows,
-/// and which is found after a value too. Returns whether it is rejected.
+/// An input that is accepted is an encoding. One that is rejected has one error, which one byte shows, whatever follows.
+/// It is found after a value too. Returns whether it is rejected.
 fn check_input<T: Form + PartialEq + Debug>(input: &[u8], before: &[u8], draw: &mut Draw) -> bool {
     let (mut rest, mut counted) = (input, Position::new(slow(input)));
     let (found, slowly) = (read::<T, _>(&mut rest), read::<T, _>(&mut counted));
@@ -242,20 +242,27 @@ fn limits() {
     unsafe { items.set_len(usize::MAX) };
     assert!(Counted::<(), { usize::MAX }>::new(items).is_err());
     assert_eq!(Counted::<u8, 1>::new([1]).expect("it fits").into_inner(), [1]);
-    assert_eq!(Number::new((1 << 63) - 1).map(Number::get), Some((1 << 63) - 1));
-    assert!(Number::try_from((1_u64 << 63) - 1).is_ok());
-    assert!(Number::new(1 << 63).is_none() && Number::try_from(1_u64 << 63).is_err());
+    for (value, wanted) in [((1 << 63) - 1, Some((1 << 63) - 1)), (1 << 63, None)] {
+        let made = [Number::new(value), Number::try_from(value).ok()];
+        assert_eq!(made.map(|number| number.map(Number::get)), [wanted; 2]);
+    }
     assert!(matches!(from_bytes::<Block<3>>(b"\x041234"), Err(FormError::TooLong(4))));
     assert!(matches!(from_bytes::<Counted<Number, 1>>(b"\x02\0\0"), Err(FormError::TooMany(2))));
     assert_eq!(from_bytes::<Block<3>>(b"\x03123").expect("it fits").into_inner(), b"123");
     assert!(from_bytes::<Bytes<0>>(b"").is_err());
+    assert_eq!(to_bytes(&BigEndian::from(1_u8)).expect("memory"), [1]);
     assert_eq!(to_bytes(&BigEndian::from(0x0102_u16)).expect("memory"), [1, 2]);
+    assert_eq!(to_bytes(&BigEndian::from(0x0102_u32)).expect("memory"), [0, 0, 1, 2]);
+    assert_eq!(to_bytes(&BigEndian::from(0x0102_u64)).expect("memory"), [0, 0, 0, 0, 0, 0, 1, 2]);
+    assert_eq!(to_bytes(&LittleEndian::from(1_u8)).expect("memory"), [1]);
+    assert_eq!(to_bytes(&LittleEndian::from(0x0102_u16)).expect("memory"), [2, 1]);
     assert_eq!(to_bytes(&LittleEndian::from(0x0102_u32)).expect("memory"), [2, 1, 0, 0]);
     assert_eq!(from_bytes::<BigEndian<1>>(b"\xff").map(u8::from).ok(), Some(255));
     assert_eq!(from_bytes::<LittleEndian<8>>(&[255; 8]).map(u64::from).ok(), Some(u64::MAX));
     assert!(from_bytes::<BigEndian<0>>(b"").is_err() && from_bytes::<LittleEndian<9>>(&[0; 9]).is_err());
     type Two = Case<Number, 3, Tagged<Number, 4>>;
-    for (case, bytes) in [(Two::this(5.into()), [3, 5]), (Two::other(Tagged::new(7.into())).expect("it differs"), [4, 7])] {
+    let other = Two::other(Tagged::new(7.into())).expect("another tag");
+    for (case, bytes) in [(Two::this(5.into()), [3, 5]), (other, [4, 7])] {
         assert_eq!(to_bytes(&Choice { case }).expect("memory"), bytes);
     }
     let twice = Case::<Number, 4, Tagged<Number, 4>>::other(Tagged::new(8.into()));

@@ -56,7 +56,9 @@ impl<'de> Deserializer<'de> for Bytes<'de> {
 
 macro_rules! unreachable_values {
     ($($name:ident $([$($bounds:tt)*])? ($($type:ty),*) -> $result:ty;)*) => {
-        $(fn $name $(<$($bounds)*>)? (self $(, _: $type)*) -> Result<$result, Error> { unreachable!("bytes are written") })*
+        $(fn $name $(<$($bounds)*>)? (self $(, _: $type)*) -> Result<$result, Error> {
+            unreachable!("bytes are written")
+        })*
     };
 }
 

@@ -1,4 +1,4 @@
-//! Readers and writers, of `std::io` or `no_std_io`, that are short, interrupted, full, or fail, and the kinds of errors.
+//! Readers and writers, of `std::io` or `no_std_io`, that are short, interrupted or full, or fail; the kinds of errors.
 #[cfg(feature = "std")]
 use std::io;
 #[cfg(not(feature = "std"))]
@@ -128,6 +128,15 @@ fn ends() {
     assert_eq!(varint::read_next(&mut &b""[..]).expect("the end"), None);
 }
 
+/// A slice of `no_std_io` keeps a truncated digest.
+#[cfg(not(feature = "std"))]
+#[test]
+fn truncated_slice() {
+    let mut rest = &b"\x12\x03ab"[..];
+    assert!(Value::read(&mut rest).expect_err("an end").is_incomplete());
+    assert_eq!(rest, b"ab");
+}
+
 /// A writer's count that is too large is a panic, and a reader's within a digest.
 #[test]
 fn too_large_counts() {
@@ -214,8 +223,8 @@ mod of_std {
         }
     }
 
-    /// Nothing after a multihash is consumed. The error of one that is malformed stays, and the source is not read again,
-    /// which could fail or wait.
+    /// Nothing after a multihash is consumed. The error of one that is malformed stays, and the source is not read
+    /// again, which could fail or wait.
     #[test]
     fn malformed() {
         let source = Slow { bytes: &b"\x12\x03abc\x12\x05a"[..], at: 7, event: || Err(ErrorKind::TimedOut.into()) };
@@ -230,8 +239,8 @@ mod of_std {
         }
     }
 
-    /// A loop over a `Reader` ends after the error of an input that is malformed or truncated, which was consumed up to the
-    /// byte that determines the error.
+    /// A loop over a `Reader` ends after the error of an input that is malformed or truncated, which was consumed up to
+    /// the byte that determines the error.
     #[test]
     fn loops() {
         for (bytes, wanted, rest) in [

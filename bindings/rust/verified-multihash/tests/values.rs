@@ -132,7 +132,8 @@ fn errors() {
         (b"\x80\0", "the varint is not minimal: it ends in a zero byte"),
         (&[0xff; 9], "the varint has more than nine bytes"),
     ] {
-        for error in [varint::read(&mut &*input).err(), varint::read_front(input).err(), Head::read_front(input).err()] {
+        let (read, front) = (varint::read(&mut &*input), varint::read_front(input));
+        for error in [read.err(), front.err(), Head::read_front(input).err()] {
             assert_eq!(error.expect("no varint").to_string(), wanted);
         }
     }

@@ -98,8 +98,8 @@ fn check_whole<const S: usize>(input: &[u8], whole: &str, count: usize) {
     }
 }
 
-/// Both varints, decoded at once and one by one, end where an error is determined, or before the digest. They are written
-/// as they were read.
+/// Both varints, decoded at once and one by one, end where an error is determined, or before the digest. They are
+/// written as they were read.
 fn check_head(input: &[u8], column: &str, count: usize) {
     let mut rest = input;
     let code = varint::read(&mut rest);
@@ -124,35 +124,30 @@ fn check_head(input: &[u8], column: &str, count: usize) {
     }
 }
 
-/// An input that arrives in parts is decoded as `read` decodes it, and consumed up to there.
+/// An input that arrives in parts is decoded as `read` decodes it, and consumed up to there. What is no multihash is kept.
 fn check_parts<const S: usize>(input: &[u8], length: usize, column: &str, count: usize) {
-    let (mut decoder, mut consumed) = (Decoder::<S>::new(), 0);
+    let (mut decoder, mut decoded, mut consumed) = (Decoder::<S>::new(), Ok(None), 0);
     for part in input.chunks(length) {
         let mut rest = part;
-        let decoded = decoder.decode(&mut rest);
+        decoded = decoder.decode(&mut rest);
         consumed += part.len() - rest.len();
-        match decoded {
-            Ok(None) => assert!(rest.is_empty() && decoder.kept() == &input[..consumed]),
-            Ok(Some(found)) => {
-                check_result(&Ok(found), column);
-                assert_eq!((consumed, decoder.kept()), (count, &b""[..]));
-                return;
-            }
-            Err(error) => {
-                assert_eq!((consumed, decoder.kept()), (count, &input[..count]));
-                let again = decoder.decode(&mut &b"\0"[..]).expect_err("the same");
-                for error in [error, again, decoder.finish().expect_err("the same")] {
-                    check_error(&error, column);
-                }
-                return;
+        if !matches!(decoded, Ok(None)) {
+            break;
+        }
+    }
+    let kept = if matches!(decoded, Ok(Some(_))) { 0 } else { count };
+    assert_eq!((consumed, decoder.kept()), (count, &input[..kept]));
+    match decoded {
+        Ok(Some(found)) => check_result(&Ok(found), column),
+        Ok(None) if input.is_empty() => decoder.finish().expect("no byte"),
+        Ok(None) => check_error(&decoder.finish().expect_err("it is incomplete"), column),
+        Err(error) => {
+            let again = decoder.decode(&mut &b"\0"[..]).expect_err("the same");
+            for error in [error, again, decoder.finish().expect_err("the same")] {
+                check_error(&error, column);
             }
         }
     }
-    match decoder.finish() {
-        Ok(()) => assert!(input.is_empty()),
-        Err(error) => check_error(&error, column),
-    }
-    assert_eq!((decoder.kept(), consumed), (input, input.len()));
 }
 
 /// Each writer writes the encoding, and the value is that of its parts.

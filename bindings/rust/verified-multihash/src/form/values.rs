@@ -265,7 +265,12 @@ pub fn to_bytes<T: Form>(value: &T) -> Result<Vec<u8>, FormError> {
 /// [`Both`](crate::form::Both) has them; of an enum the varint of the tag and the value of the case, as
 /// [`Choice`](crate::form::Choice) has them. It has no parameters. [The module](mod@crate::form) has examples.
 ///
-/// A tag is a number below 2^63. Equal tags do not compile, and neither does a type that contains itself:
+/// A tag is a number below 2^63. A larger one does not compile, nor do equal tags, nor a type that contains itself:
+///
+/// ```compile_fail
+/// use verified_multihash::{form, form::Number};
+/// form! { enum Large { A(Number) = 0x8000_0000_0000_0000 } }
+/// ```
 ///
 /// ```compile_fail
 /// use verified_multihash::{form, form::Number};
