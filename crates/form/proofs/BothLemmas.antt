@@ -1,10 +1,7 @@
 -- Reading and writing two parts: for `Both`, `Counted`, `Choice`, `write_two`, `write_three`, and `storage`.
-use Rattle.std.proofs.Common.{◌≡◌, ℕ, List, ◌++◌, Option, refl, sym, subst}
-use Rattle.multihash.specs.Varint.{IsVarint}
-use Rattle.multihash.specs.Consuming.{ConsumesSome}
+use Rattle.form.proofs.Common.{◌≡◌, ℕ, List, ◌++◌, Option, refl, sym, subst, IsVarint, ConsumesSome, Then, AppendsSome, AppendsPrefixOfSome}
 use Rattle.multihash.proofs.ReadingLemmas.{Consumes-concatenated}
 use Rattle.multihash.proofs.WritingLemmas.{AppendsBoth, AppendsPrefix-append, AppendsPrefix-concatenated}
-use Rattle.form.specs.Form.{Then, AppendsSome, AppendsPrefixOfSome}
 
 -- the parts make the whole
 make : (P Q : List ℕ → Type 0) (a b : List ℕ) → P a → Q b → Then P Q (a ++ b)

@@ -1,25 +1,15 @@
 -- Examples of the definitions of formats, and what these exclude by one part alone.
-use Rattle.std.proofs.Common.{◌≡◌, ℕ, List, [], ◌∷◌, ◌++◌, length, length-append, Option, Some, inl, inr, refl, sym, ap, subst, ◌∙◌, arith}
-use Rattle.std.specs.Prelude.{⊤, codes}
+use Rattle.form.proofs.Common.{◌≡◌, ℕ, List, [], ◌∷◌, ◌++◌, length, length-append, Option, Some, inl, inr, refl, sym, ap, subst, ◌∙◌, arith, ⊤, codes, of_varint, of_size, insufficient, overflow, not_minimal, Then, IsBlock, AreSame, block_unique, IsFailed, IsTruncated, form_error_text, RejectsCase, RejectsNoCase, IsShortest, ShowsMalformed, ShowsError, IsUndecided, StopsAt, ReadStops, IsReadError, IsWholeError, AreParts, FormError}
 use Rattle.std.specs.Fmt.{digits}
-use Rattle.multihash.specs.Refusal.{of_varint, of_size}
-use Rattle.multihash.specs.Varint.{insufficient, overflow, not_minimal}
 use Rattle.multihash.specs.Verdict.{accepted, invalid_size, invalid_code, malformed, unexpected_eof}
 use Rattle.multihash.proofs.ReadingLemmas.{all_read, Consumes-known}
 use Rattle.form.specs.ByteCount.{HasCounted}
-use Rattle.form.specs.Form.{Then, IsBlock, AreSame}
-use Rattle.form.specs.Laws.Parts.{block_unique}
-use Rattle.form.specs.FormError.{IsFailed, IsTruncated, form_error_text}
 use Rattle.form.specs.Case.{AreSameCase}
-use Rattle.form.specs.Rejecting.{RejectsCase, RejectsNoCase}
-use Rattle.form.specs.Rejecting.{IsShortest, ShowsMalformed, ShowsError, IsUndecided, StopsAt, ReadStops, IsReadError, IsWholeError}
 use Rattle.form.specs.Stream.{rest_from, AppendsValues, AppendsUpTo, AppendsThenStops}
-use Rattle.multihash.specs.Streams.{AreParts}
 use Rattle.form.specs.declared.byte_count.ByteCount.{ByteCount}
 use Rattle.form.specs.declared.case.Case.TheVariants.{This, Other}
 use Rattle.form.specs.declared.case.Others.{Others}
 use Rattle.form.specs.declared.case.Tagged.{Tagged}
-use Rattle.form.specs.declared.error.FormError.{FormError}
 use Rattle.form.specs.declared.error.FormError.TheVariants.{Failed, TooMany, TooLong, OtherTag, Trailing}
 
 -- ---- parts

@@ -1,14 +1,10 @@
 -- What `err` of `read` states, from the contracts of the library's calls: for `read` of each part.
-use Rattle.std.proofs.Common.{◌≡◌, ℕ, ◌<◌, ◌⊎◌, ap, inl, inr, List, [], length, length-append, Option, Some, refl, sym}
-use Rattle.std.proofs.Common.{subst, ◌∙◌, append-nil, arith}
-use Rattle.std.specs.Prelude.{None}
+use Rattle.form.proofs.Common.{◌≡◌, ℕ, ◌<◌, ◌⊎◌, ap, inl, inr, List, [], length, length-append, Option, Some, refl, sym, subst, ◌∙◌, append-nil, arith, None, VarintError, insufficient, overflow, not_minimal, IsVarint, IsInsufficient, Refusal, of_varint, of_io, IsAnyVarintError, IsVarintError, HasFewerThan, ConsumesFewerThan, FailsBy, ExactFails, ReadFails, ConsumesAtVarintError, ConsumesShortestSettling, ConsumesNothingSettling, EndsOrFails, IsFailed, IsTruncated, ShowsMalformed, RejectsNumber, RejectsMultihash, IsUndecided, StopsAt, ReadStops, FormError}
 use Rattle.multihash.specs.Bytes.{IsPrefix}
-use Rattle.multihash.specs.Varint.{VarintError, insufficient, overflow, not_minimal, IsVarint, IsInsufficient}
 use Rattle.multihash.specs.Encoding.{IsEncoding}
 use Rattle.multihash.specs.Verdict.{Verdict, accepted, invalid_size, invalid_code, malformed, unexpected_eof, HasVerdict, IsIncomplete}
 use Rattle.multihash.specs.Settling.{Settles, IsShortestSettling}
 use Rattle.multihash.specs.Outcome.{IsErrorOf}
-use Rattle.multihash.specs.Refusal.{Refusal, of_varint, of_io, IsAnyVarintError, IsVarintError}
 use Rattle.multihash.specs.Multihash.{Fields, pair_of}
 use Rattle.multihash.proofs.EncodingLemmas.{digest_fits}
 use Rattle.multihash.proofs.VerdictLemmas.{verdict_unique}
@@ -17,14 +13,8 @@ use Rattle.multihash.proofs.SettlingLemmas.{late_settles, none_settles, incomple
 use Rattle.multihash.proofs.ReadConsumingLemmas.{incomplete_error}
 use Rattle.multihash.proofs.CallingLemmas.{front_error_unique, exact_fails}
 use Rattle.multihash.specs.Fault.{Fault, IsOwnFault, IsUnexpectedEof}
-use Rattle.multihash.specs.Reading.{HasFewerThan, ConsumesFewerThan}
-use Rattle.multihash.specs.Consuming.{FailsBy, ExactFails, ReadFails, ConsumesAtVarintError, ConsumesShortestSettling}
-use Rattle.multihash.specs.Consuming.{ConsumesNothingSettling, EndsOrFails}
 use Rattle.multihash.proofs.ReadingLemmas.{all_read, Consumes-none}
-use Rattle.form.specs.FormError.{IsFailed, IsTruncated}
 use Rattle.form.specs.Laws.Rejected.{malformed_kept}
-use Rattle.form.specs.Rejecting.{ShowsMalformed, RejectsNumber, RejectsMultihash, IsUndecided, StopsAt, ReadStops}
-use Rattle.form.specs.declared.error.FormError.{FormError}
 use Rattle.form.specs.declared.error.FormError.TheVariants.{Failed}
 
 -- ---- numbers

@@ -1,5 +1,6 @@
 pub mod BothLemmas
 mod FormExamples
+pub mod Common
 pub mod FormLemmas
 pub mod LocatedLemmas
 pub mod StopLemmas

@@ -1,14 +1,7 @@
 -- Where the first error of an input is: its place is unique, since no value comes next there.
-use Rattle.std.proofs.Common.{◌≡◌, ◌≢◌, ◌⊎◌, ◌+◌, ◌-◌, ℕ, ◌<◌, inl, inr, List, [], ◌++◌, length, length-append, append-nil}
-use Rattle.std.proofs.Common.{Some, refl, sym, ap, subst, ◌∙◌, arith}
+use Rattle.form.proofs.Common.{◌≡◌, ◌≢◌, ◌⊎◌, ◌+◌, ◌-◌, ℕ, ◌<◌, inl, inr, List, [], ◌++◌, length, length-append, append-nil, Some, refl, sym, ap, subst, ◌∙◌, arith, AreParts, IsOutOfMemory, Determine, Exclude, IsFailed, IsTruncated, IsUndecided, ReadStops, FormError}
 use Rattle.multihash.specs.Bytes.{IsStrictPrefix}
-use Rattle.multihash.specs.Streams.{AreParts}
-use Rattle.multihash.specs.Refusal.{IsOutOfMemory}
-use Rattle.form.specs.Laws.Parts.{Determine, Exclude}
-use Rattle.form.specs.FormError.{IsFailed, IsTruncated}
 use Rattle.form.specs.Located.{IsAt, IsFirstError}
-use Rattle.form.specs.Rejecting.{IsUndecided, ReadStops}
-use Rattle.form.specs.declared.error.FormError.{FormError}
 use Rattle.form.specs.declared.located.LocatedError.{LocatedError}
 use Rattle.form.proofs.WholeLemmas.{Next, parts_compared, known_is, longer, no_bytes, stopped}
 

@@ -1,18 +1,8 @@
 -- Reading stopped in a part of a value: what this shows of the part, it shows of the whole. For `read` of the parts, and for `Stream`.
-use Rattle.std.proofs.Common.{◌≡◌, ℕ, zero, suc, ◌<◌, inl, inr, List, [], ◌∷◌, ◌++◌, length, length-append, Option}
-use Rattle.std.proofs.Common.{Some, refl, sym, ap, subst, ◌∙◌, append_assoc, append-nil, arith}
-use Rattle.std.specs.Prelude.{None, IfSome}
+use Rattle.form.proofs.Common.{◌≡◌, ℕ, zero, suc, ◌<◌, inl, inr, List, [], ◌∷◌, ◌++◌, length, length-append, Option, Some, refl, sym, ap, subst, ◌∙◌, append_assoc, append-nil, arith, None, IfSome, IsVarint, AreParts, Consumes, ConsumesSome, Determine, Exclude, number_unique, Then, RejectsInTurn, RejectsNumberThen, AreItems, RejectsItem, RejectsCase, IsUndecided, StopsAt, ReadStops, FormError}
 use Rattle.std.specs.Io.KnownBytes.{prepend_known}
-use Rattle.multihash.specs.Varint.{IsVarint}
-use Rattle.multihash.specs.Streams.{AreParts}
-use Rattle.multihash.specs.Reading.{Consumes}
-use Rattle.multihash.specs.Consuming.{ConsumesSome}
 use Rattle.multihash.proofs.ReadingLemmas.{Consumes-known, Consumes-none, Consumes-concatenated, prepend_known-append}
-use Rattle.form.specs.Laws.Parts.{Determine, Exclude, number_unique}
-use Rattle.form.specs.Form.{Then}
 use Rattle.form.specs.Laws.Rejected.{number_not_both}
-use Rattle.form.specs.Rejecting.{RejectsInTurn, RejectsNumberThen, AreItems, RejectsItem, RejectsCase, IsUndecided, StopsAt, ReadStops}
-use Rattle.form.specs.declared.error.FormError.{FormError}
 
 module _ {A B : Type 0} {IsA : A → List ℕ → Type 0} {IsB : B → List ℕ → Type 0} {RejectsA RejectsB : FormError → List ℕ → Type 0} where
   -- after the bytes `c`, what the part rejects, the whole rejects, and it is undecided if the part is

@@ -1,21 +1,9 @@
 -- Reading a value that comes next, an input that ends within it, or items, one after another: for `whole`, `all`, `located` and
 -- `stream`.
-use Rattle.std.proofs.Common.{◌≡◌, ℕ, ◌<◌, ◌⊎◌, inl, inr, List, [], ◌∷◌, ◌++◌, length, Option, Some, Bool, true, refl}
-use Rattle.std.proofs.Common.{sym, ap, subst, ◌∙◌, append_assoc, append-nil, arith, length-append}
-use Rattle.std.specs.Prelude.{◌==◌, false, Result, Ok, Err, IfOk, IfErr, IsErrAnd}
+use Rattle.form.proofs.Common.{◌≡◌, ℕ, ◌<◌, ◌⊎◌, inl, inr, List, [], ◌∷◌, ◌++◌, length, Option, Some, Bool, true, refl, sym, ap, subst, ◌∙◌, append_assoc, append-nil, arith, length-append, ◌==◌, false, Result, Ok, Err, IfOk, IfErr, IsErrAnd, nil_from_length, Consumes, ConsumesSome, IsOutOfMemory, Determine, Exclude, AreParts, AreSame, IsFailed, IsTruncated, IsUndecided, StopsAt, ReadStops, FormError}
 use Rattle.std.proofs.lemmas.Bool.{eqb-true, eq-eqb}
-use Rattle.std.proofs.lemmas.List.{nil_from_length}
 use Rattle.multihash.specs.Bytes.{IsStrictPrefix}
-use Rattle.multihash.specs.Reading.{Consumes}
-use Rattle.multihash.specs.Consuming.{ConsumesSome}
 use Rattle.multihash.proofs.ReadingLemmas.{Consumes-known}
-use Rattle.multihash.specs.Refusal.{IsOutOfMemory}
-use Rattle.form.specs.Laws.Parts.{Determine, Exclude}
-use Rattle.multihash.specs.Streams.{AreParts}
-use Rattle.form.specs.Form.{AreSame}
-use Rattle.form.specs.FormError.{IsFailed, IsTruncated}
-use Rattle.form.specs.Rejecting.{IsUndecided, StopsAt, ReadStops}
-use Rattle.form.specs.declared.error.FormError.{FormError}
 
 -- a part of some bytes, and what follows it in them
 pub longer : (part c left bytes more : List ℕ) → part ≡ c ++ left → bytes ≡ part ++ more → c ++ (left ++ more) ≡ bytes ++ []

@@ -1,26 +1,8 @@
 -- What callers conclude from the contracts of several calls.
-use Rattle.std.proofs.Common.{Vec, Global, length-append, ◌≡◌, ℕ, ◌<◌, ◌≤◌, ◌⊎◌, IfOk, IfErr, OnErr, IsOk, inl, inr, List, [], ◌++◌}
-use Rattle.std.proofs.Common.{length, map, false, Option, Some, Result, Ok, Err, MatchResult, refl, sym, ap, ◌∙◌, subst, arith}
-use Rattle.std.proofs.Common.{◌+◌, drop, length-drop}
-use Rattle.std.specs.List.{All}
+use Rattle.multihash.proofs.Common.{Vec, Global, length-append, ◌≡◌, ℕ, ◌<◌, ◌≤◌, ◌⊎◌, IfOk, IfErr, OnErr, IsOk, inl, inr, List, [], ◌++◌, length, map, false, Option, Some, Result, Ok, Err, MatchResult, refl, sym, ap, ◌∙◌, subst, arith, ◌+◌, drop, length-drop, All, length-map, Pair, FitsBuffer, digest_limit, IsEncoding, AreConcatenated, ConsumesPairs, StopsAfterPairs, VarintError, Verdict, accepted, invalid_size, malformed, BeginsWithSize, HasHead, HasVerdict, HasWholeVerdict, ExactFails, Fault, IsOwnFault, IsUnexpectedEof, Consumes, ConsumesFewerThan, HasFewerThan, IsScale, HasScaleVerdict, AppendsPrefix, CountsWriterFailures, Refusal, of_io, of_varint, IsIo, IsOutOfMemory, IsInvalidSize, IsFrontError, IsErrorOf, IsResultOf, Fields, pair_of}
 use Rattle.std.specs.Result.{IsErrAnd}
-use Rattle.std.proofs.lemmas.List.{length-map}
-use Rattle.multihash.specs.Pair.{Pair, FitsBuffer, digest_limit}
-use Rattle.multihash.specs.Encoding.{IsEncoding}
-use Rattle.multihash.specs.Streams.{AreConcatenated, ConsumesPairs, StopsAfterPairs}
-use Rattle.multihash.specs.Varint.{VarintError}
-use Rattle.multihash.specs.Verdict.{Verdict, accepted, invalid_size, malformed, BeginsWithSize, HasHead}
-use Rattle.multihash.specs.Verdict.{HasVerdict, HasWholeVerdict}
-use Rattle.multihash.specs.Consuming.{ExactFails}
-use Rattle.multihash.specs.Fault.{Fault, IsOwnFault, IsUnexpectedEof}
-use Rattle.multihash.specs.Reading.{Consumes, ConsumesFewerThan, HasFewerThan}
-use Rattle.multihash.specs.Scale.{IsScale, HasScaleVerdict}
-use Rattle.multihash.specs.Writing.{AppendsPrefix, CountsWriterFailures}
 use Rattle.multihash.specs.Filling.{Fills, IsFilled}
 use Rattle.multihash.specs.declared.no_std_io.slice_writer.SliceWriter.{SliceWriter}
-use Rattle.multihash.specs.Refusal.{Refusal, of_io, of_varint, IsIo, IsOutOfMemory, IsInvalidSize, IsFrontError}
-use Rattle.multihash.specs.Outcome.{IsErrorOf, IsResultOf}
-use Rattle.multihash.specs.Multihash.{Fields, pair_of}
 use Rattle.multihash.proofs.WritingLemmas.{slice_writer_has_room}
 use Rattle.multihash.proofs.ReadingLemmas.{Consumes-known, Consumes-concatenated, IfSome-consumed}
 use Rattle.multihash.proofs.VerdictLemmas.{verdict_unique, whole_verdict_unique}

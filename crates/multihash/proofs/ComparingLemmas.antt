@@ -1,8 +1,7 @@
 -- What follows from how pairs compare: when they tie, and which part decides.
-use Rattle.std.proofs.Common.{◌≡◌, IsTrue, ◌↔◌, Bool, subst, rules}
+use Rattle.multihash.proofs.Common.{◌≡◌, IsTrue, ◌↔◌, Bool, subst, rules, Pair}
 use Rattle.std.specs.Cmp.Rules.{comparing}
 use Rattle.std.specs.Ordering.{is_eq}
-use Rattle.multihash.specs.Pair.{Pair}
 use Rattle.multihash.specs.Comparing.{equal_pairs, compare_pairs}
 
 -- ---- equality

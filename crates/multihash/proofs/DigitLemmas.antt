@@ -1,14 +1,5 @@
 -- Numbers written in digits: bounds, one number for one list of digits, and digits as continuation bytes.
-use Rattle.std.proofs.lemmas.Grind.{common_steps}
-use Rattle.std.proofs.Common.{◌≡◌, ℕ, zero, suc, ◌+◌, ◌*◌, ◌^◌, ◌<◌, List, [], ◌∷◌, ◌++◌, length, refl, ◌∙◌, arith, ◌%◌, ◌≤◌}
-use Rattle.std.proofs.Common.{map, bit_or, length-append}
-use Rattle.std.specs.List.{sum_by, enumerate_from, All}
-use Rattle.std.proofs.Math.Nat.{pow-suc, pow-zero, mul_assoc, mul-suc, mul-zero, mul-le-mul_left, mod-eq_of_lt}
-use Rattle.std.proofs.lemmas.List.Elements.{All-head, All-tail, All-map}
-use Rattle.std.proofs.lemmas.Nat.{same_from_place, pow-add, mod_below, or_comm, or_shifted}
-use Rattle.multihash.specs.Bytes.{place_value, IsBytes}
-use Rattle.std.proofs.lemmas.List.{get_or_append_left, get_or-append-add, length-map, map-append}
-use Rattle.multihash.specs.Varint.{IsContinuation, continuation_bytes}
+use Rattle.multihash.proofs.Common.{common_steps, ◌≡◌, ℕ, zero, suc, ◌+◌, ◌*◌, ◌^◌, ◌<◌, List, [], ◌∷◌, ◌++◌, length, refl, ◌∙◌, arith, ◌%◌, ◌≤◌, map, bit_or, length-append, sum_by, enumerate_from, All, pow-suc, pow-zero, mul_assoc, mul-suc, mul-zero, mul-le-mul_left, mod-eq_of_lt, All-head, All-tail, All-map, same_from_place, pow-add, mod_below, or_comm, or_shifted, place_value, IsBytes, get_or_append_left, get_or-append-add, length-map, map-append, IsContinuation, continuation_bytes}
 
 -- the value of digits of which the first has the index k
 abbrev value_from : ℕ → ℕ → List ℕ → ℕ

@@ -1,19 +1,9 @@
 -- Encodings: their parts and lengths; each pair has one; they are bytes. What is known of every value, also of one
 -- that nothing has read yet: its digest fits the buffer. The encoding of a pair in range is `encoding_of` it.
-use Rattle.std.proofs.Common.{◌≡◌, ℕ, ◌<◌, ◌≤◌, ◌+◌, List, [], ◌∷◌, ◌++◌, length, take, refl, sym, ap, ◌∙◌, arith, length-append}
-use Rattle.std.proofs.Common.{append_assoc, map, get_or}
-use Rattle.multihash.specs.Pair.{Pair, FitsBuffer}
-use Rattle.multihash.specs.Varint.{IsVarint, max_continuation, varint_limit, continuation_bytes}
-use Rattle.multihash.specs.Encoding.{IsEncoding, encoding_of}
-use Rattle.std.proofs.lemmas.List.{take_at, append_cancel_left, append_cancel_right, drop-replicate, length-take}
-use Rattle.std.proofs.lemmas.List.Elements.{All-append, All-push, All-same, All-map, All-head}
-use Rattle.multihash.specs.Bytes.{IsBytes}
+use Rattle.multihash.proofs.Common.{◌≡◌, ℕ, ◌<◌, ◌≤◌, ◌+◌, List, [], ◌∷◌, ◌++◌, length, take, refl, sym, ap, ◌∙◌, arith, length-append, append_assoc, map, get_or, Pair, FitsBuffer, IsVarint, max_continuation, varint_limit, continuation_bytes, IsEncoding, encoding_of, take_at, append_cancel_left, append_cancel_right, drop-replicate, length-take, All-append, All-push, All-same, All-map, All-head, IsBytes, All, AreConcatenated, Fields, pair_of}
 use Rattle.multihash.proofs.DigitLemmas.{All-append_left, All-append_right}
 use Rattle.multihash.proofs.VarintLemmas.{varint_bytes, varint_longest, varint_same, front_within, number_unique}
 use Rattle.multihash.proofs.VarintWriteLemmas.{varint_exists, is_varint_of}
-use Rattle.std.specs.List.{All}
-use Rattle.multihash.specs.Streams.{AreConcatenated}
-use Rattle.multihash.specs.Multihash.{Fields, pair_of}
 
 -- an encoding, made of the varints of the code and of the digest's length, and the digest
 pub encoding_of_parts : (p : Pair) {code size : ℕ} {digest : List ℕ} (a b : List ℕ) → code ≡ p.code → size ≡ length p.digest

@@ -1,19 +1,11 @@
 -- The JSON form: a list has one pair; the bytes that an array's members are.
-use Rattle.std.proofs.Common.{◌≡◌, ℕ, ◌<◌, List, [], ◌∷◌, ◌++◌, map, refl, sym, ap, ◌∙◌, Some, arith, zero, suc, true, false}
-use Rattle.std.proofs.Common.{length, take, drop, set, is_some, Option, None}
+use Rattle.multihash.proofs.Common.{◌≡◌, ℕ, ◌<◌, List, [], ◌∷◌, ◌++◌, map, refl, sym, ap, ◌∙◌, Some, arith, zero, suc, true, false, length, take, drop, set, is_some, Option, None, IsBytes, Pair, IsEncoding, list_all, false≢true, and_parts, lt-ltb, All-nil, All-cons, All-head, All-tail, byte_of_data, member_bytes, is_byte}
 use Rattle.serde_json.specs.Data.{Data, number, unsigned, Items}
 use Rattle.serde_json.specs.View.{items_of, view, items_view}
-use Rattle.multihash.specs.Bytes.{IsBytes}
-use Rattle.multihash.specs.Pair.{Pair}
-use Rattle.multihash.specs.Encoding.{IsEncoding}
 use Rattle.multihash.specs.Json.{number_array, IsByteArray, IsJsonList}
 use Rattle.multihash.proofs.EncodingLemmas.{encoding_unique, encoding_bytes}
-use Rattle.std.specs.List.{list_all}
-use Rattle.std.proofs.lemmas.Bool.{false≢true, and_parts, lt-ltb}
-use Rattle.std.proofs.lemmas.List.Elements.{All-nil, All-cons, All-head, All-tail}
 use Rattle.serde_json.specs.Find.{as_array}
 use Rattle.serde_json.specs.declared.value.Value.{Value}
-use Rattle.multihash.specs.Private.{byte_of_data, member_bytes, is_byte}
 
 abbrev pub numbers : List ℕ → Items
 numbers ns = items_of (map (λ n. number (unsigned n)) ns)

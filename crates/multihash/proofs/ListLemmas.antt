@@ -1,9 +1,7 @@
 -- Lists of multihashes.
-use Rattle.std.proofs.Common.{◌≡◌, ℕ, List, Bool}
+use Rattle.multihash.proofs.Common.{◌≡◌, ℕ, List, Bool, list_any, Fields, pair_of}
 use Rattle.std.specs.Prelude.{◌↔◌, IsTrue, Any}
-use Rattle.std.specs.List.{list_any}
 use Rattle.std.proofs.lemmas.List.Folds.{Any-from_list_any, list_any-from_Any}
-use Rattle.multihash.specs.Multihash.{Fields, pair_of}
 use Rattle.multihash.specs.Comparing.{equal_pairs}
 use Rattle.multihash.proofs.ComparingLemmas.{equal_exactly}
 

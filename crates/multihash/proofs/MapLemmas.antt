@@ -1,12 +1,10 @@
 -- Maps whose keys are multihashes.
-use Rattle.std.proofs.Common.{◌≡◌, ℕ, Bool, sym, ◌∙◌}
+use Rattle.multihash.proofs.Common.{◌≡◌, ℕ, Bool, sym, ◌∙◌, list_any, Fields, pair_of}
 use Rattle.std.specs.Prelude.{◌↔◌, IsTrue, Any, is_some}
 use Rattle.std.specs.Ordering.{is_eq, on}
-use Rattle.std.specs.List.{list_any}
 use Rattle.std.specs.BTreeMap.{BTreeMap, get, keys}
 use Rattle.std.proofs.lemmas.List.Folds.{Any-from_list_any, list_any-from_Any}
 use Rattle.std.proofs.lemmas.Map.Made.{is_some-lookup}
-use Rattle.multihash.specs.Multihash.{Fields, pair_of}
 use Rattle.multihash.specs.Comparing.{compare_pairs}
 use Rattle.multihash.proofs.ComparingLemmas.{tie_exactly}
 

@@ -1,27 +1,10 @@
 -- That the public contracts exclude what a mutant of `must-fail` returns: for one input of each, by the clauses of the call
 -- alone. The name of a lemma is that of its mutant. Where the right body in the place of the wrong one is proved, the
 -- prover's answer to the mutant is evidence by itself, and there is no lemma.
-use Rattle.std.proofs.lemmas.Grind.{common_steps}
-use Rattle.std.proofs.Common.{◌≡◌, ◌≢◌, ◌<◌, ◌⊎◌, ℕ, Bool, List, [], ◌∷◌, ◌++◌, length, true, ltb, refl, sym, ap, subst, arith, inl, inr, length-append, ◌∙◌}
+use Rattle.multihash.proofs.Common.{common_steps, ◌≡◌, ◌≢◌, ◌<◌, ◌⊎◌, ℕ, Bool, List, [], ◌∷◌, ◌++◌, length, true, ltb, refl, sym, ap, subst, arith, inl, inr, length-append, ◌∙◌, list_all, place_value, Other, UnexpectedEof, Refusal, of_io, of_size, of_code, IsIo, Verdict, accepted, invalid_size, unexpected_eof, HasVerdict, HasWholeVerdict, IsIncomplete, IsResultOf, Fields, pair_of, ReadMeets, Consumes, CountsWriterFailures, IsScale, HasScaleVerdict, ConsumesAtScaleError, All, ltb-true, and_parts, All-nil, All-cons, Pair, IsEof, IsReaderError}
 use Rattle.std.specs.Prelude.{Some, Result, Ok, Err}
-use Rattle.std.specs.List.{list_all}
-use Rattle.multihash.specs.Bytes.{place_value}
-use Rattle.multihash.specs.Fault.{Other, UnexpectedEof}
-use Rattle.multihash.specs.Refusal.{Refusal, of_io, of_size, of_code, IsIo}
-use Rattle.multihash.specs.Verdict.{Verdict, accepted, invalid_size, unexpected_eof, HasVerdict, HasWholeVerdict, IsIncomplete}
-use Rattle.multihash.specs.Outcome.{IsResultOf}
-use Rattle.multihash.specs.Multihash.{Fields, pair_of}
-use Rattle.multihash.specs.Consuming.{ReadMeets}
-use Rattle.multihash.specs.Reading.{Consumes}
-use Rattle.multihash.specs.Writing.{CountsWriterFailures}
-use Rattle.multihash.specs.Scale.{IsScale, HasScaleVerdict, ConsumesAtScaleError}
 use Rattle.multihash.specs.Json.{IsJsonList, number_array}
 use Rattle.multihash.proofs.JsonLemmas.{array_unique}
-use Rattle.std.specs.List.{All}
-use Rattle.std.proofs.lemmas.Bool.{ltb-true, and_parts}
-use Rattle.std.proofs.lemmas.List.Elements.{All-nil, All-cons}
-use Rattle.multihash.specs.Pair.{Pair}
-use Rattle.multihash.specs.Refusal.{IsEof, IsReaderError}
 use Rattle.multihash.proofs.ReadingLemmas.{all_read}
 use Rattle.multihash.proofs.ScaleLemmas.{scale_verdict_unique, scale_found, has_scale_found}
 use Rattle.multihash.proofs.SettlingLemmas.{late_settles, verdict_kept}

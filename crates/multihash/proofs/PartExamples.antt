@@ -1,19 +1,10 @@
 -- What parts of definitions reject by themselves, where no other proof needs the part: laws of readers and writers, which
 -- are premises; how `scale_decode` fails; which slice was filled; values and pairs.
-use Rattle.std.proofs.Common.{◌^◌, ◌≡◌, ◌≢◌, ◌<◌, ◌≤◌, ℕ, false, List, [], ◌∷◌, ◌++◌, length, get_or, refl, sym, ap, ◌∙◌, arith, inl, inr}
+use Rattle.multihash.proofs.Common.{◌^◌, ◌≡◌, ◌≢◌, ◌<◌, ◌≤◌, ℕ, false, List, [], ◌∷◌, ◌++◌, length, get_or, refl, sym, ap, ◌∙◌, arith, inl, inr, false≢true, Fault, UnexpectedEof, WriteZero, OutOfMemory, Other, of_io, of_size, of_code, Consumes, ReadLaws, ReadExactLaws, ConsumesAtScaleError, IsWriterFault, AppendsPrefix, WriteLaws, WriteAllLaws, AppendsAtEnd, place_value, ExactlyOne, IsPair, All-head}
 use Rattle.std.specs.Prelude.{Option, Some, None, Result, Ok, Err}
-use Rattle.std.proofs.lemmas.Bool.{false≢true}
-use Rattle.multihash.specs.Fault.{Fault, UnexpectedEof, WriteZero, OutOfMemory, Other}
-use Rattle.multihash.specs.Refusal.{of_io, of_size, of_code}
-use Rattle.multihash.specs.Reading.{Consumes, ReadLaws, ReadExactLaws}
-use Rattle.multihash.specs.Scale.{ConsumesAtScaleError}
-use Rattle.multihash.specs.Writing.{IsWriterFault, AppendsPrefix, WriteLaws, WriteAllLaws, AppendsAtEnd}
 use Rattle.multihash.specs.Filling.{Fills}
 use Rattle.multihash.specs.declared.no_std_io.slice_writer.SliceWriter.{SliceWriter}
 use Rattle.multihash.proofs.MutantExamples.{pair, zeros, truncated_input}
-use Rattle.multihash.specs.Bytes.{place_value, ExactlyOne}
-use Rattle.multihash.specs.Pair.{IsPair}
-use Rattle.std.proofs.lemmas.List.Elements.{All-head}
 
 abbrev other : Fault
 other = Other []

@@ -1,21 +1,5 @@
 -- The contract of `read` for each way to end: in the code, the size or the digest.
-use Rattle.std.proofs.Common.{◌∙◌, ◌≡◌, ◌<◌, ◌⊎◌, ℕ, List, [], ◌++◌, Option, Some, Result, Ok, Err, IfSome, refl, sym, ap, subst}
-use Rattle.std.proofs.Common.{inl, inr, arith, append-nil, ◌≤◌, length, append_assoc}
-use Rattle.multihash.specs.Bytes.{IsStrictPrefix}
-use Rattle.multihash.specs.Pair.{digest_limit}
-use Rattle.multihash.specs.Varint.{insufficient, VarintError, overflow, not_minimal, IsVarint, BeginsMalformed}
-use Rattle.multihash.specs.Encoding.{IsEncoding}
-use Rattle.multihash.specs.Verdict.{Verdict, accepted, invalid_size, invalid_code, malformed, unexpected_eof, HasVerdict, IsIncomplete}
-use Rattle.multihash.specs.Verdict.{BeginsWithSize}
-use Rattle.std.specs.Io.KnownBytes.{IsAtEnd, prepend_known}
-use Rattle.multihash.specs.Reading.{Consumes, HasFewerThan}
-use Rattle.multihash.specs.Fault.{Fault, IsUnexpectedEof, IsOwnFault}
-use Rattle.multihash.specs.Refusal.{Refusal, of_io, of_size, of_code, of_varint, IsReaderError, IsEof, IsInvalidSize, IsVarintError}
-use Rattle.multihash.specs.Refusal.{IsAnyVarintError}
-use Rattle.multihash.specs.Consuming.{ReadMayFailWith, ConsumesShortestSettling, ConsumesNothingSettling, EndsOrFails, ReadMeets}
-use Rattle.multihash.specs.Consuming.{ConsumesAtVarintError}
-use Rattle.multihash.specs.Outcome.{IsErrorOf, IsResultOf}
-use Rattle.multihash.specs.Multihash.{Fields, pair_of}
+use Rattle.multihash.proofs.Common.{◌∙◌, ◌≡◌, ◌<◌, ◌⊎◌, ℕ, List, [], ◌++◌, Option, Some, Result, Ok, Err, IfSome, refl, sym, ap, subst, inl, inr, arith, append-nil, ◌≤◌, length, append_assoc, IsStrictPrefix, digest_limit, insufficient, VarintError, overflow, not_minimal, IsVarint, BeginsMalformed, IsEncoding, Verdict, accepted, invalid_size, invalid_code, malformed, unexpected_eof, HasVerdict, IsIncomplete, BeginsWithSize, IsAtEnd, prepend_known, Consumes, HasFewerThan, Fault, IsUnexpectedEof, IsOwnFault, Refusal, of_io, of_size, of_code, of_varint, IsReaderError, IsEof, IsInvalidSize, IsVarintError, IsAnyVarintError, ReadMayFailWith, ConsumesShortestSettling, ConsumesNothingSettling, EndsOrFails, ReadMeets, ConsumesAtVarintError, IsErrorOf, IsResultOf, Fields, pair_of}
 use Rattle.multihash.proofs.EncodingLemmas.{digest_fits}
 use Rattle.multihash.proofs.ReadingLemmas.{IfSome-consumed, Consumes-concatenated}
 use Rattle.multihash.proofs.VerdictLemmas.{verdict_unique, coded, sized}

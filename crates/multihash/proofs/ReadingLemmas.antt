@@ -1,12 +1,7 @@
 -- What two calls, one after the other, consumed, and what is at the front of a buffer after them.
-use Rattle.std.proofs.Common.{arith}
-use Rattle.std.proofs.Common.{◌≡◌, ℕ, ◌+◌, ◌≤◌, List, [], ◌++◌, Option, None, Some, IfSome, subst, length, take, refl, sym, ap, ◌∙◌}
-use Rattle.std.proofs.Common.{append_assoc, append-nil, length-take-le}
-use Rattle.std.proofs.lemmas.List.{take-append-le}
+use Rattle.multihash.proofs.Common.{arith, ◌≡◌, ℕ, ◌+◌, ◌≤◌, List, [], ◌++◌, Option, None, Some, IfSome, subst, length, take, refl, sym, ap, ◌∙◌, append_assoc, append-nil, length-take-le, take-append-le, prepend_known, IsAtEnd, Consumes}
 use Rattle.std.proofs.Math.Seq.{take-append-add}
 use borrow.Rule.Slice.PartMut.{put_mid}
-use Rattle.std.specs.Io.KnownBytes.{prepend_known, IsAtEnd}
-use Rattle.multihash.specs.Reading.{Consumes}
 
 -- two lists before a rest, prepended one after the other
 pub prepend_known-append : (xs ys : List ℕ) (rest : Option (List ℕ))

@@ -1,26 +1,7 @@
 -- A pair has one SCALE form, an input one verdict; the contract of decoding for each way to end.
-use Rattle.std.proofs.lemmas.Grind.{common_steps}
-use Rattle.std.proofs.Common.{◌≡◌, ℕ, zero, suc, ◌/◌, ◌%◌, ◌^◌, ◌<◌, List, length, get_or, refl, sym, ap, ◌∙◌, arith, ◌+◌, ◌≤◌, cond, ltb}
-use Rattle.std.proofs.Common.{[], ◌∷◌, ◌++◌, take, drop, subst, inl, inr, length-append, append_assoc, append-nil, ◌⊎◌, Option, Result}
-use Rattle.std.proofs.Common.{Ok, Err, IfSome, IfOk, IfErr}
+use Rattle.multihash.proofs.Common.{common_steps, ◌≡◌, ℕ, zero, suc, ◌/◌, ◌%◌, ◌^◌, ◌<◌, List, length, get_or, refl, sym, ap, ◌∙◌, arith, ◌+◌, ◌≤◌, cond, ltb, [], ◌∷◌, ◌++◌, take, drop, subst, inl, inr, length-append, append_assoc, append-nil, ◌⊎◌, Option, Result, Ok, Err, IfSome, IfOk, IfErr, pow-suc, pow-zero, div-add-mod, div-div-eq-div-mul, div-one, div_below, le_bytes_8, All-nil, All-head, All-same, IsBytes, place_value, IsScaleCode, IsScale, HasScaleSize, HasScaleVerdict, ScaleMayFailWith, ConsumesAtScaleError, cases_lt, take-append-drop, length-take-le, append_cancel_left, Pair, varint_limit, Verdict, accepted, invalid_size, invalid_code, unexpected_eof, IsIncomplete, Fault, IsUnexpectedEof, IsOwnFault, Consumes, HasFewerThan, CountsReaderFailures, prepend_known, Refusal, of_io, IsReaderError, IsInvalidSize, IsInvalidCode, IsErrorOf, IsResultOf, Fields, pair_of}
 use Rattle.std.specs.Int.{byte_at, bytes_low_first, to_le_bytes, from_le_bytes, w64}
-use Rattle.std.proofs.Math.Nat.{pow-suc, pow-zero, div-add-mod, div-div-eq-div-mul, div-one}
-use Rattle.std.proofs.lemmas.Nat.{div_below, le_bytes_8}
-use Rattle.std.proofs.lemmas.List.Elements.{All-nil, All-head, All-same}
-use Rattle.multihash.specs.Bytes.{IsBytes, place_value}
-use Rattle.multihash.specs.Scale.{IsScaleCode, IsScale, HasScaleSize, HasScaleVerdict, ScaleMayFailWith, ConsumesAtScaleError}
 use Rattle.multihash.proofs.DigitLemmas.{place_value-nil, place_value-cons, place_value_unique, All-append_left, All-append_right}
-use Rattle.std.proofs.lemmas.Bool.{cases_lt}
-use Rattle.std.proofs.lemmas.List.{take-append-drop, length-take-le, append_cancel_left}
-use Rattle.multihash.specs.Pair.{Pair}
-use Rattle.multihash.specs.Varint.{varint_limit}
-use Rattle.multihash.specs.Verdict.{Verdict, accepted, invalid_size, invalid_code, unexpected_eof, IsIncomplete}
-use Rattle.multihash.specs.Fault.{Fault, IsUnexpectedEof, IsOwnFault}
-use Rattle.multihash.specs.Reading.{Consumes, HasFewerThan, CountsReaderFailures}
-use Rattle.std.specs.Io.KnownBytes.{prepend_known}
-use Rattle.multihash.specs.Refusal.{Refusal, of_io, IsReaderError, IsInvalidSize, IsInvalidCode}
-use Rattle.multihash.specs.Outcome.{IsErrorOf, IsResultOf}
-use Rattle.multihash.specs.Multihash.{Fields, pair_of}
 use Rattle.multihash.proofs.ReadingLemmas.{IfSome-consumed, Consumes-concatenated}
 use Rattle.multihash.proofs.ReadConsumingLemmas.{error_unique, own_no_verdict}
 

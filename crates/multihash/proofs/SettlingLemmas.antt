@@ -1,19 +1,7 @@
 -- An input settles its verdict exactly if that is not incomplete; the shortest prefix that does.
-use Rattle.std.proofs.lemmas.Grind.{common_steps}
-use Rattle.std.proofs.Common.{◌≡◌, ℕ, ◌⊎◌, List, [], ◌∷◌, ◌++◌, refl, inl, inr, ◌-◌, ◌<◌, ◌↔◌, length, replicate, sym, ap, ◌∙◌, subst}
-use Rattle.std.proofs.Common.{arith, length-append, append_assoc, append-nil, ◌+◌, ◌≤◌, get_or}
-use Rattle.multihash.specs.Bytes.{IsStrictPrefix, IsBytes, IsPrefix, ExactlyOne}
-use Rattle.std.proofs.lemmas.List.{length-replicate, get_or_append_left, length-map}
-use Rattle.std.proofs.lemmas.List.Elements.{All-nil, All-cons, All-replicate}
-use Rattle.multihash.specs.Varint.{IsContinuation, VarintError, insufficient, overflow, not_minimal, IsInsufficient, IsNotMinimal}
-use Rattle.multihash.specs.Varint.{BeginsMalformed, max_continuation, continuation_bytes, IsVarint}
-use Rattle.multihash.specs.Verdict.{Verdict, accepted, invalid_size, invalid_code, malformed, unexpected_eof, BeginsWithSize}
-use Rattle.multihash.specs.Verdict.{BeginsWithCode, HasVerdict, IsIncomplete, BeginsWith}
+use Rattle.multihash.proofs.Common.{common_steps, ◌≡◌, ℕ, ◌⊎◌, List, [], ◌∷◌, ◌++◌, refl, inl, inr, ◌-◌, ◌<◌, ◌↔◌, length, replicate, sym, ap, ◌∙◌, subst, arith, length-append, append_assoc, append-nil, ◌+◌, ◌≤◌, get_or, IsStrictPrefix, IsBytes, IsPrefix, ExactlyOne, length-replicate, get_or_append_left, length-map, All-nil, All-cons, All-replicate, IsContinuation, VarintError, insufficient, overflow, not_minimal, IsInsufficient, IsNotMinimal, BeginsMalformed, max_continuation, continuation_bytes, IsVarint, Verdict, accepted, invalid_size, invalid_code, malformed, unexpected_eof, BeginsWithSize, BeginsWithCode, HasVerdict, IsIncomplete, BeginsWith, All, Pair, FitsBuffer, digest_limit, IsEncoding}
 use Rattle.multihash.specs.Settling.{Settles, IsShortestSettling}
 use Rattle.multihash.proofs.VerdictLemmas.{coded, sized, pair_begins, verdict_unique}
-use Rattle.std.specs.List.{All}
-use Rattle.multihash.specs.Pair.{Pair, FitsBuffer, digest_limit}
-use Rattle.multihash.specs.Encoding.{IsEncoding}
 use Rattle.multihash.proofs.DigitLemmas.{All-continuation_bytes}
 use Rattle.multihash.proofs.VarintLemmas.{varint_length, number_no_error}
 use Rattle.multihash.proofs.WritingLemmas.{length_of_not_nil}

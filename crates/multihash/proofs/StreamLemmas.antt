@@ -1,18 +1,9 @@
 -- Parts in a stream, none of which is a prefix of another, can be split in one way only; one more pair has been
 -- consumed.
-use Rattle.std.proofs.Common.{◌≡◌, ℕ, ◌<◌, ◌≤◌, List, [], ◌∷◌, ◌++◌, length, refl, sym, ap, ◌∙◌, subst, arith, length-append}
-use Rattle.std.proofs.Common.{append_assoc, append-nil, Option, map}
-use Rattle.std.specs.List.{All}
-use Rattle.multihash.specs.Pair.{Pair, FitsBuffer}
-use Rattle.multihash.specs.Encoding.{IsEncoding}
-use Rattle.multihash.specs.Streams.{AreParts, AreConcatenated, ConsumesPairs}
+use Rattle.multihash.proofs.Common.{◌≡◌, ℕ, ◌<◌, ◌≤◌, List, [], ◌∷◌, ◌++◌, length, refl, sym, ap, ◌∙◌, subst, arith, length-append, append_assoc, append-nil, Option, map, All, Pair, FitsBuffer, IsEncoding, AreParts, AreConcatenated, ConsumesPairs, map_push, nil_from_length, All-push, All-head, Consumes, Fields, pair_of}
 use Rattle.multihash.proofs.DigitLemmas.{All-append_right}
 use Rattle.multihash.proofs.VarintLemmas.{varint_some}
 use Rattle.multihash.proofs.EncodingLemmas.{encoding_unique}
-use Rattle.std.proofs.lemmas.List.{map_push, nil_from_length}
-use Rattle.std.proofs.lemmas.List.Elements.{All-push, All-head}
-use Rattle.multihash.specs.Reading.{Consumes}
-use Rattle.multihash.specs.Multihash.{Fields, pair_of}
 use Rattle.multihash.proofs.ReadingLemmas.{Consumes-concatenated}
 
 module _ {A : Type 0} (IsPart : A → List ℕ → Type 0) where

@@ -1,19 +1,9 @@
 -- A number has one varint, whose length is known, and an input has one front.
-use Rattle.std.proofs.Common.{◌≡◌, ℕ, zero, suc, ◌+◌, ◌-◌, ◌%◌, cond, ltb, ◌^◌, ◌<◌, ◌≤◌, List, [], ◌∷◌, ◌++◌, length, refl, sym, ap, ◌∙◌}
-use Rattle.std.proofs.Common.{arith, inl, inr, append_assoc, append-nil, ◌*◌, ◌/◌, length-append, subst}
-use Rattle.std.specs.List.{All}
-use Rattle.std.proofs.Math.Nat.{lt_of_not-le, mod-eq_of_lt, mul-le-mul_right, pow-le-pow_right}
-use Rattle.std.proofs.lemmas.Bool.{cases_lt, lt-ltb, le-ltb}
-use Rattle.std.proofs.lemmas.List.{length-map, length_push, map_push, same_from_push}
-use Rattle.std.proofs.lemmas.List.Elements.{All-nil, All-head, All-tail, All-push}
-use Rattle.multihash.specs.Bytes.{IsBytes, place_value}
-use Rattle.multihash.specs.Varint.{varint_limit, max_continuation, last_byte_limit, IsContinuation, continuation_bytes, IsVarint}
-use Rattle.multihash.specs.Varint.{IsOverflow, IsNotMinimal, VarintError, insufficient, overflow, not_minimal, BeginsMalformed}
+use Rattle.multihash.proofs.Common.{◌≡◌, ℕ, zero, suc, ◌+◌, ◌-◌, ◌%◌, cond, ltb, ◌^◌, ◌<◌, ◌≤◌, List, [], ◌∷◌, ◌++◌, length, refl, sym, ap, ◌∙◌, arith, inl, inr, append_assoc, append-nil, ◌*◌, ◌/◌, length-append, subst, All, lt_of_not-le, mod-eq_of_lt, mul-le-mul_right, pow-le-pow_right, cases_lt, lt-ltb, le-ltb, length-map, length_push, map_push, same_from_push, All-nil, All-head, All-tail, All-push, IsBytes, place_value, varint_limit, max_continuation, last_byte_limit, IsContinuation, continuation_bytes, IsVarint, IsOverflow, IsNotMinimal, VarintError, insufficient, overflow, not_minimal, BeginsMalformed, leading_top}
 use Rattle.multihash.proofs.DigitLemmas.{place_value_below, place_value_last, place_value_unique, pow_power, All-append_left}
 use Rattle.multihash.proofs.DigitLemmas.{All-append_right, All-continuation_bytes, IsDigit, low_digits, low_digits_below}
 use Rattle.multihash.proofs.DigitLemmas.{continuation_bytes-low_digits, low_digits-continuation_bytes}
 use Rattle.std.specs.Int.{w64, leading_zeros}
-use Rattle.std.proofs.lemmas.Nat.{leading_top}
 
 -- ---- the length of a varint
 

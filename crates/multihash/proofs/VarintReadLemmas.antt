@@ -1,19 +1,5 @@
 -- Reading a varint byte by byte: the invariant of the loop, and what has been consumed at its end.
-use Rattle.std.proofs.Common.{◌≡◌, ℕ, ◌+◌, ◌*◌, ◌%◌, ◌^◌, ◌<◌, ◌≤◌, ◌⊎◌, List, [], ◌∷◌, ◌++◌, length, Option, refl, sym, ap, ◌∙◌}
-use Rattle.std.proofs.Common.{inl, inr, arith, append_assoc, bit_and, bit_or}
-use Rattle.std.specs.List.{All}
-use Rattle.std.specs.Io.KnownBytes.{IsAtEnd, prepend_known}
-use Rattle.std.proofs.Math.Nat.{lt_of_not-le}
-use Rattle.std.proofs.lemmas.Nat.{and_mask}
-use Rattle.std.proofs.lemmas.List.{length_push, nil_from_length}
-use Rattle.std.proofs.lemmas.List.Elements.{All-push}
-use Rattle.multihash.specs.Bytes.{IsBytes, IsStrictPrefix, place_value}
-use Rattle.multihash.specs.Varint.{max_continuation, last_byte_limit, IsContinuation, VarintError, insufficient, overflow, not_minimal}
-use Rattle.multihash.specs.Varint.{IsInsufficient, BeginsMalformed}
-use Rattle.multihash.specs.Fault.{Fault}
-use Rattle.multihash.specs.Reading.{Consumes}
-use Rattle.multihash.specs.Refusal.{Refusal, of_io, of_varint}
-use Rattle.multihash.specs.Consuming.{ConsumesVarint, ConsumesAtVarintError}
+use Rattle.multihash.proofs.Common.{◌≡◌, ℕ, ◌+◌, ◌*◌, ◌%◌, ◌^◌, ◌<◌, ◌≤◌, ◌⊎◌, List, [], ◌∷◌, ◌++◌, length, Option, refl, sym, ap, ◌∙◌, inl, inr, arith, append_assoc, bit_and, bit_or, All, IsAtEnd, prepend_known, lt_of_not-le, and_mask, length_push, nil_from_length, All-push, IsBytes, IsStrictPrefix, place_value, max_continuation, last_byte_limit, IsContinuation, VarintError, insufficient, overflow, not_minimal, IsInsufficient, BeginsMalformed, Fault, Consumes, Refusal, of_io, of_varint, ConsumesVarint, ConsumesAtVarintError}
 use Rattle.multihash.proofs.DigitLemmas.{place_value-nil, place_value-cons, low_digits, or_digits}
 use Rattle.multihash.proofs.VarintLemmas.{low_digits_in_range, varint_from_bytes, overflow_after, zero_after}
 use Rattle.multihash.proofs.ReadingLemmas.{Consumes-concatenated}

@@ -1,17 +1,6 @@
 -- The invariant of the loop that writes a varint's bytes; each number in range has a varint.
-use Rattle.std.proofs.lemmas.Grind.{common_steps}
-use Rattle.std.proofs.Common.{◌≡◌, ℕ, zero, suc, ◌+◌, ◌*◌, ◌/◌, ◌%◌, ◌^◌, ◌<◌, ◌≤◌, List, [], ◌∷◌, ◌++◌, length, refl, sym, ap, ◌∙◌}
-use Rattle.std.proofs.Common.{arith, add-one, append_assoc, inl, inr, bit_and, bit_or}
-use Rattle.std.specs.List.{All}
-use Rattle.std.proofs.Math.Nat.{lt_of_not-le, pow-suc, pow-zero, div-add-mod'}
-use Rattle.std.proofs.lemmas.Nat.{mod_below, div_below}
-use Rattle.std.proofs.lemmas.List.{map_push, length_push, nil_from_length}
-use Rattle.std.proofs.lemmas.List.Elements.{All-push}
-use Rattle.std.proofs.lemmas.Bool.{cases_lt, lt-ltb, le-ltb}
-use Rattle.multihash.specs.Bytes.{place_value}
-use Rattle.multihash.specs.Varint.{varint_limit, max_continuation, continuation_bytes, IsVarint}
+use Rattle.multihash.proofs.Common.{common_steps, ◌≡◌, ℕ, zero, suc, ◌+◌, ◌*◌, ◌/◌, ◌%◌, ◌^◌, ◌<◌, ◌≤◌, List, [], ◌∷◌, ◌++◌, length, refl, sym, ap, ◌∙◌, arith, add-one, append_assoc, inl, inr, bit_and, bit_or, All, lt_of_not-le, pow-suc, pow-zero, div-add-mod', mod_below, div_below, map_push, length_push, nil_from_length, All-push, cases_lt, lt-ltb, le-ltb, place_value, varint_limit, max_continuation, continuation_bytes, IsVarint, varint_within, varint_of}
 use Rattle.multihash.proofs.DigitLemmas.{place_value-nil, place_value_last, IsDigit}
-use Rattle.multihash.specs.Encoding.{varint_within, varint_of}
 
 -- that many digits have been written, and the rest is the number of those still to come
 pub record Wrote (now : List ℕ) (len n rest : ℕ) : Type 0 where

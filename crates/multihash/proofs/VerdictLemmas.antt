@@ -1,22 +1,9 @@
 -- An input has one verdict; the two varints at its front.
-use Rattle.std.proofs.Common.{◌≡◌, ℕ, ◌<◌, ◌≤◌, cond, ltb, List, [], ◌∷◌, ◌++◌, length, take, drop, refl, sym, ap, ◌∙◌, subst, arith, inl}
-use Rattle.std.proofs.Common.{inr, length-append, append-nil, ◌+◌, ◌-◌, Some, get_or}
-use Rattle.std.proofs.lemmas.Bool.{cases_lt, lt-ltb, le-ltb}
-use Rattle.std.proofs.lemmas.List.{take_at, drop_at, take-append-drop, length-take-le, length-drop, drop-drop}
-use Rattle.std.proofs.lemmas.List.Elements.{All-same}
-use Rattle.multihash.specs.Bytes.{IsBytes}
-use Rattle.multihash.specs.Pair.{Pair, FitsBuffer, digest_limit}
-use Rattle.multihash.specs.Varint.{IsVarint}
-use Rattle.multihash.specs.Encoding.{IsEncoding}
-use Rattle.multihash.specs.Verdict.{Verdict, accepted, invalid_size, invalid_code, malformed, unexpected_eof, BeginsWith, BeginsWithSize}
-use Rattle.multihash.specs.Verdict.{BeginsWithCode, HasVerdict, HasWholeVerdict, HasHead}
+use Rattle.multihash.proofs.Common.{◌≡◌, ℕ, ◌<◌, ◌≤◌, cond, ltb, List, [], ◌∷◌, ◌++◌, length, take, drop, refl, sym, ap, ◌∙◌, subst, arith, inl, inr, length-append, append-nil, ◌+◌, ◌-◌, Some, get_or, cases_lt, lt-ltb, le-ltb, take_at, drop_at, take-append-drop, length-take-le, length-drop, drop-drop, All-same, IsBytes, Pair, FitsBuffer, digest_limit, IsVarint, IsEncoding, Verdict, accepted, invalid_size, invalid_code, malformed, unexpected_eof, BeginsWith, BeginsWithSize, BeginsWithCode, HasVerdict, HasWholeVerdict, HasHead, Refusal, ConsumesVarint, IsErrorOf}
 use Rattle.multihash.proofs.DigitLemmas.{All-append_right}
 use Rattle.multihash.proofs.VarintWriteLemmas.{one_byte}
 use Rattle.multihash.proofs.VarintLemmas.{Front, number, error, HasFront, front_is, front_of, front_of_has}
 use Rattle.multihash.proofs.EncodingLemmas.{encoding_cut}
-use Rattle.multihash.specs.Refusal.{Refusal}
-use Rattle.multihash.specs.Consuming.{ConsumesVarint}
-use Rattle.multihash.specs.Outcome.{IsErrorOf}
 use Rattle.multihash.proofs.ReadingLemmas.{Consumes-cut}
 
 -- ---- two varints, one after the other

@@ -1,20 +1,9 @@
 -- The word of a slice's first bytes, and what it shows of the varint at their front. All for speed: no loop
 -- over the bytes of a varint.
-use Rattle.std.proofs.lemmas.Grind.{common_steps}
-use Rattle.std.proofs.Common.{◌≡◌, ℕ, zero, suc, ◌-◌, ◌<◌, ◌≤◌, List, [], ◌++◌, length, get_or, take, drop, replicate, sym, ap, ◌∙◌}
-use Rattle.std.proofs.Common.{arith, length-append, add-one, ◌+◌, ◌*◌, ◌/◌, ◌%◌, ◌^◌, ◌∷◌, bit_and, bit_or}
+use Rattle.multihash.proofs.Common.{common_steps, ◌≡◌, ℕ, zero, suc, ◌-◌, ◌<◌, ◌≤◌, List, [], ◌++◌, length, get_or, take, drop, replicate, sym, ap, ◌∙◌, arith, length-append, add-one, ◌+◌, ◌*◌, ◌/◌, ◌%◌, ◌^◌, ◌∷◌, bit_and, bit_or, drop-replicate, length-replicate, length-take, length-take-le, take_all, get_or_past, get_or-take, nil_from_length, take_more, take-take, take-append-drop, drop_more, All-from_get_or, All-nil, All-take, All-more, IsBytes, place_value, IsFrontWord, BeginsWithContinuation, digits_low, lt_of_not-le, and_le_r, and_mask, max_continuation, last_byte_limit, IsContinuation, IsVarint, IsInsufficient, IsOverflow, IsNotMinimal}
 use Rattle.std.specs.Int.{byte_worth, sum_through, from_le_bytes, w128}
 use Rattle.std.proofs.Math.Seq.{take-suc}
-use Rattle.std.proofs.lemmas.List.{drop-replicate, length-replicate, length-take, length-take-le, take_all, get_or_past, get_or-take}
-use Rattle.std.proofs.lemmas.List.{nil_from_length, take_more, take-take, take-append-drop, drop_more}
-use Rattle.std.proofs.lemmas.List.Elements.{All-from_get_or, All-nil, All-take, All-more}
-use Rattle.multihash.specs.Bytes.{IsBytes, place_value}
-use Rattle.multihash.specs.Private.{IsFrontWord, BeginsWithContinuation, digits_low}
 use Rattle.multihash.proofs.DigitLemmas.{place_value-nil, place_value-cons, place_value_append, place_value_last, low_digits, or_digits}
-use Rattle.std.proofs.Math.Nat.{lt_of_not-le}
-use Rattle.std.proofs.lemmas.Nat.{and_le_r, and_mask}
-use Rattle.multihash.specs.Varint.{max_continuation, last_byte_limit, IsContinuation, IsVarint}
-use Rattle.multihash.specs.Varint.{IsInsufficient, IsOverflow, IsNotMinimal}
 use Rattle.multihash.proofs.VarintLemmas.{varint_from_bytes, overflow_after, zero_after}
 use Rattle.multihash.proofs.WordLemmas.{byte_at, byte_of, low_bytes, digits_low_of, stops, stop_at, varint_bits, StopsAt, first_unmarked}
 use Rattle.multihash.proofs.WordLemmas.{kept_last}

@@ -1,22 +1,12 @@
 -- The bytes of a word, the number of its digits, and the first byte of a half that is no continuation byte.
-use Rattle.std.proofs.lemmas.Grind.{common_steps}
-use Rattle.std.proofs.Common.{◌≡◌, ℕ, zero, suc, ◌+◌, ◌-◌, ◌*◌, ◌/◌, ◌%◌, ◌^◌, ◌<◌, ◌≤◌, List, [], ◌∷◌, length, get_or, take, drop, sym}
-use Rattle.std.proofs.Common.{ap, ◌∙◌, arith, bit_and, replicate, refl, add-one, inl, inr}
-use Rattle.std.proofs.Math.Nat.{mul-suc, mul_assoc, lt_of_not-le}
-use Rattle.std.proofs.lemmas.Nat.{shr-shr, shr_high, mod_low, pow-add, pow_pos, and_assoc, and-not, and_comm, and_le_l}
-use Rattle.std.proofs.lemmas.Nat.{and_le_r, and_mask, and_mod, and_shr, field_of, mod-pow-add, shr_le, shr_split}
+use Rattle.multihash.proofs.Common.{common_steps, ◌≡◌, ℕ, zero, suc, ◌+◌, ◌-◌, ◌*◌, ◌/◌, ◌%◌, ◌^◌, ◌<◌, ◌≤◌, List, [], ◌∷◌, length, get_or, take, drop, sym, ap, ◌∙◌, arith, bit_and, replicate, refl, add-one, inl, inr, mul-suc, mul_assoc, lt_of_not-le, shr-shr, shr_high, mod_low, pow-add, pow_pos, and_assoc, and-not, and_comm, and_le_l, and_le_r, and_mask, and_mod, and_shr, field_of, mod-pow-add, shr_le, shr_split, get_or-replicate, All-head, All-tail, All-replicate, IsBytes, place_value, digits_low, cases_lt}
 use Rattle.std.proofs.lemmas.Nat.Bits.{bit_at-suc, bit_at-zero, bit_at_and, bit_at_cat_low, bit_at_not, bit_at-pow_other}
 use Rattle.std.proofs.lemmas.Nat.Bits.{bit_at-trailing_zeros}
-use Rattle.std.proofs.lemmas.List.{get_or-replicate}
-use Rattle.std.proofs.lemmas.List.Elements.{All-head, All-tail, All-replicate}
-use Rattle.multihash.specs.Bytes.{IsBytes, place_value}
-use Rattle.multihash.specs.Private.{digits_low}
 use Rattle.multihash.proofs.DigitLemmas.{place_value-nil, place_value-cons, low_digits}
 use Prim.Native.Nat.{min}
 use Rattle.std.specs.Int.{w64, bit_at, bit_not, trailing_zeros}
 use Rattle.std.specs.Int.Bits.{and_self}
 use Rattle.std.specs.Int.Count.{trailing_of_zero}
-use Rattle.std.proofs.lemmas.Bool.{cases_lt}
 
 -- ---- bytes
 

@@ -1,14 +1,6 @@
 -- What has been appended after several writes; a writer to a slice fails only if its capacity is too small.
-use Rattle.std.proofs.lemmas.Grind.{common_steps}
-use Rattle.std.proofs.Common.{◌≡◌, ◌≢◌, ◌<◌, [], ◌∷◌, refl, ℕ, ◌-◌, List, ◌++◌, length, take, drop, Result, OnErr, sym, ap, ◌∙◌, arith}
-use Rattle.std.proofs.Common.{append_assoc, take-append-drop, length-append, length-drop, ◌≤◌, false, IsOk, ◌+◌}
-use Rattle.std.proofs.lemmas.List.{take_rest, length-take-le, drop-drop}
+use Rattle.multihash.proofs.Common.{common_steps, ◌≡◌, ◌≢◌, ◌<◌, [], ◌∷◌, refl, ℕ, ◌-◌, List, ◌++◌, length, take, drop, Result, OnErr, sym, ap, ◌∙◌, arith, append_assoc, take-append-drop, length-append, length-drop, ◌≤◌, false, IsOk, ◌+◌, take_rest, length-take-le, drop-drop, IsStrictPrefix, AppendsPrefix, IsWriterFaultOrFull, CountsWriterFailures, OnErr-always, Fault, Refusal, IsIo}
 use Rattle.std.proofs.Math.Seq.{drop-append_seam, take-append_seam}
-use Rattle.multihash.specs.Bytes.{IsStrictPrefix}
-use Rattle.multihash.specs.Writing.{AppendsPrefix, IsWriterFaultOrFull, CountsWriterFailures}
-use Rattle.multihash.proofs.OutcomeLemmas.{OnErr-always}
-use Rattle.multihash.specs.Fault.{Fault}
-use Rattle.multihash.specs.Refusal.{Refusal, IsIo}
 use Rattle.multihash.specs.Filling.{FillsSlice, Fills, IsFilled}
 use Rattle.multihash.specs.declared.no_std_io.slice_writer.SliceWriter.{SliceWriter}
 

@@ -1,7 +1,6 @@
 -- The loop keeps that the values so far are the front of the bytes; any other list of values with these bytes is the same so
 -- far, has one more or is longer than the bytes (`parts_compared`).
-use Rattle.std.proofs.Common.{◌≡◌, ◌++◌, ℕ, List, [], ◌∷◌, length, length-append, append_assoc, append-nil, inl, inr}
-use Rattle.std.proofs.Common.{sym, ap, ◌∙◌, arith, rules}
+use Rattle.form.proofs.Common.{◌≡◌, ◌++◌, ℕ, List, [], ◌∷◌, length, length-append, append_assoc, append-nil, inl, inr, sym, ap, ◌∙◌, arith, rules}
 use Rattle.multihash.proofs.OutcomeLemmas.{passed_error}
 use Rattle.multihash.proofs.StreamLemmas.{parts_push}
 use Rattle.form.proofs.WholeLemmas.{parts_compared, empty_is, not_empty}

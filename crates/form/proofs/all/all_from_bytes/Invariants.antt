@@ -1,6 +1,5 @@
 -- The encodings of the values so far, and the rest, are the bytes.
-use Rattle.std.proofs.Common.{◌≡◌, ◌++◌, ℕ, List, length}
-use Rattle.multihash.specs.Streams.{AreParts}
+use Rattle.form.proofs.Common.{◌≡◌, ◌++◌, ℕ, List, length, AreParts}
 use Rattle.form.proofs.all.all_from_bytes.Given as goal
 
 abbrev pub invariant-loop-rest : goal.invariant-loop-rest

@@ -1,6 +1,5 @@
 -- The loop keeps that the bytes so far were consumed; what a failure at the next chunk shows, the whole shows (`exact_after`).
-use Rattle.std.proofs.Common.{inr, refl, rules}
-use Rattle.multihash.specs.Refusal.{of_io}
+use Rattle.form.proofs.Common.{inr, refl, rules, of_io}
 use Rattle.multihash.proofs.CallingLemmas.{exact_fails, exact_after}
 use Rattle.multihash.proofs.OutcomeLemmas.{passed_error}
 use Rattle.form.specs.declared.error.FormError.TheVariants.{Failed}

@@ -1,6 +1,5 @@
 -- The bytes so far were consumed, and the reader did not fail.
-use Rattle.std.proofs.Common.{◌≡◌, ◌≤◌, ◌-◌, length}
-use Rattle.multihash.specs.Reading.{Consumes}
+use Rattle.form.proofs.Common.{◌≡◌, ◌≤◌, ◌-◌, length, Consumes}
 use Rattle.form.proofs.block.read_bytes.Given as goal
 
 abbrev pub invariant-loop-chunk : goal.invariant-loop-chunk

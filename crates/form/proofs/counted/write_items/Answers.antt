@@ -1,12 +1,8 @@
 -- The loop keeps that the bytes appended so far and those of the items that are left are the bytes of all items, so a failure at
 -- any item has appended a strict prefix of them.
-use Rattle.std.proofs.Common.{◌+◌, ℕ, List, [], ◌∷◌, ◌++◌, drop, refl, sym, ap, ◌∙◌, append_assoc, append-nil}
-use Rattle.std.proofs.lemmas.List.{drop_more, drop_all}
-use Rattle.multihash.specs.Streams.{AreParts}
+use Rattle.form.proofs.Common.{◌+◌, ℕ, List, [], ◌∷◌, ◌++◌, drop, refl, sym, ap, ◌∙◌, append_assoc, append-nil, drop_more, drop_all, AreParts, AppendsPrefixOfSome, items_exist}
 use Rattle.multihash.proofs.OutcomeLemmas.{OnErr-always}
 use Rattle.multihash.proofs.WritingLemmas.{appends_both, AppendsPrefix-append, AppendsPrefix-concatenated}
-use Rattle.form.specs.Form.{AppendsPrefixOfSome}
-use Rattle.form.specs.Laws.Parts.{items_exist}
 use Rattle.form.proofs.counted.write_items.Given as given
 use Rattle.form.proofs.counted.write_items.Goals as goal
 use Rattle.form.proofs.counted.write_items.Goals.{After-item-item}

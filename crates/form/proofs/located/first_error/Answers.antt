@@ -1,7 +1,5 @@
 -- The place is that of a first error, and there is only one.
-use Rattle.std.proofs.Common.{◌≡◌, ◌++◌, ◌∷◌, [], ◌∙◌, ℕ, List, length, length-append, append_assoc, append-nil, ap, sym, inl, inr, subst, arith}
-use Rattle.std.proofs.Common.{Bool, true, false}
-use Rattle.multihash.specs.Streams.{AreParts}
+use Rattle.form.proofs.Common.{◌≡◌, ◌++◌, ◌∷◌, [], ◌∙◌, ℕ, List, length, length-append, append_assoc, append-nil, ap, sym, inl, inr, subst, arith, Bool, true, false, AreParts}
 use Rattle.multihash.proofs.ReadingLemmas.{Consumes-known}
 use Rattle.multihash.proofs.StreamLemmas.{parts_push}
 use Rattle.form.proofs.WholeLemmas.{not_empty, empty_is, known_is}

@@ -1,5 +1,4 @@
-use Rattle.std.proofs.Common.{arith}
-use Rattle.std.proofs.lemmas.Grind.{common_steps}
+use Rattle.multihash.proofs.Common.{arith, common_steps}
 use Rattle.std.proofs.Output.{has_written_styled_append}
 use Rattle.multihash.proofs.error.write_number_text.Goals as goal
 

@@ -1,10 +1,7 @@
 -- The test tells which case holds: the members are all bytes, so the value is their array (`byte_array`), or one is not, so the
 -- value is no byte array (`no_byte_array`).
-use Rattle.std.proofs.Common.{arith}
-use Rattle.std.proofs.Common.{◌≡◌, Some, true, sym, ap, ◌∙◌}
-use Rattle.std.specs.List.{list_all}
+use Rattle.multihash.proofs.Common.{arith, ◌≡◌, Some, true, sym, ap, ◌∙◌, list_all, is_byte}
 use Rattle.serde_json.specs.View.{view, items_view}
-use Rattle.multihash.specs.Private.{is_byte}
 use Rattle.multihash.proofs.JsonLemmas.{byte_array, no_byte_array}
 use Rattle.multihash.proofs.json.byte_members.Goals as goal
 

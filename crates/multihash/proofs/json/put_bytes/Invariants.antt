@@ -1,6 +1,5 @@
 -- The buffer's first bytes and the bytes of the members to come are the bytes of all members.
-use Rattle.std.proofs.Common.{◌≡◌, ◌++◌, take, drop}
-use Rattle.multihash.specs.Private.{member_bytes}
+use Rattle.multihash.proofs.Common.{◌≡◌, ◌++◌, take, drop, member_bytes}
 use Rattle.multihash.proofs.json.put_bytes.Given as goal
 
 abbrev pub invariant-loop-at : goal.invariant-loop-at

@@ -1,7 +1,6 @@
 -- An array determines its bytes (`array_unique`), and these encode the pair (`json_bytes`), so what holds of encodings holds of
 -- arrays.
-use Rattle.std.proofs.Common.{sym, ◌∙◌}
-use Rattle.multihash.specs.Verdict.{accepted}
+use Rattle.multihash.proofs.Common.{sym, ◌∙◌, accepted}
 use Rattle.multihash.proofs.VerdictLemmas.{whole_verdict_unique}
 use Rattle.multihash.proofs.JsonLemmas.{array_unique, json_same, json_bytes, json_is_array}
 use Rattle.multihash.proofs.laws.json_unique.Goals as goal

@@ -1,7 +1,6 @@
 -- Two encodings at the front of one input are equal (`encoding_unique`), and an input has one verdict (`verdict_unique`); the
 -- other clauses follow.
-use Rattle.std.proofs.Common.{[], refl, ◌++◌, sym, ◌∙◌, append-nil, arith}
-use Rattle.multihash.specs.Verdict.{accepted}
+use Rattle.multihash.proofs.Common.{[], refl, ◌++◌, sym, ◌∙◌, append-nil, arith, accepted}
 use Rattle.multihash.proofs.VerdictLemmas.{verdict_unique}
 use Rattle.multihash.proofs.laws.prefix_free.Goals as goal
 use Rattle.multihash.proofs.EncodingLemmas.{encoding_exists, encoding_unique, encoding_same}

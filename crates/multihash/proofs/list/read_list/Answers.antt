@@ -1,13 +1,7 @@
 -- The loop keeps that the encodings of the items so far were consumed; an error of `read` stops after these, and a list that is
 -- returned has as many as were asked for.
-use Rattle.std.proofs.Common.{◌≡◌, ◌<◌, ℕ, List, Option, ◌⊎◌, Result, IfErr, length, map, inl, inr, arith, ◌∙◌}
+use Rattle.multihash.proofs.Common.{◌≡◌, ◌<◌, ℕ, List, Option, ◌⊎◌, Result, IfErr, length, map, inl, inr, arith, ◌∙◌, length-map, length_push, Refusal, IsOutOfMemory, ReadFails, ConsumesPairs, StopsAfterPairs, Fields, pair_of, passed_error}
 use Rattle.std.specs.Result.{IsErrAnd}
-use Rattle.std.proofs.lemmas.List.{length-map, length_push}
-use Rattle.multihash.specs.Refusal.{Refusal, IsOutOfMemory}
-use Rattle.multihash.specs.Consuming.{ReadFails}
-use Rattle.multihash.specs.Streams.{ConsumesPairs, StopsAfterPairs}
-use Rattle.multihash.specs.Multihash.{Fields, pair_of}
-use Rattle.multihash.proofs.OutcomeLemmas.{passed_error}
 use Rattle.multihash.proofs.StreamLemmas.{ConsumesPairs-more}
 use Rattle.multihash.proofs.list.read_list.Goals as goal
 

@@ -1,7 +1,5 @@
 -- The pairs so far have been consumed, the capacity suffices for the others, and no read failed.
-use Rattle.std.proofs.Common.{◌≡◌, ◌≤◌, length, map, vec_capacity}
-use Rattle.multihash.specs.Streams.{ConsumesPairs}
-use Rattle.multihash.specs.Multihash.{pair_of}
+use Rattle.multihash.proofs.Common.{◌≡◌, ◌≤◌, length, map, vec_capacity, ConsumesPairs, pair_of}
 use Rattle.multihash.proofs.list.read_list.Given as goal
 
 abbrev pub invariant-loop : goal.invariant-loop

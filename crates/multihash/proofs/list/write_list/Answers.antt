@@ -1,13 +1,6 @@
 -- The loop keeps that the bytes appended so far and the encodings of the items that are left are those of all items, so a
 -- failure at any item has appended a strict prefix of them.
-use Rattle.std.proofs.Common.{arith}
-use Rattle.std.proofs.Common.{◌+◌, ℕ, List, [], ◌++◌, map, drop, refl, ◌∙◌, append_assoc, append-nil}
-use Rattle.std.proofs.lemmas.List.{drop_more, drop_all}
-use Rattle.multihash.specs.Multihash.{pair_of}
-use Rattle.multihash.specs.Encoding.{IsEncoding}
-use Rattle.multihash.specs.Streams.{AreConcatenated}
-use Rattle.multihash.specs.Writing.{AppendsPrefix}
-use Rattle.multihash.proofs.OutcomeLemmas.{OnErr-always}
+use Rattle.multihash.proofs.Common.{arith, ◌+◌, ℕ, List, [], ◌++◌, map, drop, refl, ◌∙◌, append_assoc, append-nil, drop_more, drop_all, pair_of, IsEncoding, AreConcatenated, AppendsPrefix, OnErr-always}
 use Rattle.multihash.proofs.EncodingLemmas.{encoding_same, have_stream}
 use Rattle.multihash.proofs.StreamLemmas.{parts_same}
 use Rattle.multihash.proofs.WritingLemmas.{appends_both, AppendsPrefix-append, AppendsPrefix-concatenated}

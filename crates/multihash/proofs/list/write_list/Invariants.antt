@@ -1,8 +1,6 @@
 -- The encodings of the items so far have been appended; with those of the others they are all; no write
 -- failed.
-use Rattle.std.proofs.Common.{◌≡◌, ◌++◌, ℕ, List, map, drop}
-use Rattle.multihash.specs.Streams.{AreConcatenated}
-use Rattle.multihash.specs.Multihash.{pair_of}
+use Rattle.multihash.proofs.Common.{◌≡◌, ◌++◌, ℕ, List, map, drop, AreConcatenated, pair_of}
 use Rattle.multihash.proofs.list.write_list.Given as goal
 
 abbrev pub invariant-loop-item : goal.invariant-loop-item

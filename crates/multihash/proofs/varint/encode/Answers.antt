@@ -1,9 +1,7 @@
 -- The loop keeps that the first bytes encode the digits written so far (`Wrote`); a rest below 128 is the last digit, and after
 -- eight digits the rest is (`last_digit`).
-use Rattle.std.proofs.Common.{◌≡◌, take, ◌∙◌, arith, rules, subst, sym}
-use Rattle.std.proofs.lemmas.List.{take_all, take_more_set}
+use Rattle.multihash.proofs.Common.{◌≡◌, take, ◌∙◌, arith, rules, subst, sym, take_all, take_more_set, IsVarint}
 use Rattle.std.proofs.Math.ListN.{length-set}
-use Rattle.multihash.specs.Varint.{IsVarint}
 use Rattle.multihash.proofs.VarintWriteLemmas.{Wrote, none_wrote, wrote_more, wrote_last, last_digit}
 use Rattle.multihash.proofs.varint.encode.Goals as goal
 

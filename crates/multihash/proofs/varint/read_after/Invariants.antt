@@ -1,6 +1,5 @@
 -- Only continuation bytes have been consumed, the sum is the value of their digits, and no read failed.
-use Rattle.std.proofs.Common.{◌≡◌, ◌<◌, [], ◌∷◌}
-use Rattle.std.specs.Io.KnownBytes.{prepend_known}
+use Rattle.multihash.proofs.Common.{◌≡◌, ◌<◌, [], ◌∷◌, prepend_known}
 use Rattle.multihash.proofs.VarintReadLemmas.{ReadsContinuation}
 use Rattle.multihash.proofs.varint.read_after.Given as goal
 

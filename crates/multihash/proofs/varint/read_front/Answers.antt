@@ -1,6 +1,5 @@
 -- An input has one number at its front (`number_unique`), so a varint that is there was found, and excludes an error.
-use Rattle.std.proofs.Common.{◌∙◌}
-use Rattle.std.proofs.lemmas.List.{take_rest}
+use Rattle.multihash.proofs.Common.{◌∙◌, take_rest}
 use Rattle.multihash.proofs.ReadingLemmas.{Consumes-cut}
 use Rattle.multihash.proofs.VarintLemmas.{number_unique, number_no_error}
 use Rattle.multihash.proofs.varint.read_front.Goals as goal

@@ -1,10 +1,8 @@
 -- Before the first byte nothing has been read (`none_read`), so a failure or the end of the input there is one of a varint of no
 -- bytes; a first byte below 128 is the varint.
-use Rattle.std.proofs.Common.{arith}
-use Rattle.std.proofs.Common.{refl}
+use Rattle.multihash.proofs.Common.{arith, refl, passed_error}
 use Rattle.multihash.proofs.VarintReadLemmas.{none_read, reader_failed, input_ended}
 use Rattle.multihash.proofs.VarintWriteLemmas.{one_byte}
-use Rattle.multihash.proofs.OutcomeLemmas.{passed_error}
 use Rattle.multihash.proofs.varint.read_next.Goals as goal
 
 pub returns-in_err-first-clause-err : goal.returns-in_err-first-clause-err

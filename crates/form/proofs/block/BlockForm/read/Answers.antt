@@ -1,15 +1,8 @@
 -- A block is a length and that many bytes: reading stops in the length, at one above MAX or in the bytes, and `StopLemmas` has
 -- what each shows of the whole.
-use Rattle.std.proofs.Common.{◌≡◌, ◌≤◌, ◌⊎◌, ℕ, List, length, length-append, Option, ap, inl, inr, refl, arith}
-use Rattle.multihash.specs.Varint.{IsVarint}
-use Rattle.multihash.specs.Consuming.{ExactFails}
-use Rattle.multihash.specs.Refusal.{IsOutOfMemory}
+use Rattle.form.proofs.Common.{◌≡◌, ◌≤◌, ◌⊎◌, ℕ, List, length, length-append, Option, ap, inl, inr, refl, arith, IsVarint, ExactFails, IsOutOfMemory, Then, IsBlock, IsFailed, RejectsTooLong, ReadStops, FormError}
 use Rattle.multihash.proofs.OutcomeLemmas.{passed_error}
-use Rattle.form.specs.Form.{Then, IsBlock}
-use Rattle.form.specs.FormError.{IsFailed}
-use Rattle.form.specs.Rejecting.{RejectsTooLong, ReadStops}
 use Rattle.form.specs.declared.block.Block.{Block}
-use Rattle.form.specs.declared.error.FormError.{FormError}
 use Rattle.form.proofs.BothLemmas.{number_is, then_read}
 use Rattle.form.proofs.FormLemmas.{exact_stops, varint_stops}
 use Rattle.form.proofs.StopLemmas.{first_stops, from_stops}

@@ -1,8 +1,6 @@
 -- A block is its length and its bytes, one after the other, so two calls that succeed append it, and one that fails has appended
 -- a strict prefix of it.
-use Rattle.std.proofs.Common.{ℕ, inl, inr, refl, subst, ◌∙◌, arith}
-use Rattle.multihash.specs.Varint.{IsVarint}
-use Rattle.multihash.specs.Refusal.{of_io}
+use Rattle.form.proofs.Common.{ℕ, inl, inr, refl, subst, ◌∙◌, arith, IsVarint, of_io}
 use Rattle.multihash.proofs.OutcomeLemmas.{OnErr-always, passed_error}
 use Rattle.form.proofs.BothLemmas.{then_stops_first, then_stops_second, then_written}
 use Rattle.form.proofs.block.BlockForm.write.Goals as goal

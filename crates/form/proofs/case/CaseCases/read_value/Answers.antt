@@ -1,8 +1,7 @@
 -- The tag decides what is read, the value of this case or one of the others, and `StopLemmas` has what an error of either shows.
-use Rattle.std.proofs.Common.{◌≡◌, ℕ, List, sym, ◌∙◌, arith}
+use Rattle.form.proofs.Common.{◌≡◌, ℕ, List, sym, ◌∙◌, arith, IsCase}
 use Rattle.multihash.proofs.OutcomeLemmas.{passed_error}
 use Rattle.form.specs.Case.{case_tag, IsCaseValue}
-use Rattle.form.specs.Rejecting.{IsCase}
 use Rattle.form.specs.declared.case.Case.{Case}
 use Rattle.form.specs.declared.case.Case.TheVariants.{This, Other}
 use Rattle.form.specs.declared.case.Others.{Others}

@@ -1,6 +1,5 @@
-use Rattle.std.proofs.Common.{◌≡◌, arith}
+use Rattle.form.proofs.Common.{◌≡◌, arith, RejectsNoCase}
 use Rattle.multihash.proofs.OutcomeLemmas.{passed_error}
-use Rattle.form.specs.Rejecting.{RejectsNoCase}
 use Rattle.form.proofs.StopLemmas.{own_stops}
 use Rattle.form.proofs.case.TaggedCases.read_value.Goals as goal
 

@@ -1,9 +1,6 @@
 -- A choice is its tag and then its value: reading stops in the tag or in the value, and `StopLemmas` has what each shows of the whole.
-use Rattle.std.proofs.Common.{ℕ, List, refl}
-use Rattle.multihash.specs.Varint.{IsVarint}
+use Rattle.form.proofs.Common.{ℕ, List, refl, IsVarint, Then, IsCase}
 use Rattle.multihash.proofs.OutcomeLemmas.{passed_error}
-use Rattle.form.specs.Form.{Then}
-use Rattle.form.specs.Rejecting.{IsCase}
 use Rattle.form.specs.declared.choice.Choice.{Choice}
 use Rattle.form.proofs.BothLemmas.{number_is, then_read}
 use Rattle.form.proofs.FormLemmas.{varint_stops}

@@ -1,12 +1,7 @@
 -- A counted list is a number and that many items: reading stops in the number, at one above MAX or in the items, and
 -- `StopLemmas` has what each shows of the whole.
-use Rattle.std.proofs.Common.{◌≤◌, ℕ, List, length, inl, inr, refl, sym, ◌∙◌, arith}
-use Rattle.multihash.specs.Varint.{IsVarint}
-use Rattle.multihash.specs.Streams.{AreParts}
+use Rattle.form.proofs.Common.{◌≤◌, ℕ, List, length, inl, inr, refl, sym, ◌∙◌, arith, IsVarint, AreParts, Then, RejectsItem, RejectsCounted, AreItems, FormError}
 use Rattle.multihash.proofs.OutcomeLemmas.{passed_error}
-use Rattle.form.specs.Form.{Then}
-use Rattle.form.specs.Rejecting.{RejectsItem, RejectsCounted, AreItems}
-use Rattle.form.specs.declared.error.FormError.{FormError}
 use Rattle.form.proofs.BothLemmas.{number_is, then_read}
 use Rattle.form.proofs.FormLemmas.{varint_stops}
 use Rattle.form.proofs.StopLemmas.{first_stops, from_stops, stops_as}

@@ -1,10 +1,8 @@
 -- `read_exact` fills the last N of 8 bytes, whose number has no other bytes; or it shows that fewer than N were left. No value has
 -- size 0 or more than 8.
-use Rattle.std.proofs.Common.{◌≡◌, ◌<◌, ◌≤◌, ◌-◌, ◌%◌, ◌^◌, ℕ, List, [], length, inr, refl, sym, ap, ◌∙◌, append-nil, arith, rules}
-use Rattle.std.specs.Prelude.{take, drop, replicate}
+use Rattle.form.proofs.Common.{◌≡◌, ◌<◌, ◌≤◌, ◌-◌, ◌%◌, ◌^◌, ℕ, List, [], length, inr, refl, sym, ap, ◌∙◌, append-nil, arith, rules, take, drop, replicate, length-drop, length-take-le}
 use Rattle.std.specs.Int.{bytes_high_first, from_be_bytes, to_be_bytes, w64}
 use Rattle.std.proofs.Math.Nat.{mod-lt, one-le-pow}
-use Rattle.std.proofs.lemmas.List.{length-drop, length-take-le}
 use Rattle.std.proofs.lemmas.Nat.{from_be_bytes-to_be_bytes_8}
 use Rattle.std.proofs.lemmas.Slice.{between-put_mid}
 use borrow.Rule.Slice.PartMut.{put_mid}

@@ -1,6 +1,5 @@
 -- The last N of the 8 bytes of a number are its lowest N, as `byteorder` shows.
-use Rattle.std.proofs.Common.{◌-◌, ◌∙◌, ℕ, List, ap}
-use Rattle.std.specs.Prelude.{take, drop}
+use Rattle.form.proofs.Common.{◌-◌, ◌∙◌, ℕ, List, ap, take, drop}
 use Rattle.multihash.proofs.OutcomeLemmas.{OnErr-always}
 use Rattle.byteorder.proofs.Bytes.{between-bytes_high_first}
 use Rattle.form.proofs.fixed.BigEndianForm.write.Goals as goal

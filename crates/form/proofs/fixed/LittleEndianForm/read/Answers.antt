@@ -1,10 +1,8 @@
 -- `read_exact` fills the first N of 8 bytes, whose number has no other bytes; or it shows that fewer than N were left. No value has
 -- size 0 or more than 8.
-use Rattle.std.proofs.Common.{◌≡◌, ◌<◌, ◌≤◌, ◌%◌, ◌^◌, ℕ, List, [], length, inr, refl, sym, ap, ◌∙◌, append-nil, arith, rules}
-use Rattle.std.specs.Prelude.{take, replicate}
+use Rattle.form.proofs.Common.{◌≡◌, ◌<◌, ◌≤◌, ◌%◌, ◌^◌, ℕ, List, [], length, inr, refl, sym, ap, ◌∙◌, append-nil, arith, rules, take, replicate, length-take-le}
 use Rattle.std.specs.Int.{bytes_low_first, from_le_bytes, to_le_bytes, w64}
 use Rattle.std.proofs.Math.Nat.{div-one, mod-lt, one-le-pow}
-use Rattle.std.proofs.lemmas.List.{length-take-le}
 use Rattle.std.proofs.lemmas.Nat.{from_le_bytes-to_le_bytes_8}
 use Rattle.std.proofs.lemmas.Slice.{take-put_mid}
 use borrow.Rule.Slice.PartMut.{put_mid}

@@ -1,6 +1,5 @@
 -- The first N of the 8 bytes of a number are its lowest N, as `byteorder` shows.
-use Rattle.std.proofs.Common.{◌∙◌, ap}
-use Rattle.std.specs.Prelude.{take}
+use Rattle.form.proofs.Common.{◌∙◌, ap, take}
 use Rattle.multihash.proofs.OutcomeLemmas.{OnErr-always}
 use Rattle.byteorder.proofs.Bytes.{take-bytes_low_first}
 use Rattle.form.proofs.fixed.LittleEndianForm.write.Goals as goal

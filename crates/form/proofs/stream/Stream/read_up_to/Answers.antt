@@ -1,16 +1,10 @@
 -- The loop keeps that the values so far were consumed, one after another; if the bytes of other values come first, these are the
 -- same, or there is one more that comes next (`parts_compared`).
-use Rattle.std.proofs.Common.{◌≡◌, ◌<◌, ◌≤◌, ◌⊎◌, ◌++◌, ℕ, List, [], ◌∷◌, inl, inr, length, length-append, append_assoc}
-use Rattle.std.proofs.Common.{append-nil, refl, sym, ap, subst, ◌∙◌, arith, rules, Option, Some}
+use Rattle.form.proofs.Common.{◌≡◌, ◌<◌, ◌≤◌, ◌⊎◌, ◌++◌, ℕ, List, [], ◌∷◌, inl, inr, length, length-append, append_assoc, append-nil, refl, sym, ap, subst, ◌∙◌, arith, rules, Option, Some, IsOutOfMemory, Consumes, AreParts, Determine, IsFailed}
 use Rattle.multihash.proofs.OutcomeLemmas.{passed_error, if_given}
 use Rattle.std.specs.Io.KnownBytes.{IsAtEnd}
-use Rattle.multihash.specs.Refusal.{IsOutOfMemory}
-use Rattle.multihash.specs.Reading.{Consumes}
-use Rattle.multihash.specs.Streams.{AreParts}
 use Rattle.multihash.proofs.ReadingLemmas.{Consumes-known, Consumes-none, Consumes-concatenated}
 use Rattle.multihash.proofs.StreamLemmas.{parts_push}
-use Rattle.form.specs.Laws.Parts.{Determine}
-use Rattle.form.specs.FormError.{IsFailed}
 use Rattle.form.specs.Stream.{rest_from, AppendsValues, AppendsSame}
 use Rattle.form.proofs.WholeLemmas.{Next, parts_compared}
 use Rattle.form.proofs.StopLemmas.{stops_later}

@@ -1,8 +1,6 @@
 -- A tag is a number that nothing follows, so `StopLemmas` has what an error of the number shows.
-use Rattle.std.proofs.Common.{◌≡◌, ℕ, List, [], refl, sym, append-nil}
-use Rattle.multihash.specs.Varint.{IsVarint}
+use Rattle.form.proofs.Common.{◌≡◌, ℕ, List, [], refl, sym, append-nil, IsVarint, Then}
 use Rattle.multihash.proofs.OutcomeLemmas.{passed_error}
-use Rattle.form.specs.Form.{Then}
 use Rattle.form.proofs.FormLemmas.{varint_stops}
 use Rattle.form.proofs.StopLemmas.{first_stops}
 use Rattle.form.proofs.tag.TagForm.read.Goals as goal

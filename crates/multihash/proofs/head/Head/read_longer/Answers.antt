@@ -1,8 +1,6 @@
 -- The second varint starts where the first ends, so two varints are the head (`head_of`), and an error in the second is one after
 -- a code.
-use Rattle.std.proofs.Common.{inr, drop}
-use Rattle.std.proofs.lemmas.List.{take_rest}
-use Rattle.multihash.proofs.OutcomeLemmas.{passed_error}
+use Rattle.multihash.proofs.Common.{inr, drop, take_rest, passed_error}
 use Rattle.multihash.proofs.ReadingLemmas.{Consumes-cut}
 use Rattle.multihash.proofs.VerdictLemmas.{coded, head_of}
 use Rattle.multihash.proofs.head.Head.read_longer.Goals as goal

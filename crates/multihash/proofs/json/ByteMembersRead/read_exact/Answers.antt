@@ -1,7 +1,6 @@
 -- If fewer members are left than the buffer has bytes, nothing is read; otherwise the members' bytes are split where the
 -- members are (`bytes_split`).
-use Rattle.std.proofs.Common.{◌∙◌, ◌++◌, length, drop, Some, ap, sym, arith, rules}
-use Rattle.multihash.specs.Private.{member_bytes}
+use Rattle.multihash.proofs.Common.{◌∙◌, ◌++◌, length, drop, Some, ap, sym, arith, rules, member_bytes}
 use Rattle.multihash.proofs.JsonLemmas.{bytes_split, length-member_bytes}
 use Rattle.multihash.proofs.json.ByteMembersRead.read_exact.Goals as goal
 

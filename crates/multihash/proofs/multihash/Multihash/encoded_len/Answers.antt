@@ -1,7 +1,6 @@
 -- The encoding is made of two varints, whose lengths were added, and the digest (`encoding_of_parts`); it is short since each
 -- part is (`encoding_length`).
-use Rattle.std.proofs.Common.{◌++◌, refl, ◌∙◌, arith}
-use Rattle.multihash.specs.Multihash.{pair_of}
+use Rattle.multihash.proofs.Common.{◌++◌, refl, ◌∙◌, arith, pair_of}
 use Rattle.multihash.proofs.EncodingLemmas.{encoding_of_parts, length-parts, encoding_length}
 use Rattle.multihash.proofs.multihash.Multihash.encoded_len.Goals as goal
 

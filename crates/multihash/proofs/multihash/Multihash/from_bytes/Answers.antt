@@ -1,9 +1,6 @@
 -- The head gives the two varints; the size beside the capacity, and beside the bytes that are left, decides which verdict on
 -- the whole holds (`VerdictLemmas`).
-use Rattle.std.proofs.Common.{refl}
-use Rattle.std.proofs.lemmas.List.{take_rest}
-use Rattle.multihash.specs.Verdict.{invalid_size, malformed}
-use Rattle.multihash.proofs.OutcomeLemmas.{passed_error}
+use Rattle.multihash.proofs.Common.{refl, take_rest, invalid_size, malformed, passed_error}
 use Rattle.multihash.proofs.VerdictLemmas.{whole_over, whole_trailing}
 use Rattle.multihash.proofs.multihash.Multihash.from_bytes.Goals as goal
 

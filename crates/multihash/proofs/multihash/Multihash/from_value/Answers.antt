@@ -1,13 +1,6 @@
 -- `from_value` reads the members of the array as `read` reads bytes, so the verdict of `read` on these, and whether members are
 -- left, is the verdict on the whole.
-use Rattle.std.proofs.Common.{arith}
-use Rattle.std.proofs.lemmas.Grind.{common_steps}
-use Rattle.std.proofs.Common.{◌<◌, length, refl, sym, ◌∙◌, inr, rules}
-use Rattle.multihash.specs.Private.{member_bytes}
-use Rattle.multihash.specs.Verdict.{accepted, invalid_size}
-use Rattle.multihash.specs.Encoding.{IsEncoding}
-use Rattle.multihash.specs.Multihash.{pair_of}
-use Rattle.multihash.proofs.OutcomeLemmas.{passed_error}
+use Rattle.multihash.proofs.Common.{arith, common_steps, ◌<◌, length, refl, sym, ◌∙◌, inr, rules, member_bytes, accepted, invalid_size, IsEncoding, pair_of, passed_error}
 use Rattle.multihash.proofs.JsonLemmas.{array_unique, length-member_bytes}
 use Rattle.multihash.proofs.VerdictLemmas.{whole_rejected}
 use Rattle.multihash.proofs.EncodingLemmas.{digest_fits}

@@ -1,16 +1,7 @@
 -- After the code, reading stops in the size's varint, at a size above the capacity or in the digest, or returns the pair; for
 -- each there is a lemma that the bytes consumed so far meet the contract of `read`.
-use Rattle.std.proofs.lemmas.Grind.{common_steps}
-use Rattle.std.proofs.Common.{◌≡◌, ◌<◌, ◌≤◌, ◌++◌, ◌⊎◌, ℕ, List, Option, Result, Ok, length, take, refl, sym, ap, ◌∙◌, arith}
+use Rattle.multihash.proofs.Common.{common_steps, ◌≡◌, ◌<◌, ◌≤◌, ◌++◌, ◌⊎◌, ℕ, List, Option, Result, Ok, length, take, refl, sym, ap, ◌∙◌, arith, length-take-le, digest_limit, Consumes, HasFewerThan, ConsumesFewerThan, ConsumesVarint, ReadMeets, Refusal, of_io, Fault, IsUnexpectedEof, IsOwnFault, Fields, pair_of, passed_error}
 use Rattle.std.specs.Result.{IsErrAnd}
-use Rattle.std.proofs.lemmas.List.{length-take-le}
-use Rattle.multihash.specs.Pair.{digest_limit}
-use Rattle.multihash.specs.Reading.{Consumes, HasFewerThan, ConsumesFewerThan}
-use Rattle.multihash.specs.Consuming.{ConsumesVarint, ReadMeets}
-use Rattle.multihash.specs.Refusal.{Refusal, of_io}
-use Rattle.multihash.specs.Fault.{Fault, IsUnexpectedEof, IsOwnFault}
-use Rattle.multihash.specs.Multihash.{Fields, pair_of}
-use Rattle.multihash.proofs.OutcomeLemmas.{passed_error}
 use Rattle.multihash.proofs.EncodingLemmas.{encoding_of_parts}
 use Rattle.multihash.proofs.ReadingLemmas.{Consumes-concatenated}
 use Rattle.multihash.proofs.ReadConsumingLemmas.{stops_in_size, stops_at_size, stops_in_digest, read_returned}

@@ -1,7 +1,5 @@
 -- An error in the code, or the end of the input in its place, ends the call as it ends `read` (`stops_in_code`).
-use Rattle.std.proofs.Common.{inr, refl}
-use Rattle.multihash.specs.Varint.{insufficient}
-use Rattle.multihash.proofs.OutcomeLemmas.{passed_error}
+use Rattle.multihash.proofs.Common.{inr, refl, insufficient, passed_error}
 use Rattle.multihash.proofs.ReadConsumingLemmas.{stops_in_code}
 use Rattle.multihash.proofs.multihash.Multihash.read_next.Goals as goal
 

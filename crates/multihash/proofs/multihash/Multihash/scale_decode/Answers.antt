@@ -1,10 +1,6 @@
 -- Decoding stops in the code, at a code out of range, in the size, at a size above the capacity or in the digest, or returns
 -- the pair; for each `ScaleLemmas` has that the bytes consumed so far decide it.
-use Rattle.std.proofs.Common.{◌≡◌, ◌<◌, [], ◌∷◌, ◌++◌, length, take, refl, sym, ap, ◌∙◌, arith, rules, append_assoc}
-use Rattle.std.proofs.lemmas.List.{length-take-le}
-use Rattle.multihash.specs.Scale.{IsScaleCode}
-use Rattle.multihash.specs.Reading.{Consumes}
-use Rattle.multihash.proofs.OutcomeLemmas.{passed_error}
+use Rattle.multihash.proofs.Common.{◌≡◌, ◌<◌, [], ◌∷◌, ◌++◌, length, take, refl, sym, ap, ◌∙◌, arith, rules, append_assoc, length-take-le, IsScaleCode, Consumes, passed_error}
 use Rattle.multihash.proofs.ReadingLemmas.{Consumes-concatenated}
 use Rattle.multihash.proofs.ScaleLemmas.{code_read, one_item, code_rejected, no_size, size_rejected, cut_scale_digest}
 use Rattle.multihash.proofs.ScaleLemmas.{inside_rejected, scale_returned}

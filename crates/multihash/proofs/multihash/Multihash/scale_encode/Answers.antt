@@ -1,10 +1,7 @@
 -- The form is the code's eight bytes, the size and the digest (`form`): two calls that succeed append it, and one that fails
 -- has appended a strict prefix of it.
-use Rattle.std.proofs.Common.{◌++◌, length, ap, arith, append_assoc, refl}
-use Rattle.multihash.specs.Scale.{IsScale}
-use Rattle.multihash.specs.Multihash.{pair_of}
+use Rattle.multihash.proofs.Common.{◌++◌, length, ap, arith, append_assoc, refl, IsScale, pair_of, passed_error}
 use Rattle.multihash.proofs.ScaleLemmas.{scale_length}
-use Rattle.multihash.proofs.OutcomeLemmas.{passed_error}
 use Rattle.multihash.proofs.WritingLemmas.{appends_both, stops_in_front, stops_in_back}
 use Rattle.multihash.proofs.multihash.Multihash.scale_encode.Given as given
 use Rattle.multihash.proofs.multihash.Multihash.scale_encode.Goals as goal

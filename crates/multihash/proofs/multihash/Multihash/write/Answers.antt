@@ -1,11 +1,8 @@
 -- The encoding is the two varints and the digest, so three calls that succeed append it, and one that fails has appended a
 -- strict prefix of it.
-use Rattle.std.proofs.Common.{length, refl, ◌∙◌, arith}
-use Rattle.multihash.specs.Encoding.{IsEncoding}
-use Rattle.multihash.specs.Multihash.{pair_of}
+use Rattle.multihash.proofs.Common.{length, refl, ◌∙◌, arith, IsEncoding, pair_of, passed_error}
 use Rattle.multihash.proofs.EncodingLemmas.{encoding_of_parts, length-parts}
 use Rattle.multihash.proofs.VarintWriteLemmas.{varint_exists}
-use Rattle.multihash.proofs.OutcomeLemmas.{passed_error}
 use Rattle.multihash.proofs.WritingLemmas.{appends_both, stops_in_first, stops_in_second, stops_in_third}
 use Rattle.multihash.proofs.multihash.Multihash.write.Goals as goal
 

@@ -1,12 +1,7 @@
 -- The word holds the first sixteen bytes of the input (`full`), or all of a shorter input and zeros (`padded`), so what `read_word`
 -- says of its word is said of the input.
-use Rattle.std.proofs.lemmas.Grind.{common_steps}
-use Rattle.std.proofs.Common.{◌<◌, ℕ, List, Result, IfOk, length, arith, sym, ap, Some, take, drop}
-use Rattle.std.proofs.lemmas.List.{take-append-drop, take_more, take_all}
+use Rattle.multihash.proofs.Common.{common_steps, ◌<◌, ℕ, List, Result, IfOk, length, arith, sym, ap, Some, take, drop, take-append-drop, take_more, take_all, IsVarint, IsFrontWord, ConsumesVarint}
 use Rattle.std.proofs.lemmas.Result.{IfOk-weaker, IfErr-weaker}
-use Rattle.multihash.specs.Varint.{IsVarint}
-use Rattle.multihash.specs.Private.{IsFrontWord}
-use Rattle.multihash.specs.Consuming.{ConsumesVarint}
 use Rattle.multihash.proofs.VarintWriteLemmas.{one_byte}
 use Rattle.multihash.proofs.WordFrontLemmas.{bytes_of, full_word}
 use Rattle.multihash.proofs.varint.word.read_front.Goals as goal

@@ -1,7 +1,6 @@
 -- All bytes of the low half are continuation bytes, so the ninth byte decides: it is too large (`high_over`), missing, zero, or the
 -- end of the varint (`high_number`).
-use Rattle.std.proofs.Common.{arith}
-use Rattle.multihash.specs.Varint.{insufficient, overflow, not_minimal}
+use Rattle.multihash.proofs.Common.{arith, insufficient, overflow, not_minimal}
 use Rattle.multihash.proofs.WordFrontLemmas.{high_over, high_end, high_number, ends_short, stops_at_zero}
 use Rattle.multihash.proofs.varint.word.read_high.Goals as goal
 

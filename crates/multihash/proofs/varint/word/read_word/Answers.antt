@@ -1,8 +1,7 @@
 -- If one of the word's first eight bytes is below 128, it shows where the varint ends, and every outcome is read off there
 -- (`low_end`); if none is, the ninth byte decides, in `read_high`.
-use Rattle.std.proofs.Common.{arith}
+use Rattle.multihash.proofs.Common.{arith, insufficient, not_minimal}
 use Rattle.std.proofs.lemmas.Result.{IfOk-weaker, IfErr-weaker}
-use Rattle.multihash.specs.Varint.{insufficient, not_minimal}
 use Rattle.multihash.proofs.WordFrontLemmas.{low_continuation, low_end, low_number, ends_short, stops_at_zero}
 use Rattle.multihash.proofs.varint.word.read_word.Goals as goal
 use Rattle.multihash.proofs.varint.word.read_word.Goals.{

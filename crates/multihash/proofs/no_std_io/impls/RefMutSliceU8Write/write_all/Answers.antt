@@ -1,5 +1,4 @@
-use Rattle.std.proofs.Common.{[], rules, refl, arith}
-use Rattle.std.proofs.lemmas.Grind.{common_steps}
+use Rattle.multihash.proofs.Common.{[], rules, refl, arith, common_steps}
 use Rattle.multihash.proofs.WritingLemmas.{AppendsPrefix-take}
 use Rattle.multihash.proofs.no_std_io.impls.RefMutSliceU8Write.write_all.Goals as goal
 

@@ -1,5 +1,4 @@
-use Rattle.std.proofs.Common.{rules, refl, arith}
-use Rattle.std.proofs.lemmas.Grind.{common_steps}
+use Rattle.multihash.proofs.Common.{rules, refl, arith, common_steps}
 use Rattle.multihash.proofs.WritingLemmas.{fills_slice}
 use Rattle.multihash.proofs.no_std_io.slice_writer.SliceWriterWrite.write.Goals as goal
 

@@ -1,6 +1,5 @@
 -- If `write` appended fewer bytes than there are, the slice is full, and they are a strict prefix (`AppendsPrefix-take`).
-use Rattle.std.proofs.Common.{[], rules, refl, arith}
-use Rattle.std.proofs.lemmas.Grind.{common_steps}
+use Rattle.multihash.proofs.Common.{[], rules, refl, arith, common_steps}
 use Rattle.multihash.proofs.WritingLemmas.{AppendsPrefix-take, filled_length}
 use Rattle.multihash.proofs.no_std_io.slice_writer.SliceWriterWrite.write_all.Goals as goal
 

@@ -1,6 +1,5 @@
 -- The first `filled` bytes of the buffer are those that have been consumed, and no read failed.
-use Rattle.std.proofs.Common.{length, ◌-◌, ◌≡◌, ◌≤◌, take}
-use Rattle.multihash.specs.Reading.{Consumes}
+use Rattle.multihash.proofs.Common.{length, ◌-◌, ◌≡◌, ◌≤◌, take, Consumes}
 use Rattle.multihash.proofs.no_std_io.traits.Read.read_exact.Given as goal
 
 abbrev pub invariant-loop-filled : goal.invariant-loop-filled

@@ -1,7 +1,6 @@
 -- The bytes appended so far and those left are all bytes, so a call that fails, or returns 0, leaves a strict prefix appended
 -- (`AppendsPrefix-take`).
-use Rattle.std.proofs.Common.{◌++◌, rules, take, arith}
-use Rattle.std.proofs.lemmas.Grind.{common_steps}
+use Rattle.multihash.proofs.Common.{◌++◌, rules, take, arith, common_steps}
 use Rattle.multihash.proofs.WritingLemmas.{appends_both, concatenated-take-range, AppendsPrefix-take}
 use Rattle.multihash.proofs.no_std_io.traits.Write.write_all.Goals as goal
 
