@@ -1,5 +1,5 @@
 """Runs a function of C for all arguments at once, from the tree that Clang prints. It knows what multihash.c uses. What has
-no defined result is refused, and so is what this file does not know."""
+no defined result is rejected, and so is what this file does not know."""
 import json
 from collections.abc import Callable
 from functools import partial
@@ -8,7 +8,7 @@ from typing import Any
 
 import z3
 from memory import Memory, Place, Pointer, Region, Value, Variable
-from path import Refused, Return
+from path import Rejected, Return
 from tree import Node, Unit, type_of
 
 ORDER = {"==": eq, "!=": ne, "<": lt, "<=": le, ">": gt, ">=": ge}
@@ -50,7 +50,7 @@ class Run(Memory):
     def converted(self, x: Value, old: str, new: str) -> Value:
         """A number of a type as one of another type, which a signed type has to have."""
         if new == "char" != old:
-            raise Refused("unknown: a number as char, which may have a sign or none")
+            raise Rejected("unknown: a number as char, which may have a sign or none")
         exact = self.extended(x, old)
         x = z3.simplify(z3.Extract(self.unit.width(new) - 1, 0, exact))
         if self.unit.is_signed(new):
@@ -64,7 +64,7 @@ class Run(Memory):
             holds = (ORDER if is_signed else UNSIGNED)[name](x, y)
             return z3.simplify(z3.If(holds, self.number(1, "int"), self.number(0, "int")))
         if name not in SUMS | BITS:
-            raise Refused(f"unknown: the operator {name}")
+            raise Rejected(f"unknown: the operator {name}")
         result = (SUMS | BITS)[name](x, y)
         if is_signed and name in SUMS:
             exact = SUMS[name](self.extended(x, kind), self.extended(y, kind))
@@ -74,7 +74,7 @@ class Run(Memory):
     def shifted(self, name: str, x: Value, by: Value, kind: str, by_kind: str) -> Value:
         by, width = z3.simplify(self.extended(by, by_kind)), self.unit.width(kind)
         if not z3.is_bv_value(by):
-            raise Refused("unknown: a shift by a number that is not known")
+            raise Rejected("unknown: a shift by a number that is not known")
         self.must(0 <= by.as_signed_long() < width, "shift: by a negative number, or too far")
         count = by.as_long()
         if self.unit.is_signed(kind):
@@ -87,7 +87,7 @@ class Run(Memory):
         if not isinstance(x, Pointer):
             return self.shifted(name, x, y, kind, other) if name in ("<<", ">>") else self.binary(name, x, y, kind)
         if name != "+" or isinstance(y, Pointer):
-            raise Refused(f"unknown: {name} of pointers")
+            raise Rejected(f"unknown: {name} of pointers")
         return self.moved(x, self.index(y, other))
 
     def index(self, x: Value, kind: str) -> Value:
@@ -101,7 +101,7 @@ class Run(Memory):
         """Which way a condition goes."""
         x = self.value(node)
         if not z3.is_bv(x):
-            raise Refused("unknown: a condition that is no number")
+            raise Rejected("unknown: a condition that is no number")
         return self.decide(x != 0)
 
     def each(self, *evaluate: Callable[[], Value]) -> list[Value]:
@@ -115,7 +115,7 @@ class Run(Memory):
             others = [place for j, other in enumerate(logs) if j != i for place, _ in other]
             for place, is_write in log:
                 if is_write and any(place.overlaps(other) for other in others):
-                    raise Refused(f"order: {place.variable.name} is written and used in one expression")
+                    raise Rejected(f"order: {place.variable.name} is written and used in one expression")
         return values
 
     def values(self, *nodes: Node) -> list[Value]:
@@ -141,7 +141,7 @@ class Run(Memory):
             case ["InitListExpr", *inner]:
                 names = self.unit.members(type_of(node))
                 if len(inner) != len(names):
-                    raise Refused("unknown: an initializer with other members")
+                    raise Rejected("unknown: an initializer with other members")
                 return dict(zip(names, self.values(*inner)))
             case ["ConditionalOperator", test, one, other]:
                 return self.value(one if self.truth(test) else other)
@@ -160,7 +160,7 @@ class Run(Memory):
                 return self.unary(node, x)
             case ["CallExpr", callee, *arguments]:
                 return self.call(name_of(callee), self.values(*arguments))
-        raise Refused(f"unknown: {node['kind']}")
+        raise Rejected(f"unknown: {node['kind']}")
 
     def cast(self, node: Node, inner: Node) -> Value:
         kind, new, is_implicit = node["castKind"], type_of(node), node["kind"] == "ImplicitCastExpr"
@@ -175,13 +175,13 @@ class Run(Memory):
                 return self.value(inner)
             case "ArrayToPointerDecay" if inner["kind"] == "StringLiteral":
                 return self.value(inner)
-        raise Refused(f"unknown: the cast {kind} to {new}")
+        raise Rejected(f"unknown: the cast {kind} to {new}")
 
     def assign(self, left: Node, value: Callable[[], Value]) -> Value:
         start = len(self.log)
         place, x = self.each(lambda: self.place(left), value)
         if any(is_write and at.overlaps(place) for at, is_write in self.log[start:]):
-            raise Refused(f"order: {place.variable.name} is written twice in one expression")
+            raise Rejected(f"order: {place.variable.name} is written twice in one expression")
         self.store(place, x)
         return x
 
@@ -211,7 +211,7 @@ class Run(Memory):
                 one = self.number(1, "int" if isinstance(old, Pointer) else kind)
                 self.store(place, new := self.operation("+", old, one, kind, "int"))
                 return old if node["isPostfix"] else new
-        raise Refused(f"unknown: the operator {node['opcode']}")
+        raise Rejected(f"unknown: the operator {node['opcode']}")
 
     def place(self, node: Node) -> Value:
         """The object that an expression names."""
@@ -232,7 +232,7 @@ class Run(Memory):
             case ["ArraySubscriptExpr", array, index]:
                 pointer, x = self.values(array, index)
                 return self.moved(pointer, self.index(x, type_of(index)), is_access=True)
-        raise Refused(f"unknown: the place {node['kind']} {node.get('referencedDecl', node).get('name', '')}")
+        raise Rejected(f"unknown: the place {node['kind']} {node.get('referencedDecl', node).get('name', '')}")
 
     # ---- statements
 
@@ -240,7 +240,7 @@ class Run(Memory):
         if name in self.summaries:
             return self.summaries[name](*arguments)
         if name in self.calls or name not in self.unit.functions:
-            raise Refused(f"unknown: a call of {name}, which calls itself or has no body")
+            raise Rejected(f"unknown: a call of {name}, which calls itself or has no body")
         parameters, body = self.unit.function(name)
         outer, self.scope = self.scope, {}
         self.calls.append(name)
@@ -252,7 +252,7 @@ class Run(Memory):
         except Return as end:
             result = end.args[0]
         if isinstance(result, Place) or result is None and self.unit.result(name) != "void":
-            raise Refused(f"uninitialized: the result of {name}, or the address of its variable")
+            raise Rejected(f"uninitialized: the result of {name}, or the address of its variable")
         self.scope = outer
         self.calls.pop()
         return result
@@ -260,7 +260,7 @@ class Run(Memory):
     def declare(self, node: Node, x: Value) -> None:
         name = node.get("name", "")
         if name in self.unit.functions or name in self.scope:
-            raise Refused(f"unknown: {name}, which is the name of something else too")
+            raise Rejected(f"unknown: {name}, which is the name of something else too")
         self.scope[name] = Variable(name, x)
 
     def statement(self, node: Node) -> None:
@@ -307,7 +307,7 @@ class Run(Memory):
     def variable(self, node: Node) -> None:
         values = [x for x in node.get("inner", []) if x["kind"] != "FullComment"]
         if node["kind"] != "VarDecl" or "storageClass" in node or "tls" in node or len(values) != ("init" in node):
-            raise Refused(f"unknown: static, or a declaration of another kind: {node.get('name')}")
+            raise Rejected(f"unknown: static, or a declaration of another kind: {node.get('name')}")
         kind = type_of(node)
         x = dict.fromkeys(self.unit.members(kind)) if kind in self.unit.records else None
         if not x and not kind.endswith("*"):
@@ -341,7 +341,7 @@ class Run(Memory):
                 case ["DefaultStmt", {"kind": "ReturnStmt"} as then]:
                     otherwise = then
                 case _:
-                    raise Refused("unknown: a statement in a switch that is no label with a return")
+                    raise Rejected("unknown: a statement in a switch that is no label with a return")
         if otherwise:
             self.statement(otherwise)
 
@@ -355,7 +355,7 @@ def name_of(callee: Node) -> str:
     while callee["kind"] in ("ImplicitCastExpr", "ParenExpr"):
         callee = callee["inner"][0]
     if callee["kind"] != "DeclRefExpr" or callee["referencedDecl"]["kind"] != "FunctionDecl":
-        raise Refused("unknown: a call of a pointer")
+        raise Rejected("unknown: a call of a pointer")
     if callee["type"]["qualType"].endswith("()"):
-        raise Refused("unknown: a call without a prototype")
+        raise Rejected("unknown: a call without a prototype")
     return str(callee["referencedDecl"]["name"])

@@ -2,7 +2,7 @@
 """Shows that the C source does for all inputs what definitions.py says, on machines of 32 and of 64 bits.
 
     check_c.py [FUNCTION]..           checks these functions of multihash.h, or all
-    check_c.py --wrong [FUNCTION]..   shows that each edit in wrong_c.py is refused
+    check_c.py --wrong [FUNCTION]..   shows that each edit in wrong_c.py is rejected
 """
 import sys
 from functools import cache, partial
@@ -10,7 +10,7 @@ from pathlib import Path as File
 
 from command import command
 from function import Function, readers_of
-from path import Refused, report
+from path import Rejected, report
 from read_many import ReadMany
 from tree import Unit
 from wrong_c import EDITS
@@ -37,8 +37,8 @@ def result(target: str, name: str) -> str:
 def names() -> list[str]:
     try:
         unit = unit_of("x86_64-linux-gnu")
-    except Refused as why:
-        sys.exit(f"REFUSED: {why}")
+    except Rejected as why:
+        sys.exit(f"REJECTED: {why}")
     return [name.removeprefix("multihash_") for name in unit.declared + readers_of(unit)]
 
 

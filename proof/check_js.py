@@ -2,7 +2,7 @@
 """Shows that format.js, which decodes, encodes and compares in JavaScript, does for all inputs what definitions.py says.
 
     check_js.py [FUNCTION]..           checks these functions, or all
-    check_js.py --wrong [FUNCTION]..   shows that each edit in wrong_js.py is refused
+    check_js.py --wrong [FUNCTION]..   shows that each edit in wrong_js.py is rejected
 """
 import re
 import sys
@@ -18,7 +18,7 @@ from command import command
 from definitions import FIRST, OK, SECOND, Result, Rows, is_code
 from js import Node, Program, Run, Scope
 from js_values import SAFE, WIDTH, Array, Number, Value, known, symbol
-from path import Refused, Return, Wrong, check, miswritten, report
+from path import Rejected, Return, Wrong, check, miswritten, report
 from wrong_js import EDITS
 
 FOLDER = Path(__file__).resolve().parents[1] / "bindings/js"
@@ -100,7 +100,7 @@ def order(found: Value, wanted: Result, _: Any) -> dict[str, Any]:
 
 # ---- what a call returns of a function that was shown
 def must_be(run: Run, is_same: Any) -> None:
-    """Refuses a call for which a function was not shown."""
+    """Rejects a call for which a function was not shown."""
     run.must(is_same, "unknown: other arguments of a function that is called")
 
 
@@ -134,7 +134,7 @@ class Turn(Run):
     def loop(self, test: Node, update: Node, body: Node, scope: Scope) -> None:
         index = scope.get("index")
         if self.is_in_turn or index is None or index.value.known != 0:
-            raise Refused("not shown: another loop")
+            raise Rejected("not shown: another loop")
         self.is_in_turn, index.value = True, number("at")
         before = {name: variable.value for name, variable in scope.items()}
         if self.truth(self.value(test, scope)):
@@ -207,7 +207,7 @@ def result(name: str) -> str:
     def run() -> int:
         program, known_functions = Program(FOLDER / "format.js"), functions()
         if odd := program.exports ^ {*known_functions} or {name} - {*known_functions}:
-            raise Refused(f"unknown: no definition, or no function: {' '.join(odd)}")
+            raise Rejected(f"unknown: no definition, or no function: {' '.join(odd)}")
         function, solver = known_functions[name], z3.SolverFor("QF_BV")
         solver.add(*RANGES, function.when)
 

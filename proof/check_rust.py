@@ -2,7 +2,7 @@
 """Compares the proved modules of the package for Rust with the source, word by word.
 
     check_rust.py            prints where a module is not its source
-    check_rust.py --wrong    shows that wrong edits are refused, each in the function that it names
+    check_rust.py --wrong    shows that wrong edits are rejected, each in the function that it names
 
 All of the source has to be there, in its order, and nothing else, in each function and between them. Left out are
 comments, `(crate)` and derives; of Rattle contracts, ghosts, marks for proofs, and what OF_RATTLE finds; of Rust
@@ -121,7 +121,7 @@ def errors(package: Path) -> Iterator[str]:
     yield from (f"{path} has no source" for path in unknown if "Made by tools/generate rust" in path.read_text("utf-8"))
 
 
-# a module, a text that it has once, what replaces it, and the function whose comparison has to refuse that
+# a module, a text that it has once, what replaces it, and the function whose comparison has to reject that
 EDITS = (
     ("proved/varint", "if byte == 0 {", "if false {", "read_after"),
     ("proved/varint", "            return Err(Error::not_minimal());\n", "", "read_after"),
@@ -143,7 +143,7 @@ EDITS = (
 
 
 def accepted() -> Iterator[str]:
-    """Returns the wrong edits that are not refused."""
+    """Returns the wrong edits that are not rejected."""
     for module, old, new, name in EDITS:
         with TemporaryDirectory() as work:
             path = Path(shutil.copytree(PACKAGE, Path(work, "src")), f"{module}.rs")
@@ -151,7 +151,7 @@ def accepted() -> Iterator[str]:
             path.write_text(text.replace(old, new), "utf-8")
             found = list(errors(path.parents[module.count("/")]))
             if text.count(old) != 1 or not any(f"{module}.rs: fn {name}:" in each for each in found):
-                yield f"{module}.rs, fn {name}: not refused: {new!r} in place of {old!r}"
+                yield f"{module}.rs, fn {name}: not rejected: {new!r} in place of {old!r}"
 
 
 if __name__ == "__main__":

@@ -1,5 +1,5 @@
 """The command of a check: it checks functions, or makes wrong edits, each in a copy of the files, and shows that the check
-refuses each for its reason."""
+rejects each for its reason."""
 import shutil
 import subprocess
 import sys
@@ -12,12 +12,12 @@ from pathlib import Path
 from tempfile import TemporaryDirectory
 
 ROOT = Path(__file__).parents[1]
-# The function whose check has to refuse it, the text, what is put in its place, and how the reason starts.
+# The function whose check has to reject it, the text, what is put in its place, and how the reason starts.
 Edit = tuple[str, str, str, str]
 
 
 def verdict(check: str, files: Sequence[str], edit: Edit) -> tuple[bool, str]:
-    """Whether a check refuses an edit for its reason, and a line that says so."""
+    """Whether a check rejects an edit for its reason, and a line that says so."""
     function, old, new, reason = edit
     with TemporaryDirectory() as root:
         shutil.copytree(ROOT / "proof", Path(root, "proof"), ignore=shutil.ignore_patterns("__pycache__"))
@@ -32,10 +32,10 @@ def verdict(check: str, files: Sequence[str], edit: Edit) -> tuple[bool, str]:
         found[0].write_text(texts[found[0]].replace(old, new), "utf-8")
         run = subprocess.run([sys.executable, Path(root, "proof", check), function], stdout=-1, stderr=-2, text=True)
     lines = run.stdout.splitlines()
-    refusals = [line for line in lines if f" {function}: REFUSED: " in line]
-    is_right = any(f" {function}: REFUSED: {reason}" in line for line in refusals) and run.returncode == 1
-    said = (refusals or lines[-1:] or [""])[0].strip()
-    because = "" if is_right else f"NOT REFUSED with the reason {reason}: "
+    rejections = [line for line in lines if f" {function}: REJECTED: " in line]
+    is_right = any(f" {function}: REJECTED: {reason}" in line for line in rejections) and run.returncode == 1
+    said = (rejections or lines[-1:] or [""])[0].strip()
+    because = "" if is_right else f"NOT REJECTED with the reason {reason}: "
     return is_right, f"{because}{said[:200]}\n    for {new or 'nothing'} in place of {old}"
 
 
@@ -61,5 +61,5 @@ def command(
             print(group)
             for line in processes.imap(result, wanted):
                 print(f"  {line}", flush=True)
-                failed |= "REFUSED" in line
+                failed |= "REJECTED" in line
     return failed

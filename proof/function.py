@@ -7,7 +7,7 @@ import z3
 from c import Run
 from definitions import FIRST, OK, SECOND, Result, TwoVarints, widened
 from memory import Place, Pointer, Region, Value, Variable
-from path import Refused, Wrong, check, miswritten
+from path import Rejected, Wrong, check, miswritten
 from tree import Unit, type_of
 
 # Static functions of this type read a varint: of `bytes` with a length, the number and how many bytes it has. Each is
@@ -27,7 +27,7 @@ class Function:
     def __init__(self, unit: Unit, name: str):
         self.unit, self.name = unit, name if name in unit.functions else f"multihash_{name}"
         if self.name not in unit.functions:
-            raise Refused(f"unknown: the source has no {self.name}")
+            raise Rejected(f"unknown: the source has no {self.name}")
         self.is_reader = self.name in readers_of(unit)
         self.types = {node["name"]: type_of(node) for node in unit.function(self.name)[0]}
         numbers = {name: kind for name, kind in self.types.items() if not kind.endswith("*")}
@@ -38,7 +38,7 @@ class Function:
     def definition(self) -> Any:
         name = "get_varint" if self.is_reader else self.name.removeprefix("multihash_")
         if not hasattr(definitions, name):
-            raise Refused("unknown: definitions.py does not have this function")
+            raise Rejected("unknown: definitions.py does not have this function")
         return getattr(definitions, name)(*self.given.values())
 
     def arguments(self) -> dict[str, Value]:
@@ -51,7 +51,7 @@ class Function:
         arguments: dict[str, Value] = {}
         for name in self.types:
             if name not in self.given and f"{name}_length" not in self.given:
-                raise Refused(f"unknown: {name} without its length")
+                raise Rejected(f"unknown: {name} without its length")
             length = self.given.get(f"{name}_length")
             arguments[name] = self.given.get(name, Pointer(Region(name, length, is_output=name == "out"), zero))
         return arguments
@@ -75,7 +75,7 @@ class Function:
     def varint(self, path: Run, of: TwoVarints, bytes_: Value, length: Value, number: Value, count: Value) -> Value:
         """What a call of a function for varints does."""
         if not isinstance(bytes_, Pointer) or bytes_.region.name != of.name:
-            raise Refused("unknown: the varint of something else")
+            raise Rejected("unknown: the varint of something else")
         at = z3.simplify(bytes_.offset - self.start)
         is_first = z3.is_bv_value(at) and at.as_long() == 0
         varint, before = (FIRST, path.size(0)) if is_first else (SECOND, path.size(FIRST.end))
@@ -103,7 +103,7 @@ class Function:
 def different(found: dict[str, Value], wanted: dict[str, Value]) -> dict[str, Any]:
     """Which members are not as they should be, and when. Those that are not wanted are 0."""
     if wanted.keys() - found.keys() or None in found.values():
-        raise Refused("uninitialized: a member of the result, or it has other members than its definition")
+        raise Rejected("uninitialized: a member of the result, or it has other members than its definition")
     return {name: differs(x, wanted.get(name, 0)) for name, x in found.items()}
 
 

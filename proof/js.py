@@ -1,5 +1,5 @@
 """Runs a function of a module of plain JavaScript for all arguments at once, from the tree that acorn prints. It knows what
-format.js uses. Everything else is refused: what is not exact, what is not there, and what this file does not name."""
+format.js uses. Everything else is rejected: what is not exact, what is not there, and what this file does not name."""
 import json
 import re
 import subprocess
@@ -12,7 +12,7 @@ from typing import Any
 
 import z3
 from js_values import Array, Number, Operators, Value, known, related, symbol
-from path import Refused, Return
+from path import Rejected, Return
 
 Node = dict[str, Any]  # of acorn's tree
 GLOBALS = frozenset(["BigInt", "Math", "Number", "Uint8Array"])
@@ -43,20 +43,20 @@ class Run(Operators):
         x = self.number(index, "number").x
         place = Number(z3.simplify(x - array.origin.x)).known if isinstance(array, Array) else None
         if place is None:
-            raise Refused(f"unknown: an element of {getattr(array, 'name', array)}")
+            raise Rejected(f"unknown: an element of {getattr(array, 'name', array)}")
         self.must(z3.And(place >= 0, related("<", known(place), array.count)), f"outside {array.name}")
         return place
 
     def load(self, array: Value, index: Value) -> Number:
         place = self.place(array, index)
         if array.role != "input":
-            raise Refused(f"unknown: {array.name} is read")
+            raise Rejected(f"unknown: {array.name} is read")
         return symbol(z3.BitVec(f"{array.name}[{place}]", 8))
 
     def store(self, array: Value, index: Value, x: Value) -> Value:
         place, byte = self.place(array, index), self.number(x, "number")
         if array.role == "input":
-            raise Refused(f"unknown: {array.name} is written")
+            raise Rejected(f"unknown: {array.name} is written")
         self.must(z3.And(byte.x >= 0, byte.x <= 255), "not exact: a byte")
         array.written[place] = z3.Extract(7, 0, byte.x)
         return byte
@@ -66,7 +66,7 @@ class Run(Operators):
         roles = [each.role for each in (target, source) if isinstance(each, Array)]
         at = self.number(index, "number").known
         if roles != ["new", "input"] or at is None or at < 0:
-            raise Refused("unknown: set of other than a new array to all of an input")
+            raise Rejected("unknown: set of other than a new array to all of an input")
         self.must(source.count.x + at <= target.count.x, f"outside {target.name}")
         target.copied.append((at, source.name, z3.Extract(63, 0, source.count.x)))
 
@@ -82,7 +82,7 @@ class Run(Operators):
             case {"computed": False, "object": {"name": _} as owner, "property": {"name": "set"}}:
                 if len(arguments) == 2:
                     return self.copy(self.value(owner, scope), *arguments)
-        raise Refused("unknown: a call of something else")
+        raise Rejected("unknown: a call of something else")
 
     def built_in(self, name: str, arguments: list[Value]) -> Value:
         match name, arguments:
@@ -100,19 +100,19 @@ class Run(Operators):
             case "new Uint8Array", [Number(type="number") as count]:
                 self.must(z3.And(count.x >= 0, count.x <= MOST_BYTES), "unknown: new Uint8Array of so many bytes")
                 return Array("a new array", count, role="new")
-        raise Refused(f"unknown: {name} of {arguments}")
+        raise Rejected(f"unknown: {name} of {arguments}")
 
     def call(self, name: str, arguments: list[Value]) -> Value:
         """What a function of the program returns."""
         function, scope = self.program.functions[name], Scope()
         parameters, body = function["params"], function["body"]
         if len(arguments) != len(parameters):
-            raise Refused(f"unknown: a call of {name}")
+            raise Rejected(f"unknown: a call of {name}")
         if name in self.summaries:
             return self.summaries[name](self, *arguments)
         self.depth += 1
         if self.depth > MOST_DEPTH:
-            raise Refused(f"no end: {MOST_DEPTH} calls deep")
+            raise Rejected(f"no end: {MOST_DEPTH} calls deep")
         for parameter, x in zip(parameters, arguments):
             self.declare(parameter, x, scope, is_const=False)
         result = None
@@ -169,7 +169,7 @@ class Run(Operators):
                 return self.assign(left, scope, change)[1]
             case {"type": "UpdateExpression", "operator": name, "argument": x, "prefix": is_prefix}:
                 return self.assign(x, scope, lambda x: self.binary(name[0], x, known(1)))[is_prefix]
-        raise Refused(f"unknown: {node['type']} {node.get('operator', node.get('name', ''))}")
+        raise Rejected(f"unknown: {node['type']} {node.get('operator', node.get('name', ''))}")
 
     # ---- variables and statements
     def declare(self, pattern: Node, x: Value, scope: Scope, is_const: bool) -> None:
@@ -179,13 +179,13 @@ class Run(Operators):
         elif pattern["type"] == "Identifier" and x is not None:
             scope[pattern["name"]] = Variable(x, is_const)
         else:
-            raise Refused(f"unknown: {pattern.get('name')} without a value")
+            raise Rejected(f"unknown: {pattern.get('name')} without a value")
 
     def assign(self, node: Node, scope: Scope, change: Callable[[Value], Value]) -> tuple[Value, Value]:
         """Changes a variable: what it had before, and has now."""
         name = str(node.get("name", node["type"]))
         if name not in scope or scope[name].is_const:
-            raise Refused(f"unknown: an assignment to {name}")
+            raise Rejected(f"unknown: an assignment to {name}")
         before = scope[name].value
         scope[name].value = after = change(before)
         return before, after
@@ -213,7 +213,7 @@ class Run(Operators):
             case {"type": "ExpressionStatement", "expression": x}:
                 self.value(x, scope)
             case _:
-                raise Refused(f"unknown: {node['type']}")
+                raise Rejected(f"unknown: {node['type']}")
 
     def loop(self, test: Node, update: Node, body: Node, scope: Scope) -> None:
         while self.truth(self.value(test, scope)):
@@ -223,7 +223,7 @@ class Run(Operators):
 
 def member(x: Value, name: str) -> Value:
     if not isinstance(x, dict) or name not in x:
-        raise Refused(f"unknown: the member {name}")
+        raise Rejected(f"unknown: the member {name}")
     return x[name]
 
 
@@ -232,7 +232,7 @@ def key_of(node: Node) -> str:
     match node:
         case {"kind": "init", "computed": False, "method": False, "key": {"name": str(name)}} if name != "__proto__":
             return name
-    raise Refused(f"unknown: a member with {node.get('kind', node['type'])}")
+    raise Rejected(f"unknown: a member with {node.get('kind', node['type'])}")
 
 
 def names_of(pattern: Node) -> list[str]:
@@ -254,8 +254,8 @@ def nodes(x: Any) -> Iterator[Node]:
                 yield from nodes(child)
 
 
-def unknown(node: Node, what: str) -> Refused:
-    return Refused(f"unknown: {what} (line {node['loc']['start']['line']})")
+def unknown(node: Node, what: str) -> Rejected:
+    return Rejected(f"unknown: {what} (line {node['loc']['start']['line']})")
 
 
 class Program:
@@ -267,11 +267,11 @@ class Program:
         self.exports: set[str] = set()  # the functions that others can call
         text = path.read_text("utf-8")
         if found := re.search(r"[@#]__\w*", text):
-            raise Refused(f"unknown: {found[0]}, by which a bundler leaves out calls")
+            raise Rejected(f"unknown: {found[0]}, by which a bundler leaves out calls")
         command = ["acorn", "--ecma2022", "--module", "--locations", "--compact"]
         done = subprocess.run(command, input=text, capture_output=True, text=True)
         if done.returncode:
-            raise Refused(f"unknown: what acorn does not read: {done.stderr[:200]}")
+            raise Rejected(f"unknown: what acorn does not read: {done.stderr[:200]}")
         for node in json.loads(done.stdout)["body"]:
             self.top(node, path.parent)
         for function in self.functions.values():
@@ -309,7 +309,7 @@ class Program:
         (self.functions if is_function else self.constants)[name] = x
 
     def look(self, function: Node) -> None:
-        """Refuses a name that is declared twice, and what declares one elsewhere: each name is that of one thing wherever it
+        """Rejects a name that is declared twice, and what declares one elsewhere: each name is that of one thing wherever it
         is read."""
         names = [name for each in function["params"] for name in names_of(each)]
         for node in nodes([*function["params"], function["body"]]):

@@ -4,7 +4,7 @@ from dataclasses import dataclass, field
 from typing import Any
 
 import z3
-from path import Path, Refused, formula
+from path import Path, Rejected, formula
 
 WIDTH = 72  # of bit vectors: all numbers are below 2^66, so that no sum wraps
 SAFE = 2**53 - 1  # numbers up to here are exact
@@ -40,7 +40,7 @@ class Number:
 
 def known(x: int, type: str = "number") -> Number:
     if abs(x) > BIG or type == "number" and int(float(x)) != x:
-        raise Refused(f"not exact: {x}")
+        raise Rejected(f"not exact: {x}")
     return Number(z3.BitVecVal(x, WIDTH), type)
 
 
@@ -86,12 +86,12 @@ class Operators(Path):
         if isinstance(x, Number) and x.type == "wide":
             x = Number(x.x, "bigint" if self.decide(x.x > SAFE) else "number")
         if not isinstance(x, Number) or x.type not in (types or ("number", "bigint")):
-            raise Refused(f"unknown: {getattr(x, 'type', x)} as a {' or '.join(types) or 'number'}")
+            raise Rejected(f"unknown: {getattr(x, 'type', x)} as a {' or '.join(types) or 'number'}")
         return x
 
     def truth(self, x: Value) -> bool:
         if not isinstance(x, bool) and not z3.is_bool(x):
-            raise Refused(f"unknown: the condition {x}")
+            raise Rejected(f"unknown: the condition {x}")
         return self.decide(x)
 
     def equal(self, a: Value, b: Value) -> Any:
@@ -102,7 +102,7 @@ class Operators(Path):
                 return related("===", a, b) if a.type == b.type else False
             case str(), str():
                 return a == b
-        raise Refused(f"unknown: === of {a} and {b}")
+        raise Rejected(f"unknown: === of {a} and {b}")
 
     def binary(self, name: str, a: Value, b: Value) -> Value:
         if name in ("===", "!=="):
@@ -116,7 +116,7 @@ class Operators(Path):
         self.must(z3.And(a.x >= 0, b.x >= 0), f"unknown: {name} of a negative number")
         if a.type == b.type and (result := self.combined(name, a, b, a.type == "bigint")):
             return result
-        raise Refused(f"unknown: {name} of {a} and {b}")
+        raise Rejected(f"unknown: {name} of {a} and {b}")
 
     def combined(self, name: str, a: Number, b: Number, is_big: bool) -> Number | None:
         """An operation on two numbers of a type, of which none is negative, if it is one that this program knows. Operators on

@@ -4,7 +4,7 @@ from dataclasses import dataclass, field
 from typing import Any
 
 import z3
-from path import Path, Refused
+from path import Path, Rejected
 
 Value = Any  # a bit vector of the width of its type, a pointer, or the members of a structure by their names
 
@@ -62,13 +62,13 @@ class Memory(Path):
         if isinstance(x, int):
             return z3.BitVecVal(x, self.word)
         if x.size() > self.word:
-            raise Refused("unknown: an index with more bits than a size")
+            raise Rejected("unknown: an index with more bits than a size")
         return z3.ZeroExt(self.word - x.size(), x)
 
     def moved(self, pointer: Value, by: Value, is_access: bool = False) -> Pointer:
         """A pointer and an index: inside, or also at the end if nothing is accessed there. A null pointer is not moved."""
         if not isinstance(pointer, Pointer):
-            raise Refused("unknown: arithmetic with a pointer to a variable")
+            raise Rejected("unknown: arithmetic with a pointer to a variable")
         region, by = pointer.region, self.size(by)
         rest = region.length - pointer.offset
         is_inside = z3.ULT(by, rest) if is_access else z3.ULE(by, rest)
@@ -83,12 +83,12 @@ class Memory(Path):
             x = at.variable.value
             x = x[at.member] if at.member and x else x
             if x is None:
-                raise Refused(f"uninitialized: {at.variable.name}{'.' + at.member if at.member else ''}")
+                raise Rejected(f"uninitialized: {at.variable.name}{'.' + at.member if at.member else ''}")
             return x
         if at.region.text and z3.is_bv_value(at.offset):
             return z3.BitVecVal(at.region.text[at.offset.as_long()], 8)
         if at.region.is_output or at.region.text:
-            raise Refused(f"reads {at.region.name}, or a text at an index that is not known")
+            raise Rejected(f"reads {at.region.name}, or a text at an index that is not known")
         return self.byte(at.region, at.offset)
 
     def byte(self, region: Region, offset: Any) -> Any:
@@ -97,14 +97,14 @@ class Memory(Path):
 
     def store(self, at: Value, x: Value) -> None:
         if isinstance(x, Place):
-            raise Refused("unknown: the address of a variable in another one")
+            raise Rejected("unknown: the address of a variable in another one")
         if isinstance(at, Place):
             self.log.append((at, True))
             at.variable.value = {**at.variable.value, at.member: x} if at.member else x
             return
         index = at.offset.as_long() if z3.is_bv_value(at.offset) else at.offset
         if not at.region.is_output or index in at.region.written:
-            raise Refused("writes an input" if not at.region.is_output else f"unknown: writes {at.region.name} twice")
+            raise Rejected("writes an input" if not at.region.is_output else f"unknown: writes {at.region.name} twice")
         at.region.written[index] = x
 
     # ---- the functions of string.h
@@ -113,14 +113,14 @@ class Memory(Path):
         for pointer in (to, source):
             self.moved(pointer, count)
         if not to.region.is_output or source.region.is_output or not z3.is_bv_value(to.offset):
-            raise Refused("unknown: memcpy to an input, from out, or to an index that is not known")
+            raise Rejected("unknown: memcpy to an input, from out, or to an index that is not known")
         if source.region.text and z3.is_bv_value(count):
             for i in range(count.as_long()):
                 self.store(self.moved(to, i), self.load(self.moved(source, i)))
         elif z3.is_bv_value(source.offset) and source.offset.as_long() == 0:
             to.region.copied.append((to.offset.as_long(), source.region.name, count))
         else:
-            raise Refused("unknown: memcpy from an index")
+            raise Rejected("unknown: memcpy from an index")
         return to
 
     def memcmp(self, left: Value, right: Value, count: Value) -> Value:
@@ -128,6 +128,6 @@ class Memory(Path):
         for pointer in (left, right):
             self.moved(pointer, count)
             if pointer.region.is_output or pointer.region.text:
-                raise Refused("unknown: memcmp of other than inputs")
+                raise Rejected("unknown: memcmp of other than inputs")
             self.must(z3.And(pointer.offset == 0, pointer.region.length == count), "unknown: memcmp of a part")
         return z3.BitVec(f"the order of {left.region.name} and {right.region.name}", 32)

@@ -13,7 +13,7 @@ Wrong = Callable[
 ]  # what may be wrong for a result: names, and the conditions under which it is
 
 
-class Refused(Exception):
+class Rejected(Exception):
     """The code does something wrong, or something that the check does not know. The kind comes first, up to a colon."""
 
 
@@ -25,7 +25,7 @@ def input_of(solver: Any, *conditions: Any) -> Any:
     """An input that meets the conditions, also those that the solver has, or None if there is none."""
     answer = solver.check(*conditions)
     if answer == z3.unknown:
-        raise Refused(f"unknown: z3 does not know: {solver.reason_unknown()}")
+        raise Rejected(f"unknown: z3 does not know: {solver.reason_unknown()}")
     return solver.model() if answer == z3.sat else None
 
 
@@ -41,12 +41,12 @@ class Path:
         self.steps = self.line = 0
 
     def must(self, condition: Any, what: str) -> None:
-        """Refuses the program if an input that takes the path does not meet the condition."""
+        """Rejects the program if an input that takes the path does not meet the condition."""
         condition = z3.simplify(formula(condition))
         if not z3.is_true(condition) and len(self.decisions) >= len(self.prefix):  # else another path has asked
             wrong = input_of(self.solver, z3.Not(condition))
             if wrong is not None:
-                raise Refused(f"{what}: for {text_of(wrong)}")
+                raise Rejected(f"{what}: for {text_of(wrong)}")
 
     def decide(self, condition: Any) -> bool:
         """Which way the path goes. If an input goes the other way, another path does so."""
@@ -67,7 +67,7 @@ class Path:
         self.line = line
         self.steps += 1
         if self.steps > MOST_STEPS:
-            raise Refused(f"no end: a path of more than {MOST_STEPS} steps")
+            raise Rejected(f"no end: a path of more than {MOST_STEPS} steps")
 
     def compare(self, rows: Any, wrong: Wrong, what: str) -> None:
         """Compares the end of the path with the rows of a definition that inputs of the path have."""
@@ -78,7 +78,7 @@ class Path:
             found = input_of(self.solver, *when, z3.Or(list(conditions.values())))
             if found is not None:
                 names = [name for name, condition in conditions.items() if is_met(condition, found)]
-                raise Refused(f"{what}: {', '.join(names)} for {text_of(found)}")
+                raise Rejected(f"{what}: {', '.join(names)} for {text_of(found)}")
             self.solver.add(z3.Not(z3.And(when)))
             model = input_of(self.solver)
 
@@ -101,7 +101,7 @@ def check(
         solver.add(definition.holds())
     model = input_of(solver)
     if model is None:
-        raise Refused("unknown: no input meets the conditions of a call")
+        raise Rejected("unknown: no input meets the conditions of a call")
     waiting: list[tuple[list[bool], Any]] = [([], model)]
     count = 0
     while waiting:
@@ -109,8 +109,8 @@ def check(
         path = start(*waiting.pop())
         try:
             path.compare(rows, run(path), what)
-        except Refused as why:
-            raise Refused(f"{why} (line {path.line})") from why
+        except Rejected as why:
+            raise Rejected(f"{why} (line {path.line})") from why
         solver.pop()
         waiting += path.open
         count += 1
@@ -118,12 +118,12 @@ def check(
 
 
 def report(name: str, run: Callable[[], int]) -> str:
-    """A line that says whether a check refuses a function."""
+    """A line that says whether a check rejects a function."""
     began = time.process_time()
     try:
         count = run()
-    except Refused as why:
-        return f"{name}: REFUSED: {' '.join(str(why).split())}"
+    except Rejected as why:
+        return f"{name}: REJECTED: {' '.join(str(why).split())}"
     return f"{name}: all inputs, {count} paths, {time.process_time() - began:.1f} s"
 
 
@@ -145,7 +145,7 @@ def row_of(rows: Any, model: Any) -> tuple[list[Any], Result]:
                 break
             when.append(z3.Not(condition))
         else:
-            raise Refused(f"unknown: the definition has no row for {text_of(model)}")
+            raise Rejected(f"unknown: the definition has no row for {text_of(model)}")
         when.append(condition)
         rows = then
     return when, rows

@@ -11,7 +11,7 @@ from c import Run
 from definitions import OK, Result, TwoVarints, widened
 from function import Function, different, differs
 from memory import Place, Region, Value
-from path import Refused, Wrong
+from path import Rejected, Wrong
 from tree import Node, Unit
 
 
@@ -41,7 +41,7 @@ class Turn(Run):
     def place_of(self, name: str) -> Place:
         name, _, member = name.partition(".")
         if name not in self.scope:
-            raise Refused(f"not shown: read_many: the invariant has the variable {name}")
+            raise Rejected(f"not shown: read_many: the invariant has the variable {name}")
         return Place(self.scope[name], member or None)
 
     def state(self) -> dict[str, Value]:
@@ -52,7 +52,7 @@ class Turn(Run):
         if self.calls != ["multihash_read_many"]:
             return super().loop(test, body, step)
         if self.is_in_turn:
-            raise Refused("not shown: read_many: it has a second loop")
+            raise Rejected("not shown: read_many: it has a second loop")
         wrong = violated(self.state(), self.arguments, 0, 0)
         self.must(z3.Not(z3.Or(list(wrong.values()))), "not shown: read_many: the invariant before the first turn")
         self.is_in_turn = True

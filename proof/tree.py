@@ -6,7 +6,7 @@ import subprocess
 from pathlib import Path as File
 from typing import Any
 
-from path import Refused
+from path import Rejected
 
 Node = Any  # a node of the tree
 
@@ -21,24 +21,24 @@ MACHINE = r"#|\b__\w+|\b_[A-Z]\w*|\[\[|\[\s*static|%:|'|\b(long|short|asm|restri
 MACHINE += r"|\w*(FAST|LEAST|fast|least|PTR|ptr|wchar|WCHAR|WINT|ATOMIC|INTMAX|intmax)\w*"
 
 
-def refuse_machine(text: str) -> None:
-    """Refuses a text that may mean something else for another compiler or machine."""
+def reject_machine(text: str) -> None:
+    """Rejects a text that may mean something else for another compiler or machine."""
     if found := re.search(TEXT, text):
-        raise Refused(f"unknown: the character {found[0]!r}, which compilers read in different ways")
+        raise Rejected(f"unknown: the character {found[0]!r}, which compilers read in different ways")
     text = re.sub(r'/\*.*?\*/|//[^\n]*|("[^"\n]*")', lambda found: found[1] or " ", text, flags=re.S)
     for line in re.sub(BLOCK, "\n", text).splitlines():
         directive = re.fullmatch(r"\s*#\s*(.*?)\s*", line)
         if directive and not re.fullmatch(DIRECTIVE, re.sub(r"\s+", " ", directive[1])):
-            raise Refused(f"unknown: the directive #{directive[1]}")
+            raise Rejected(f"unknown: the directive #{directive[1]}")
         if found := re.search(MACHINE, re.sub('"[^"]*"', " ", directive[1] if directive else line)):
-            raise Refused(f"unknown: {found[0]}, which depends on the compiler or the machine")
+            raise Rejected(f"unknown: {found[0]}, which depends on the compiler or the machine")
 
 
 def type_of(node: Node) -> str:
     """The type of a node, without what is said of names and constants."""
     kind = node["type"].get("desugaredQualType", node["type"]["qualType"])
     if re.search(r"volatile|_Atomic|[\[(]", kind + node["type"]["qualType"]):
-        raise Refused(f"unknown: the type {kind}: an array, a function, volatile")
+        raise Rejected(f"unknown: the type {kind}: an array, a function, volatile")
     return " ".join(re.sub(r"\b(const|struct)\b", "", kind).split())
 
 
@@ -47,15 +47,15 @@ class Unit:
 
     def __init__(self, source: File, include: File, target: str, word: int):
         for file in (source, include / "multihash.h"):
-            refuse_machine(file.read_bytes().decode())
+            reject_machine(file.read_bytes().decode())
         headers = {source.parent / "multihash.h", *(include / f"{x}.h" for x in ("string", "stddef", "stdint"))}
         if found := [each for each in headers if each.exists()]:
-            raise Refused(f"unknown: {found[0]}, which is read in place of another header")
+            raise Rejected(f"unknown: {found[0]}, which is read in place of another header")
         command = ["clang", f"--target={target}", "-std=c11", "-ffreestanding", "-fsyntax-only", f"-I{include}"]
         command += ["-pedantic-errors", "-Werror=initializer-overrides", "-Xclang", "-ast-dump=json", str(source)]
         run = subprocess.run(command, stdout=-1, stderr=-1, text=True)
         if run.returncode:
-            raise Refused(f"unknown: Clang says {' '.join(re.findall('error: .*', run.stderr))[:300]}")
+            raise Rejected(f"unknown: Clang says {' '.join(re.findall('error: .*', run.stderr))[:300]}")
         self.word = word
         # the types of numbers: how many bits each has, and whether it has negative ones
         self.numbers = {"char": (8, True), "int": (32, True), "long": (word, True), "long long": (64, True)}
@@ -86,12 +86,12 @@ class Unit:
                 self.functions[name] = node
                 is_api = name in self.declared and not node.get("inline")
                 if name in ("memcpy", "memcmp") or node.get("storageClass") != "static" and not is_api:
-                    raise Refused(f"unknown: {name}, which other files may define too")
+                    raise Rejected(f"unknown: {name}, which other files may define too")
         elif kind == "EnumDecl":
             for each in inner:
                 values = [int(x["value"]) for x in each.get("inner", []) if "value" in x]
                 if not values:
-                    raise Refused(f"unknown: the value of {each['name']}")
+                    raise Rejected(f"unknown: the value of {each['name']}")
                 self.constants[each["name"]] = values[0]
         elif kind == "RecordDecl":
             self.records[name] = node
@@ -100,12 +100,12 @@ class Unit:
             if of in self.numbers:
                 self.numbers[name] = self.numbers[of]
         elif kind != "EmptyDecl":
-            raise Refused(f"unknown: {kind} {name} in file scope (line {node['line']})")
+            raise Rejected(f"unknown: {kind} {name} in file scope (line {node['line']})")
 
     def width(self, kind: str) -> int:
         """The number of bits of a type of numbers."""
         if kind not in self.numbers:
-            raise Refused(f"unknown: the type {kind}")
+            raise Rejected(f"unknown: the type {kind}")
         return self.numbers[kind][0]
 
     def is_signed(self, kind: str) -> bool:
@@ -115,20 +115,20 @@ class Unit:
         """The members of a structure, which are numbers, with their types."""
         record = self.records.get(kind)
         if not record or record["tagUsed"] != "struct":
-            raise Refused(f"unknown: the structure {kind}")
+            raise Rejected(f"unknown: the structure {kind}")
         inner = [x for x in record["inner"] if x["kind"] != "FullComment"]
         if any(x["kind"] != "FieldDecl" or x.get("isBitfield") or x.get("inner") for x in inner):
-            raise Refused(f"unknown: an attribute or a bit-field in {kind}")
+            raise Rejected(f"unknown: an attribute or a bit-field in {kind}")
         members = {x["name"]: type_of(x) for x in inner}
         if members.values() - self.numbers.keys():
-            raise Refused(f"unknown: a member of {kind} that is no number")
+            raise Rejected(f"unknown: a member of {kind} that is no number")
         return members
 
     def function(self, name: str) -> tuple[list[Node], Node]:
         """The parameters and the body."""
         *parameters, body = [x for x in self.functions[name]["inner"] if x["kind"] != "FullComment"]
         if {x["kind"] for x in parameters} - {"ParmVarDecl"} or self.functions[name].get("variadic"):
-            raise Refused(f"unknown: {name} has an attribute, or any number of arguments")
+            raise Rejected(f"unknown: {name} has an attribute, or any number of arguments")
         return parameters, body
 
     def result(self, name: str) -> str:

@@ -1,4 +1,4 @@
-"""Edits that are wrong: the function whose check has to refuse each, the text, what is put in its place, and how the reason
+"""Edits that are wrong: the function whose check has to reject each, the text, what is put in its place, and how the reason
 starts. Most are of multihash.c and multihash.h; the last ones are of the definitions, and of how z3 is called."""
 
 BAD = "return (multihash_varint){0};"

@@ -1,4 +1,4 @@
-"""Edits that are wrong: the function whose check has to refuse each, the text, what is put in its place, and how the reason
+"""Edits that are wrong: the function whose check has to reject each, the text, what is put in its place, and how the reason
 starts. All but the last are of format.js."""
 
 VARINT = "export function readVarint(bytes, at, end) {"

@@ -90,7 +90,7 @@ RATTLE = re.compile(
     r"\b(?:ghost|requires|ensures|invariant|decreases|syntax|abbrev|prove|tactic|Model|Drop|HostRuntime|Global)\b"
     r"|[^\x00-\x7f]"
 )
-# A contract that is refused.
+# A contract that is rejected.
 REQUIRES = re.compile(r"(?m)^ *pub fn (\w+)(?:(?!^ *\{\n|^ *(?:pub |pub\(crate\) )?fn |;\n)[\s\S])*?^ *requires\b")
 # Examples in the documentation, which are Rattle.
 EXAMPLE = re.compile(r"^ *///\n *///? ```\n(?: *///[^\n]*\n)*? */// ```\n", re.M)
@@ -142,8 +142,8 @@ def derived(attribute: re.Match[str]) -> str:
 def erased(path: Path, crate: str) -> str:
     """Returns a module without what is removed, and with what is added. Ends the program at what is no Rust."""
     text = TO_BYTES.sub("", EXAMPLE.sub("", path.read_text("utf-8")))
-    if refused := REQUIRES.search(TEXT.sub("", text)):
-        sys.exit(f"{path.relative_to(TOP)}: {refused[1]} is public, and requires something")
+    if rejected := REQUIRES.search(TEXT.sub("", text)):
+        sys.exit(f"{path.relative_to(TOP)}: {rejected[1]} is public, and requires something")
     text = RESTRICTED.sub(closed, text)
     if crate != "multihash":
         text = OF_ERROR.sub("#[non_exhaustive]\n", OF_VALUE.sub(derived, text))
