@@ -44,7 +44,7 @@ OF_RATTLE = re.compile(
 TO_BYTES = re.compile(r"pub fn to_bytes \( & self|pub fn to_bytes < T")
 # imports of what Rattle has without one, who implements a trait, constant functions, and names of functions that may fail
 ADDED = re.compile(
-    r"use (?:crate :: rattle|alloc) :: [^;]*; |pub mod values ; pub use values :: \{ to_bytes , Position \} ; |: super :: values :: Part "
+    r"use (?:crate :: rattle :: (?:std|Arrays|Faults|OrFail|AllocError|\{ AllocError , AllocFailed \})|alloc :: vec :: Vec) ; |pub mod values ; pub use values :: \{ to_bytes , Position \} ; |: super :: values :: Part "
     r"|(?<=pub )const (?=fn (?:code|size) \( & self \))|_or_fail\b"
 )
 BOTH = re.compile(r"\bcrate :: (?:proved :: |form :: )?|\bmultihash :: |(?<=pub )\( crate \) |, (?=\) (?:->|;|\{))")
@@ -138,6 +138,7 @@ EDITS = (
         "read_word",
     ),
     ("form/counted", "for _ in 0..count {", "for _ in 0..=count {", "read_items"),
+    ("proved/varint", "use crate::proved::Error;\n", "use crate::proved::Error;\nuse crate::rattle::Other as Read;\n", ""),
     ("form/tag", "varint::write(N, w)?;", "varint::write(N, w)?;varint::write(N, w)?;", "write"),
 )
 

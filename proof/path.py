@@ -8,9 +8,8 @@ import z3
 from definitions import Result, Rows, TwoVarints, widened
 
 MOST_STEPS = 5_000
-Wrong = Callable[
-    [Result], dict[str, Any]
-]  # what may be wrong for a result: names, and the conditions under which it is
+# what may be wrong for a result: names, and the conditions under which it is
+Wrong = Callable[[Result], dict[str, Any]]
 
 
 class Rejected(Exception):
