@@ -138,7 +138,12 @@ EDITS = (
         "read_word",
     ),
     ("form/counted", "for _ in 0..count {", "for _ in 0..=count {", "read_items"),
-    ("proved/varint", "use crate::proved::Error;\n", "use crate::proved::Error;\nuse crate::rattle::Other as Read;\n", ""),
+    (
+        "proved/varint",
+        "use crate::proved::Error;\n",
+        "use crate::proved::Error;\nuse crate::rattle::Other as Read;\n",
+        "",
+    ),
     ("form/tag", "varint::write(N, w)?;", "varint::write(N, w)?;varint::write(N, w)?;", "write"),
 )
 
