@@ -7,9 +7,9 @@ from operator import add, and_, eq, ge, gt, le, lt, mul, ne, or_, sub
 from typing import Any
 
 import z3
-from memory import Memory, Place, Pointer, Region, Value, Variable
+from c_memory import Memory, Place, Pointer, Region, Value, Variable
 from path import Rejected, Return
-from tree import Node, Unit, type_of
+from c_tree import Node, Unit, type_of
 
 ORDER = {"==": eq, "!=": ne, "<": lt, "<=": le, ">": gt, ">=": ge}
 UNSIGNED = {**ORDER, "<": z3.ULT, "<=": z3.ULE, ">": z3.UGT, ">=": z3.UGE}

@@ -9,10 +9,10 @@ from functools import cache, partial
 from pathlib import Path as File
 
 from command import command
-from function import Function, readers_of
+from c_function import Function, readers_of
 from path import Rejected, report
-from read_many import ReadMany
-from tree import Unit
+from c_read_many import ReadMany
+from c_tree import Unit
 from wrong_c import EDITS
 
 C = File(__file__).parents[1] / "bindings/c"

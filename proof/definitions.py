@@ -1,6 +1,6 @@
 """What each function of multihash.h returns and writes, for all arguments: docs/FORMAT.md as formulas, in its order.
 A function has the name and the parameters of the header, but for the pointers. What multihash_read_many returns is in
-read_many.py, by the definition of multihash_read."""
+c_read_many.py, by the definition of multihash_read."""
 import re
 from collections.abc import Callable
 from dataclasses import dataclass, field

@@ -9,10 +9,10 @@ import definitions
 import z3
 from c import Run
 from definitions import OK, Result, TwoVarints, widened
-from function import Function, different, differs
-from memory import Place, Region, Value
+from c_function import Function, different, differs
+from c_memory import Place, Region, Value
 from path import Rejected, Wrong
-from tree import Node, Unit
+from c_tree import Node, Unit
 
 
 def invariant(count: Any, taken: Any) -> dict[str, Any]:

@@ -6,9 +6,9 @@ import definitions
 import z3
 from c import Run
 from definitions import FIRST, OK, SECOND, Result, TwoVarints, widened
-from memory import Place, Pointer, Region, Value, Variable
+from c_memory import Place, Pointer, Region, Value, Variable
 from path import Rejected, Wrong, check, miswritten
-from tree import Unit, type_of
+from c_tree import Unit, type_of
 
 # Static functions of this type read a varint: of `bytes` with a length, the number and how many bytes it has. Each is
 # shown once. Where another function calls one it returns FIRST or SECOND.
