@@ -11,8 +11,8 @@ use Rattle.form.specs.declared.located.LocatedError.{LocatedError}
 abbrev pub IsAt : LocatedError → ℕ → ℕ → ℕ → Type 0
 IsAt x item start offset = (x.item ≡ item) × (x.start ≡ start) × (x.offset ≡ offset)
 
+-- The error is the first one of reading the values that fill the input.
 -- The values before it were read, and what follows them shows the error, or is truncated.
--- The error is the first one of reading the values that fill the input
 pub record IsFirstError {A : Type 0} (IsForm : A → List ℕ → Type 0) (Rejects : FormError → List ℕ → Type 0)
     (input : List ℕ) (x : LocatedError) : Type 0 where
   pub items : List A

@@ -96,9 +96,9 @@ pub record IsUndecided {A E : Type 0} (IsForm : A → List ℕ → Type 0) (Reje
   pub no_form : (x : A) (front rest : List ℕ) → bytes ≡ front ++ rest → ¬ (IsForm x front)
   pub no_error : (e : E) (front rest : List ℕ) → bytes ≡ front ++ rest → ¬ (Rejects e front)
 
+-- What was consumed of a known input when reading failed with `e`.
 -- They are rejected with `e`; or the reader failed before anything was decided; or `e` states that the
 -- input is truncated, and nothing in it decides.
--- What was consumed of a known input when reading failed with `e`
 pub record StopsAt {A : Type 0} (IsForm : A → List ℕ → Type 0) (Rejects : FormError → List ℕ → Type 0)
     (Failed : Type 0) (e : FormError) (input : List ℕ) (new : Option (List ℕ)) : Type 0 where
   pub consumed : List ℕ
@@ -116,8 +116,8 @@ abbrev pub IsReadError : {A : Type 0} → (A → List ℕ → Type 0) → (FormE
     → List ℕ → Type 0
 IsReadError IsForm Rejects e input = (left : Option (List ℕ)) × ReadStops IsForm Rejects 0 0 e (Some input) left
 
+-- The error of reading a value that is the whole of the input: out of memory, or one of these.
 -- The input shows `e`; or it is truncated; or an encoding that has bytes after it is at its front.
--- The error of reading a value that is the whole of the input: out of memory, or one of these
 abbrev pub IsWholeError : {A : Type 0} → (A → List ℕ → Type 0) → (FormError → List ℕ → Type 0) → FormError
     → List ℕ → Type 0
 IsWholeError {A = A} IsForm Rejects e input = IsFailed IsOutOfMemory e

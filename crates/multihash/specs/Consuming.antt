@@ -37,8 +37,8 @@ abbrev pub ReadMayFailWith : ℕ → Refusal → Type 0
 ReadMayFailWith S e =
     ((size : ℕ) × IsInvalidSize size e × (digest_limit S < size)) ⊎ IsAnyVarintError e ⊎ IsEof e
 
+-- What reading a varint consumed when it failed: bytes of which the last shows the error.
 -- After a failure of the reader, the bytes are insufficient.
--- What reading a varint consumed when it failed: bytes of which the last shows the error
 pub record ConsumesAtVarintError (e : Refusal) (old new : Option (List ℕ)) : Type 0 where
   pub consumed : List ℕ
   pub consumes : Consumes old consumed new
@@ -47,9 +47,9 @@ pub record ConsumesAtVarintError (e : Refusal) (old new : Option (List ℕ)) : T
   pub all : IsVarintError insufficient e → IsAtEnd new
   pub failed : IsReaderError e → IsInsufficient consumed
 
+-- What `read` consumed when the input ended or the reader failed.
 -- All of an insufficient input, or at least both varints of a truncated digest; after a failure of
 -- the reader, bytes whose own verdict is incomplete.
--- What `read` consumed when the input ended or the reader failed
 pub record ConsumesAtError (S : ℕ) (e : Refusal) (old new : Option (List ℕ)) : Type 0 where
   pub consumed : List ℕ
   pub consumes : Consumes old consumed new
@@ -78,9 +78,9 @@ FailsBy before after IsListed e = ((before < after) × IsReaderError e) ⊎ ((af
 abbrev pub EndsOrFails : ℕ → List ℕ → ℕ → ℕ → Type 0
 EndsOrFails S rest before after = (before < after) ⊎ ((v : Verdict) × HasVerdict S rest v × IsIncomplete v)
 
+-- The clauses of `read` for a result, while the reader's failures went from `before` to `after`.
 -- If the verdict is not incomplete, exactly the shortest prefix that settles it was consumed; otherwise,
 -- and if the reader failed, no prefix of what was consumed settles one.
--- The clauses of `read` for a result, while the reader's failures went from `before` to `after`
 abbrev pub ReadMeets : (S : ℕ) → Option (List ℕ) → Option (List ℕ) → ℕ → ℕ → Result (Fields S) Refusal
     → Type 0
 ReadMeets S old new before after r = record {

@@ -5,8 +5,8 @@ use Rattle.multihash.specs.Writing.{AdvancesPast, AdvancesPast-none, AdvancesPas
 use Rattle.multihash.specs.Writing.{AppendsAtEnd-concatenated}
 use Rattle.multihash.specs.declared.no_std_io.slice_writer.SliceWriter.{SliceWriter}
 
+-- The bytes have been appended to the first `filled` bytes.
 -- The rest of the slice is unchanged, and `after` bytes are filled then.
--- The bytes have been appended to the first `filled` bytes
 pub record FillsSlice (old : List ℕ) (filled : ℕ) (bytes new : List ℕ) (after : ℕ) : Type 0 where
   pub appends : AppendsAtEnd (take filled old) bytes (take after new)
   pub advances : AdvancesPast (drop filled old) bytes (drop after new)

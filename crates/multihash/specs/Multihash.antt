@@ -3,9 +3,9 @@ use Rattle.std.specs.Prelude.{ℕ, ◌<◌, ◌≤◌, List, take}
 use Rattle.multihash.specs.Varint.{varint_limit}
 use Rattle.multihash.specs.Pair.{Pair, digest_limit}
 
+-- The code, the digest's size, and the buffer of S bytes, which starts with the digest.
 -- That the code is in range and the digest fits is part of the value, so it is known of a value that
 -- nothing has read yet.
--- The code, the digest's size, and the buffer of S bytes, which starts with the digest
 pub record Fields (S : ℕ) : Type 0 where
   pub code : ℕ
   pub size : ℕ

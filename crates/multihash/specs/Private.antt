@@ -13,8 +13,8 @@ use Rattle.serde_json.specs.declared.value.Value.{Value}
 
 -- ---- word.rt
 
+-- The word is made of the first sixteen bytes, lowest first.
 -- Zeros stand for the bytes that are missing, and that many are there.
--- The word is made of the first sixteen bytes, lowest first
 pub record IsFrontWord (bytes : List ℕ) (word present : ℕ) : Type 0 where
   pub word_is : word ≡ place_value 256 (take 16 bytes)
   pub present_is : present ≡ min 16 (length bytes)

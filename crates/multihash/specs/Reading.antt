@@ -4,8 +4,8 @@ use Rattle.std.specs.Prelude.{IfOk, IfErr, OnOk, OnErr, IsOk, IsOkAnd, IsNone}
 use Rattle.std.specs.Io.KnownBytes.{prepend_known, IsAtEnd}
 use Rattle.multihash.specs.Fault.{Fault, IsUnexpectedEof, IsOwnFault}
 
+-- A call consumed these bytes: the rest was these, followed by the rest now.
 -- An input that is not known stays so.
--- A call consumed these bytes: the rest was these, followed by the rest now
 abbrev pub Consumes : Option (List ℕ) → List ℕ → Option (List ℕ) → Type 0
 Consumes old consumed new = old ≡ prepend_known consumed new
 
@@ -51,8 +51,8 @@ ReadExactLaws rest failures old new buffer filled outcome = record {
   err : OnErr outcome (ConsumesFewerThan (length buffer) (rest old) (rest new));
 }
 
+-- `None` means that the input has ended and nothing was consumed.
 -- At the end of a known input `None` is returned unless the reader failed.
--- `None` means that the input has ended and nothing was consumed
 abbrev pub EndsInNone : {A E : Type 0} → Option (List ℕ) → Option (List ℕ) → ℕ → ℕ → Result (Option A) E
     → Type 0
 EndsInNone old new before after outcome = record {

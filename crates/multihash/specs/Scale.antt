@@ -30,9 +30,9 @@ pub record HasScaleSize (size : ℕ) (input rest : List ℕ) : Type 0 where
   pub in_range : code < varint_limit
   pub cut : input ≡ code_bytes ++ size ∷ rest
 
+-- The verdict of decoding SCALE on the front of the input.
 -- No varint is read. The capacity is `S`, not `digest_limit S`, since the size is one byte, so at
 -- most 255.
--- The verdict of decoding SCALE on the front of the input
 abbrev pub HasScaleVerdict : ℕ → List ℕ → Verdict → Type 0
 HasScaleVerdict S input (accepted p) =
     (bytes : List ℕ) × (rest : List ℕ) × IsScale p bytes × (length p.digest ≤ S)
@@ -54,9 +54,9 @@ abbrev pub ScaleMayFailWith : ℕ → Refusal → Type 0
 ScaleMayFailWith S e = ((code : ℕ) × IsInvalidCode code e × (varint_limit ≤ code))
     ⊎ ((size : ℕ) × IsInvalidSize size e × (S < size)) ⊎ IsEof e
 
+-- What decoding SCALE consumed when it failed.
 -- Eight bytes if the code is too large, nine if the size is; otherwise, also after a failure of the
 -- reader, bytes that by themselves are truncated.
--- What decoding SCALE consumed when it failed
 pub record ConsumesAtScaleError (S : ℕ) (e : Refusal) (old new : Option (List ℕ)) : Type 0 where
   pub consumed : List ℕ
   pub consumes : Consumes old consumed new
