@@ -92,7 +92,7 @@ class value : private ordered<value> {
     {
         char bytes[MULTIHASH_HEAD_MAX + MULTIHASH_DIGEST_MAX];
         std::size_t length = 0;
-        multihash_front head = multihash_head(nullptr, 0);
+        multihash_head_result head = multihash_head(nullptr, 0);
         while (head.status == MULTIHASH_INSUFFICIENT && from.get(bytes[length])) {
             length++;
             head = multihash_head(bytes_of({bytes, length}), length);

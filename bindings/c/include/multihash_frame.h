@@ -52,7 +52,8 @@ static inline multihash_frame multihash_read_frame(multihash_stream_read *reader
         frame.status = MULTIHASH_NO_ROOM;
         return frame;
     }
-    size_t length = frame.length & SIZE_MAX, got = reader(stream, out, length);
+    size_t length = frame.length & SIZE_MAX; /* fits; a cast would be old-style in C++ */
+    size_t got = reader(stream, out, length);
     frame.taken += got;
     if (got < length) frame.status = MULTIHASH_UNEXPECTED_EOF;
     return frame;

@@ -69,7 +69,7 @@ static inline int mh_text_trailing(char *text, size_t text_size, uint64_t count)
 }
 
 /* The message for a malformed varint: `head` is what multihash_head returns for `bytes`, which are not empty. */
-static inline int mh_message_malformed(char *text, size_t text_size, const uint8_t *bytes, multihash_front head)
+static inline int mh_message_malformed(char *text, size_t text_size, const uint8_t *bytes, multihash_head_result head)
 {
     size_t ended = 0; /* the number of varints that end in the bytes consumed: the malformed one, if it is not minimal */
     for (size_t i = 0; i < head.taken; i++) ended += bytes[i] < 128;
@@ -98,7 +98,8 @@ static inline int mh_message_malformed(char *text, size_t text_size, const uint8
 static inline int multihash_message(char *text, size_t text_size, const uint8_t *bytes, size_t bytes_length,
                                     size_t limit)
 {
-    multihash_front head = multihash_head(bytes, bytes_length < MULTIHASH_HEAD_MAX ? bytes_length : MULTIHASH_HEAD_MAX);
+    size_t first = bytes_length < MULTIHASH_HEAD_MAX ? bytes_length : MULTIHASH_HEAD_MAX;
+    multihash_head_result head = multihash_head(bytes, first);
     uint64_t most = limit < MULTIHASH_DIGEST_MAX ? limit : MULTIHASH_DIGEST_MAX;
     uint64_t present = bytes_length - head.taken, length = head.digest_length;
 

@@ -33,7 +33,7 @@ static uint32_t batch(multihash_batch from, uint64_t *result)
     return put(from.status, result, from.size, from.count);
 }
 
-static uint32_t head(multihash_front from, uint64_t *result)
+static uint32_t head(multihash_head_result from, uint64_t *result)
 {
     result[2] = from.taken;
     return put(from.status, result, from.code, from.digest_length);

@@ -63,7 +63,7 @@ static void check_encoding(encoder encode, uint64_t code, const uint8_t *digest,
 static void check_accepted(const uint8_t *input, size_t length, multihash_decoded result)
 {
     multihash_item item;
-    multihash_front head = multihash_head(input, length);
+    multihash_head_result head = multihash_head(input, length);
     multihash_varint code = multihash_read_varint(input, length);
     multihash_batch batch = multihash_read_many(input, length, &item, 1);
     const size_t start = result.digest_offset;

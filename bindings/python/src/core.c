@@ -142,7 +142,7 @@ static PyObject *head(PyObject *module, PyObject *data)
     input from;
     PyObject *result;
     if (get_input(data, "data", MULTIHASH_HEAD_MAX, &from) < 0) return NULL;
-    multihash_front found = multihash_head(from.bytes, from.length);
+    multihash_head_result found = multihash_head(from.bytes, from.length);
     if (found.status == MULTIHASH_OK) {
         unsigned long long code = found.code, length = found.digest_length;
         result = Py_BuildValue("KKn", code, length, (Py_ssize_t)found.taken);
