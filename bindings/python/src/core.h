@@ -1,6 +1,6 @@
 /* What the files of the module share. They convert arguments and results. The library for C decides what a multihash is;
- * reader.c alone compares the length of a digest with the limit, so that it reads no byte of one that is too long. They
- * are in the stable ABI of the first CPython that pyproject.toml wants: setup.py defines Py_LIMITED_API. */
+ * reader.c alone compares the length of a digest with the limit, so that it reads no byte of one that is too long. The
+ * files use only the stable ABI of the first CPython that pyproject.toml wants: setup.py defines Py_LIMITED_API. */
 #define PY_SSIZE_T_CLEAN
 #include <Python.h>
 #include <stddef.h>

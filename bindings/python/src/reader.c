@@ -144,7 +144,8 @@ static int keep(reader_object *reader, const input *from)
     return 0;
 }
 
-/* Ends it with what the file returned: 1, or 0 if that is empty, at the end of the file; negative with an error set. */
+/* Ends the call of the file that `begin` began, with what it returned: 1, or 0 if that is empty, at the end of the
+ * file; negative with an error set. */
 static int end(reader_object *reader, PyObject *chunk)
 {
     input from;
