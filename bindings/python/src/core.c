@@ -248,15 +248,15 @@ static PyObject *encoded_len(PyObject *module, GIVEN)
 
 static PyObject *encode_varint(PyObject *module, GIVEN)
 {
-    static char *names[] = {"number", NULL};
+    static char *names[] = {"value", NULL};
     uint8_t out[MULTIHASH_VARINT_LENGTH_MAX];
-    PyObject *number;
-    uint64_t value;
-    if (!get_arguments(given, count, named, "O:encode_varint", names, &number, NULL)) return NULL;
-    if (get_number(number, "number", &value) < 0) return NULL;
-    multihash_encoded made = multihash_write_varint(value, out, sizeof out);
+    PyObject *value;
+    uint64_t number;
+    if (!get_arguments(given, count, named, "O:encode_varint", names, &value, NULL)) return NULL;
+    if (get_number(value, "value", &number) < 0) return NULL;
+    multihash_encoded made = multihash_write_varint(number, out, sizeof out);
     if (made.status == MULTIHASH_OK) return PyBytes_FromStringAndSize((const char *)out, (Py_ssize_t)made.length);
-    return encoding_error(PyModule_GetState(module), made.status, NULL, number);
+    return encoding_error(PyModule_GetState(module), made.status, NULL, value);
 }
 
 static PyObject *compare(PyObject *module, GIVEN)
@@ -289,9 +289,9 @@ static PyMethodDef functions[] = {
     {"read_many", read_many, METH_O, NULL},
     {"read_varint", WITH_NAMES(read_varint),
      "read_varint(data)\n--\n\n"
-     "Decodes the varint at the start of `data`. Returns the number, below 2**63, and the length of the varint."},
+     "Decodes the varint at the start of `data`. Returns the value, below 2**63, and the length of the varint."},
     {"encode_varint", WITH_NAMES(encode_varint),
-     "encode_varint(number)\n--\n\nReturns the varint of a number below 2**63."},
+     "encode_varint(value)\n--\n\nReturns the varint of a value below 2**63."},
     {"encode", WITH_NAMES(encode), "encode(code, digest)\n--\n\nReturns the encoding of a code and a digest."},
     {"scale_encode", WITH_NAMES(scale_encode),
      "scale_encode(code, digest)\n--\n\nReturns the SCALE encoding of a code and a digest."},

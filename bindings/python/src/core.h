@@ -68,7 +68,7 @@ PyObject *raise_error(const state *own, multihash_status status, uint64_t size, 
                       const char *text);
 
 /* Raises the error of an encoding of a digest of that length, to which it steals the reference, and a code, or of the
- * varint of a number. */
+ * varint of a value. */
 PyObject *encoding_error(const state *own, multihash_status status, PyObject *length, PyObject *number);
 
 /* Writes why an input of that length does not start with a varint. */

@@ -135,7 +135,7 @@ NUMBERS = [
     *((lambda number, call=call: call(number, b""), "code", Status.INVALID_CODE) for call in ENCODERS),
     (lambda number: vm.encoded_len(number, 0), "code", Status.INVALID_CODE),
     (lambda number: vm.encoded_len(18, number), "digest_length", Status.INVALID_SIZE),
-    (vm.encode_varint, "number", Status.OVERFLOW),
+    (vm.encode_varint, "value", Status.OVERFLOW),
 ]
 # What reads with a limit.
 LIMITED = [

@@ -81,10 +81,10 @@ def scale_decode(data: Buffer) -> Tuple[Multihash, int]:
 def head(data: Buffer, /) -> Tuple[int, int, int]: ...
 def read_many(data: Buffer, /) -> Tuple[bytearray, int, bytes]: ...
 def read_varint(data: Buffer) -> Tuple[int, int]:
-    """Decodes the varint at the start of `data`. Returns the number, below 2**63, and the length of the varint."""
+    """Decodes the varint at the start of `data`. Returns the value, below 2**63, and the length of the varint."""
 
-def encode_varint(number: int) -> bytes:
-    """Returns the varint of a number below 2**63."""
+def encode_varint(value: int) -> bytes:
+    """Returns the varint of a value below 2**63."""
 
 def encode(code: int, digest: Buffer) -> bytes:
     """Returns the encoding of a code and a digest."""
