@@ -80,13 +80,14 @@ int get_input(PyObject *argument, const char *name, Py_ssize_t most, input *to)
 }
 
 /* CPython's parser, which takes longer, parses arguments with names and wrong ones. */
-int get_arguments(GIVEN, const char *format, char **names, PyObject **first, PyObject **second)
+int get_arguments(PyObject *const *given, Py_ssize_t count, PyObject *named, const char *format, char **names,
+                  PyObject **first, PyObject **second)
 {
     Py_ssize_t most = second == NULL ? 1 : 2, least = format[1] == '|' ? 1 : most;
     if (named == NULL && least <= count && count <= most) {
         *first = given[0];
         if (count == 2) *second = given[1];
-        return 1;
+        return 0;
     }
     PyObject *tuple = PyTuple_New(count), *others = PyDict_New();
     int is_right = tuple != NULL && others != NULL;
@@ -97,7 +98,7 @@ int get_arguments(GIVEN, const char *format, char **names, PyObject **first, PyO
     is_right = is_right && PyArg_ParseTupleAndKeywords(tuple, others, format, names, first, second);
     Py_XDECREF(tuple);
     Py_XDECREF(others);
-    return is_right;
+    return is_right ? 0 : -1;
 }
 
 int get_number(PyObject *argument, const char *name, uint64_t *number)

@@ -100,15 +100,16 @@ static PyObject *decoded_front(PyObject *module, input *from, multihash_decoded 
 }
 
 /* The first bytes of `data`, the only argument of a function. */
-static int get_data(GIVEN, const char *format, Py_ssize_t most, input *from)
+static int get_data(PyObject *const *given, Py_ssize_t count, PyObject *named, const char *format, Py_ssize_t most,
+                    input *from)
 {
     static char *names[] = {"data", NULL};
     PyObject *data;
-    if (!get_arguments(given, count, named, format, names, &data, NULL)) return -1;
+    if (get_arguments(given, count, named, format, names, &data, NULL) < 0) return -1;
     return get_input(data, "data", most, from);
 }
 
-static PyObject *decode(PyObject *module, GIVEN)
+static PyObject *decode(PyObject *module, PyObject *const *given, Py_ssize_t count, PyObject *named)
 {
     input from;
     if (get_data(given, count, named, "O:decode", MULTIHASH_LENGTH_MAX, &from) < 0) return NULL;
@@ -118,19 +119,19 @@ static PyObject *decode(PyObject *module, GIVEN)
     return multihash;
 }
 
-static PyObject *read_front(PyObject *module, GIVEN)
+static PyObject *read_front(PyObject *module, PyObject *const *given, Py_ssize_t count, PyObject *named)
 {
     static char *names[] = {"data", "limit", NULL};
     PyObject *data, *most = NULL;
     size_t limit = longest;
     input from;
-    if (!get_arguments(given, count, named, "O|O:read", names, &data, &most)) return NULL;
+    if (get_arguments(given, count, named, "O|O:read", names, &data, &most) < 0) return NULL;
     if (most != NULL && get_size(most, "limit", &limit) < 0) return NULL;
     if (get_input(data, "data", MULTIHASH_LENGTH_MAX, &from) < 0) return NULL;
     return decoded_front(module, &from, multihash_read_limit(from.bytes, from.length, limit), &limit);
 }
 
-static PyObject *scale_decode(PyObject *module, GIVEN)
+static PyObject *scale_decode(PyObject *module, PyObject *const *given, Py_ssize_t count, PyObject *named)
 {
     input from;
     if (get_data(given, count, named, "O:scale_decode", MULTIHASH_SCALE_LENGTH_MAX, &from) < 0) return NULL;
@@ -153,7 +154,7 @@ static PyObject *head(PyObject *module, PyObject *data)
     return result;
 }
 
-static PyObject *read_varint(PyObject *module, GIVEN)
+static PyObject *read_varint(PyObject *module, PyObject *const *given, Py_ssize_t count, PyObject *named)
 {
     input from;
     char text[MULTIHASH_MESSAGE_SIZE];
@@ -167,13 +168,13 @@ static PyObject *read_varint(PyObject *module, GIVEN)
     return raise_error(PyModule_GetState(module), found.status, 0, 0, 0, text);
 }
 
-/* Decodes the multihashes of a buffer into `items`, a bytearray. Returns the number of bytes consumed; a failed
- * allocation has raised an error. */
-static size_t read_items(const uint8_t *bytes, size_t length, PyObject *items)
+/* Decodes the multihashes of a buffer into `items`, a bytearray. Returns the number of bytes consumed, or -1 with an
+ * error set. */
+static Py_ssize_t read_items(const uint8_t *bytes, size_t length, PyObject *items)
 {
     size_t count = 0, taken = 0;
     for (size_t capacity = 128;; capacity *= 2) {
-        if (PyByteArray_Resize(items, (Py_ssize_t)(capacity * sizeof(multihash_item))) < 0) return 0;
+        if (PyByteArray_Resize(items, (Py_ssize_t)(capacity * sizeof(multihash_item))) < 0) return -1;
         multihash_item *to = (multihash_item *)(void *)PyByteArray_AsString(items) + count;
         multihash_batch part = multihash_read_many(bytes + taken, length - taken, to, capacity - count);
         for (size_t at = 0; taken > 0 && at < part.count; at++) to[at].digest_offset += taken;
@@ -181,8 +182,7 @@ static size_t read_items(const uint8_t *bytes, size_t length, PyObject *items)
         taken += part.taken;
         if (count < capacity) break;
     }
-    PyByteArray_Resize(items, (Py_ssize_t)(count * sizeof(multihash_item)));
-    return taken;
+    return PyByteArray_Resize(items, (Py_ssize_t)(count * sizeof(multihash_item))) < 0 ? -1 : (Py_ssize_t)taken;
 }
 
 static PyObject *read_many(PyObject *module, PyObject *data)
@@ -191,10 +191,10 @@ static PyObject *read_many(PyObject *module, PyObject *data)
     (void)module;
     if (get_buffer(data, "data", PyBUF_SIMPLE, &view) < 0) return NULL;
     PyObject *items = PyByteArray_FromStringAndSize(NULL, 0), *rest = NULL;
-    Py_ssize_t taken = items == NULL ? 0 : (Py_ssize_t)read_items(view.buf, (size_t)view.len, items);
+    Py_ssize_t taken = items == NULL ? -1 : read_items(view.buf, (size_t)view.len, items);
     /* Another thread may change the buffer once it is released. An error depends on these bytes of the rest alone. */
     Py_ssize_t left = view.len - taken < MULTIHASH_LENGTH_MAX ? view.len - taken : MULTIHASH_LENGTH_MAX;
-    if (!PyErr_Occurred()) rest = PyBytes_FromStringAndSize(left == 0 ? NULL : (const char *)view.buf + taken, left);
+    if (taken >= 0) rest = PyBytes_FromStringAndSize(left == 0 ? NULL : (const char *)view.buf + taken, left);
     PyBuffer_Release(&view);
     if (rest != NULL) return Py_BuildValue("NnN", items, taken, rest);
     Py_XDECREF(items);
@@ -205,14 +205,15 @@ static PyObject *read_many(PyObject *module, PyObject *data)
 
 typedef multihash_encoded encoder(uint64_t, const uint8_t *, size_t, uint8_t *, size_t);
 
-static PyObject *encoded(PyObject *module, encoder *function, const char *format, GIVEN)
+static PyObject *encoded(PyObject *module, encoder *function, const char *format, PyObject *const *given,
+                         Py_ssize_t count, PyObject *named)
 {
     static char *names[] = {"code", "digest", NULL};
     uint8_t out[MULTIHASH_LENGTH_MAX];
     PyObject *code, *bytes;
     uint64_t number;
     input digest;
-    if (!get_arguments(given, count, named, format, names, &code, &bytes)) return NULL;
+    if (get_arguments(given, count, named, format, names, &code, &bytes) < 0) return NULL;
     if (get_pair(code, bytes, &number, &digest) < 0) return NULL;
     /* What is longer was not copied whole. */
     multihash_encoded made = digest.whole > MULTIHASH_DIGEST_MAX
@@ -223,48 +224,48 @@ static PyObject *encoded(PyObject *module, encoder *function, const char *format
     return encoding_error(PyModule_GetState(module), made.status, PyLong_FromSize_t(digest.whole), code);
 }
 
-static PyObject *encode(PyObject *module, GIVEN)
+static PyObject *encode(PyObject *module, PyObject *const *given, Py_ssize_t count, PyObject *named)
 {
     return encoded(module, multihash_encode, "OO:encode", given, count, named);
 }
 
-static PyObject *scale_encode(PyObject *module, GIVEN)
+static PyObject *scale_encode(PyObject *module, PyObject *const *given, Py_ssize_t count, PyObject *named)
 {
     return encoded(module, multihash_scale_encode, "OO:scale_encode", given, count, named);
 }
 
-static PyObject *encoded_len(PyObject *module, GIVEN)
+static PyObject *encoded_len(PyObject *module, PyObject *const *given, Py_ssize_t count, PyObject *named)
 {
     static char *names[] = {"code", "digest_length", NULL};
     PyObject *code, *length;
     uint64_t number;
     size_t size;
-    if (!get_arguments(given, count, named, "OO:encoded_len", names, &code, &length)) return NULL;
+    if (get_arguments(given, count, named, "OO:encoded_len", names, &code, &length) < 0) return NULL;
     if (get_number(code, "code", &number) < 0 || get_size(length, "digest_length", &size) < 0) return NULL;
     multihash_encoded made = multihash_encoded_len(number, size);
     if (made.status == MULTIHASH_OK) return PyLong_FromSize_t(made.length);
     return encoding_error(PyModule_GetState(module), made.status, Py_NewRef(length), code);
 }
 
-static PyObject *encode_varint(PyObject *module, GIVEN)
+static PyObject *encode_varint(PyObject *module, PyObject *const *given, Py_ssize_t count, PyObject *named)
 {
     static char *names[] = {"value", NULL};
     uint8_t out[MULTIHASH_VARINT_LENGTH_MAX];
     PyObject *value;
     uint64_t number;
-    if (!get_arguments(given, count, named, "O:encode_varint", names, &value, NULL)) return NULL;
+    if (get_arguments(given, count, named, "O:encode_varint", names, &value, NULL) < 0) return NULL;
     if (get_number(value, "value", &number) < 0) return NULL;
     multihash_encoded made = multihash_write_varint(number, out, sizeof out);
     if (made.status == MULTIHASH_OK) return PyBytes_FromStringAndSize((const char *)out, (Py_ssize_t)made.length);
     return encoding_error(PyModule_GetState(module), made.status, NULL, value);
 }
 
-static PyObject *compare(PyObject *module, GIVEN)
+static PyObject *compare(PyObject *module, PyObject *const *given, Py_ssize_t count, PyObject *named)
 {
     static char *names[] = {"left", "right", NULL};
     const state *own = PyModule_GetState(module);
     PyObject *sides[2];
-    if (!get_arguments(given, count, named, "OO:compare", names, &sides[0], &sides[1])) return NULL;
+    if (get_arguments(given, count, named, "OO:compare", names, &sides[0], &sides[1]) < 0) return NULL;
     for (int side = 0; side < 2; side++) {
         if (!PyObject_TypeCheck(sides[side], own->type)) return wrong_type(names[side], "a Multihash", sides[side]);
     }

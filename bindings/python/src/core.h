@@ -9,6 +9,8 @@
 
 #include "multihash_message.h"
 
+/* A function that returns an int returns 0, or -1 with an error set, unless its comment says otherwise. */
+
 /* ---- arguments.c */
 
 /* Bytes of an argument: all of them if it is a bytes object, or as many as were asked for. */
@@ -34,11 +36,9 @@ int get_buffer(PyObject *argument, const char *name, int flags, Py_buffer *view)
 /* Takes any object with the buffer protocol. Copies the first `most` bytes, or more, of what is no bytes object. */
 int get_input(PyObject *argument, const char *name, Py_ssize_t most, input *to);
 
-/* The parameters of a function with METH_FASTCALL and METH_KEYWORDS. */
-#define GIVEN PyObject *const *given, Py_ssize_t count, PyObject *named
-
-/* One argument or two of a function, by position or name. */
-int get_arguments(GIVEN, const char *format, char **names, PyObject **first, PyObject **second);
+/* One argument or two of a function with METH_FASTCALL and METH_KEYWORDS, by position or name. */
+int get_arguments(PyObject *const *given, Py_ssize_t count, PyObject *named, const char *format, char **names,
+                  PyObject **first, PyObject **second);
 
 /* A whole number that is not negative. One of 2^63 or more is the largest, which the library rejects too. */
 int get_number(PyObject *argument, const char *name, uint64_t *number);
