@@ -308,11 +308,13 @@ static PyMethodDef functions[] = {
 static int fill_module(PyObject *module)
 {
     state *own = PyModule_GetState(module);
-    PyObject *reader = PyType_FromModuleAndSpec(module, &reader_spec, NULL);
-    PyObject *file_reader = reader == NULL ? NULL : PyType_FromModuleAndSpec(module, &file_reader_spec, reader);
-    own->type = (PyTypeObject *)PyType_FromModuleAndSpec(module, &multihash_spec, NULL);
     own->error = Py_NewRef(PyExc_ValueError); /* until the package sets it */
-    int is_filled = own->type != NULL && file_reader != NULL && PyModule_AddType(module, own->type) == 0 &&
+    own->type = (PyTypeObject *)PyType_FromModuleAndSpec(module, &multihash_spec, NULL);
+    if (own->type == NULL) return -1;
+    PyObject *reader = PyType_FromModuleAndSpec(module, &reader_spec, NULL);
+    if (reader == NULL) return -1;
+    PyObject *file_reader = PyType_FromModuleAndSpec(module, &file_reader_spec, reader);
+    int is_filled = file_reader != NULL && PyModule_AddType(module, own->type) == 0 &&
                     PyModule_AddType(module, (PyTypeObject *)reader) == 0 &&
                     PyModule_AddType(module, (PyTypeObject *)file_reader) == 0 &&
                     PyModule_AddIntConstant(module, "DIGEST_MAX", MULTIHASH_DIGEST_MAX) == 0 &&
@@ -320,7 +322,7 @@ static int fill_module(PyObject *module)
                     PyModule_AddIntConstant(module, "LENGTH_MAX", MULTIHASH_LENGTH_MAX) == 0 &&
                     PyModule_AddIntConstant(module, "SCALE_LENGTH_MAX", MULTIHASH_SCALE_LENGTH_MAX) == 0 &&
                     PyModule_AddIntConstant(module, "VARINT_LENGTH_MAX", MULTIHASH_VARINT_LENGTH_MAX) == 0;
-    Py_XDECREF(reader);
+    Py_DECREF(reader);
     Py_XDECREF(file_reader);
     return is_filled ? 0 : -1;
 }
@@ -346,9 +348,17 @@ static void free_state(void *module)
     clear_state(module);
 }
 
-/* The second one, for CPython 3.12 and later, is Py_mod_multiple_interpreters with Py_MOD_PER_INTERPRETER_GIL_SUPPORTED:
- * all that changes is in the module's state. */
-static PyModuleDef_Slot slots[] = {{Py_mod_exec, fill_module}, {3, (void *)2}, {0, NULL}};
+#ifndef Py_mod_multiple_interpreters /* CPython has it from 3.12 on, and its stable ABI of 3.11 does not show it */
+#define Py_mod_multiple_interpreters 3
+#define Py_MOD_PER_INTERPRETER_GIL_SUPPORTED ((void *)2)
+#endif
+
+/* Interpreters may have locks of their own: all that changes is in the module's state. */
+static PyModuleDef_Slot slots[] = {
+    {Py_mod_exec, fill_module},
+    {Py_mod_multiple_interpreters, Py_MOD_PER_INTERPRETER_GIL_SUPPORTED},
+    {0, NULL},
+};
 
 static struct PyModuleDef definition = {
     PyModuleDef_HEAD_INIT,
@@ -364,6 +374,6 @@ static struct PyModuleDef definition = {
 
 PyMODINIT_FUNC PyInit__core(void)
 {
-    if (Py_Version < 0x030c0000) slots[1].slot = 0;
+    if (Py_Version < 0x030c0000) slots[1].slot = 0; /* it does not know the second slot */
     return PyModuleDef_Init(&definition);
 }
