@@ -153,10 +153,11 @@ class CID:
     def text(self, base: str = "") -> str:
         """Returns the text in the base of a prefix: `b` is base32, `f` base16, `z` base58btc, which has no prefix in
         version 0. Version 0 has no other base."""
-        base = base or "zb"[self.version]
+        base = base or ("b" if self.version else "z")
         if base not in _ENCODERS or (self.version == 0 and base != "z"):
             raise ValueError("base must be 'b', 'f' or 'z', and 'z' for version 0, not %.20r" % (base,))
-        return base[: self.version] + _ENCODERS[base](bytes(self))
+        prefix = base if self.version else ""
+        return prefix + _ENCODERS[base](bytes(self))
 
     def __bytes__(self) -> bytes:
         start = b"\x01" + encode_varint(self.codec) if self.version == 1 else b""
