@@ -5,10 +5,9 @@ import functools
 import hashlib
 import io
 from array import array
-from typing import List, Optional, Tuple
+from typing import assert_type
 
 import verified_multihash as vm
-from typing_extensions import assert_type
 from verified_multihash import Multihash, Status, hashes
 from verified_multihash.cid import CID
 
@@ -17,10 +16,10 @@ ARRAY = array("B", DATA)  # a buffer that mypy does not take for bytes
 multihash = vm.decode(DATA)
 cid = CID(1, 0x55, multihash)
 assert_type(
-    (vm.decode(ARRAY), vm.read(ARRAY, limit=64), vm.encode(18, ARRAY)), Tuple[Multihash, Tuple[Multihash, int], bytes]
+    (vm.decode(ARRAY), vm.read(ARRAY, limit=64), vm.encode(18, ARRAY)), tuple[Multihash, tuple[Multihash, int], bytes]
 )
-assert_type((vm.head(data=ARRAY), vm.read_many(ARRAY).error), Tuple[vm.Head, Optional[vm.MultihashError]])
-assert_type((CID.decode(ARRAY), CID.read(ARRAY)), Tuple[CID, Tuple[CID, int]])
+assert_type((vm.head(data=ARRAY), vm.read_many(ARRAY).error), tuple[vm.Head, vm.MultihashError | None])
+assert_type((CID.decode(ARRAY), CID.read(ARRAY)), tuple[CID, tuple[CID, int]])
 vm.decode("1200")  # type: ignore[arg-type]
 vm.read(DATA, None)  # type: ignore[arg-type]
 vm.encode("sha2-256", DATA)  # type: ignore[arg-type]
@@ -33,8 +32,8 @@ class Sha256(Multihash):
     pass
 
 
-assert_type((Sha256(18, digest=DATA).__replace__(code=1), Sha256.fromhex("1200")), Tuple[Sha256, Sha256])
-assert_type((multihash < multihash, bytes(multihash)), Tuple[bool, bytes])
+assert_type((Sha256(18, digest=DATA).__replace__(code=1), Sha256.fromhex("1200")), tuple[Sha256, Sha256])
+assert_type((multihash < multihash, bytes(multihash)), tuple[bool, bytes])
 multihash.digest = DATA  # type: ignore[misc]
 multihash.__replace__(size=2)  # type: ignore[call-arg]
 multihash < DATA  # type: ignore[operator]
@@ -45,19 +44,19 @@ match multihash:
 
 error: ValueError = vm.MultihashError(status=4, size=256, code=0, taken=2, text="")
 if isinstance(error, vm.MultihashError):
-    assert_type((error.status, error.is_incomplete, error.size), Tuple[Status, bool, int])
+    assert_type((error.status, error.is_incomplete, error.size), tuple[Status, bool, int])
 
 
 class Raw:
     """As a file that does not block, which has no bytes yet."""
 
-    def read(self, size: int = -1) -> Optional[bytes]:
+    def read(self, size: int = -1) -> bytes | None:
         return None
 
 
 reader = vm.MultihashReader(file=io.BytesIO(DATA), limit=64)
-assert_type((next(reader), list(reader), reader.read()), Tuple[Multihash, List[Multihash], Optional[Multihash]])
-assert_type((vm.read_from(Raw()), vm.FrameReader(Raw()).read()), Tuple[Optional[Multihash], Optional[bytes]])
+assert_type((next(reader), list(reader), reader.read()), tuple[Multihash, list[Multihash], Multihash | None])
+assert_type((vm.read_from(Raw()), vm.FrameReader(Raw()).read()), tuple[Multihash | None, bytes | None])
 vm.MultihashReader("name")  # type: ignore[arg-type]
 vm.read_from(io.StringIO("a text"))  # type: ignore[arg-type]
 

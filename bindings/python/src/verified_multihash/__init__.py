@@ -13,7 +13,7 @@ verified_multihash.hashes has the names of codes, and makes and verifies multiha
 from __future__ import annotations
 
 import struct
-from typing import NamedTuple, Optional
+from typing import NamedTuple
 
 from . import _core, hashes
 
@@ -58,7 +58,7 @@ class Columns(NamedTuple):
     offsets: memoryview
     lengths: memoryview
     taken: int
-    error: Optional[MultihashError]
+    error: MultihashError | None
 
 
 def head(data: Buffer) -> Head:

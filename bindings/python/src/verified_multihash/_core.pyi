@@ -1,6 +1,7 @@
 # The functions and types in C. Editors show these texts, and help() those of the module, which are the same.
+from collections.abc import Awaitable, Callable
 from types import GenericAlias
-from typing import Awaitable, Callable, ClassVar, Generic, Literal, Optional, Self, Tuple, Type, TypeVar, Union
+from typing import ClassVar, Generic, Literal, Self, TypeVar
 
 from _typeshed import ReadableBuffer as Buffer
 
@@ -19,7 +20,7 @@ class Multihash:
     byte that differs. `bytes(multihash)` returns the encoding, and `str(multihash)` the same in hexadecimal.
     """
 
-    __match_args__: ClassVar[Tuple[Literal["code"], Literal["digest"]]]
+    __match_args__: ClassVar[tuple[Literal["code"], Literal["digest"]]]
     def __new__(cls, code: int, digest: Buffer) -> Self: ...
     @property
     def code(self) -> int:
@@ -43,7 +44,7 @@ class Multihash:
 
 class Reader(Generic[_Item]):
     @property
-    def _read(self) -> Callable[[int], Union[bytes, Awaitable[object]]]: ...
+    def _read(self) -> Callable[[int], bytes | Awaitable[object]]: ...
     @property
     def rest(self) -> bytes:
         """The bytes read so far of the next multihash or frame."""
@@ -58,29 +59,29 @@ class Reader(Generic[_Item]):
     def _begin(self) -> int: ...
     def _end(self, chunk: object, /) -> int: ...
     def _fail(self, error: BaseException, /) -> None: ...
-    def _take(self) -> Optional[_Item]: ...
+    def _take(self) -> _Item | None: ...
 
 class FileReader(Reader[_Item]):
     def __iter__(self) -> Self: ...
     def __next__(self) -> _Item: ...
-    def read(self) -> Optional[_Item]:
+    def read(self) -> _Item | None:
         """Returns the next multihash or frame, or None at the end of the file."""
 
 def decode(data: Buffer) -> Multihash:
     """Decodes `data`, which must be exactly one multihash."""
 
-def read(data: Buffer, limit: int = ...) -> Tuple[Multihash, int]:
+def read(data: Buffer, limit: int = ...) -> tuple[Multihash, int]:
     """Decodes the multihash at the start of `data`, with a digest of at most `limit` bytes.
 
     Returns the multihash and the length of its encoding.
     """
 
-def scale_decode(data: Buffer) -> Tuple[Multihash, int]:
+def scale_decode(data: Buffer) -> tuple[Multihash, int]:
     """Decodes the multihash at the start of `data` from its SCALE encoding. Returns it and the length read."""
 
-def head(data: Buffer, /) -> Tuple[int, int, int]: ...
-def read_many(data: Buffer, /) -> Tuple[bytearray, int, bytes]: ...
-def read_varint(data: Buffer) -> Tuple[int, int]:
+def head(data: Buffer, /) -> tuple[int, int, int]: ...
+def read_many(data: Buffer, /) -> tuple[bytearray, int, bytes]: ...
+def read_varint(data: Buffer) -> tuple[int, int]:
     """Decodes the varint at the start of `data`. Returns the value, below 2**63, and the length of the varint."""
 
 def encode_varint(value: int) -> bytes:
@@ -98,4 +99,4 @@ def encoded_len(code: int, digest_length: int) -> int:
 def compare(left: Multihash, right: Multihash) -> int:
     """Returns -1, 0 or 1: the order of two multihashes."""
 
-def set_error(error: Type[ValueError], /) -> None: ...
+def set_error(error: type[ValueError], /) -> None: ...

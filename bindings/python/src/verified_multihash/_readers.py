@@ -3,7 +3,8 @@
 from __future__ import annotations
 
 import io
-from typing import AsyncIterator, Optional, TypeVar
+from collections.abc import AsyncIterator
+from typing import TypeVar
 
 from . import _core
 from ._core import DIGEST_MAX
@@ -20,7 +21,7 @@ Item = TypeVar("Item")
 class AsyncReader(_core.Reader[Item]):
     """The base of readers of a stream whose `read` is awaited."""
 
-    async def read(self) -> Optional[Item]:
+    async def read(self) -> Item | None:
         """Returns the next multihash or frame, or None at the end of the stream."""
         wanted = self._begin()
         while wanted:
@@ -103,7 +104,7 @@ class AsyncFrameReader(AsyncReader[bytes]):
         super().__init__(read_of(stream, STREAMS), limit, True)
 
 
-def read_from(file: Readable, limit: int = DIGEST_MAX) -> Optional[Multihash]:
+def read_from(file: Readable, limit: int = DIGEST_MAX) -> Multihash | None:
     """Returns the next multihash of a binary file, and consumes no byte after it; returns None at the end of the file.
 
     `limit` is the maximum length of a digest, in bytes. `file.read` may return fewer bytes than requested. After an

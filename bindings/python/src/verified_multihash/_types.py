@@ -2,18 +2,19 @@
 
 from __future__ import annotations
 
-from typing import TYPE_CHECKING, Any, Awaitable, Mapping, Optional, Protocol, Union
+from collections.abc import Awaitable, Mapping
+from typing import TYPE_CHECKING, Any, Protocol
 
 if TYPE_CHECKING:
     from _typeshed import ReadableBuffer as Buffer
 else:
-    Buffer = Union[bytes, bytearray, memoryview]
+    Buffer = bytes | bytearray | memoryview
 
 __all__ = ["AsyncReadable", "Buffer", "Readable", "bytes_like", "read_of"]
 
 
 class Readable(Protocol):
-    def read(self, size: int, /) -> Optional[bytes]:
+    def read(self, size: int, /) -> bytes | None:
         """Returns at most `size` bytes; none at the end; None if none can be read without waiting."""
 
 

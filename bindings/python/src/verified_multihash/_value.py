@@ -3,7 +3,7 @@
 from __future__ import annotations
 
 import re
-from typing import Any, Type, TypeVar
+from typing import Any, TypeVar
 
 from ._core import Multihash, decode
 
@@ -12,7 +12,7 @@ __all__ = ["Multihash"]
 Own = TypeVar("Own", bound=Multihash)
 
 
-def fromhex(cls: Type[Own], text: str, /) -> Own:
+def fromhex(cls: type[Own], text: str, /) -> Own:
     """Decodes the multihash whose encoding is all of a text in hexadecimal."""
     if not isinstance(text, str):
         raise TypeError("text must be a str (decode takes bytes), not %s" % type(text).__name__)

@@ -15,9 +15,10 @@ from __future__ import annotations
 import base64
 import binascii
 import re
+from collections.abc import Callable, Mapping
 from dataclasses import dataclass
 from types import MappingProxyType
-from typing import Callable, Mapping, Optional, Self
+from typing import Self
 
 from . import LENGTH_MAX as MULTIHASH_MAX
 from . import VARINT_LENGTH_MAX, Multihash, MultihashError, decode, encode_varint, read, read_varint
@@ -174,7 +175,7 @@ class CID:
         return "%s.parse(%r)" % (type(self).__qualname__, str(self))
 
 
-def _copy_of(data: Buffer, most: Optional[int] = None) -> memoryview:
+def _copy_of(data: Buffer, most: int | None = None) -> memoryview:
     """Returns a copy of a buffer, or of its first bytes, so that an error does not keep the buffer from being resized."""
     try:
         view = memoryview(data)

@@ -8,9 +8,10 @@ of hashlib do: `functions={0x1E: blake3.blake3}`.
 from __future__ import annotations
 
 import functools
+from collections.abc import Callable, Iterable, Iterator, Mapping
 from operator import methodcaller
 from types import MappingProxyType
-from typing import Any, Callable, Iterable, Iterator, Mapping, Optional, Protocol, Union
+from typing import Any, Protocol
 
 from . import _codes
 from ._core import DIGEST_MAX, decode
@@ -59,7 +60,7 @@ class _Hash(Protocol):
         """Returns the digest of all data so far."""
 
 
-_Functions = Mapping[int, Callable[[], "_Hash"]]
+_Functions = Mapping[int, Callable[[], _Hash]]
 
 
 class _Identity:
@@ -91,7 +92,7 @@ _HINTS = {
 _FILE_HINTS = {"encode": " (open the file in binary mode)", "__await__": " (read must not be async)"}
 
 
-@functools.lru_cache(maxsize=None)
+@functools.cache
 def _maker(code: int) -> Callable[[], Any]:
     """Returns what makes an object of hashlib."""
     import hashlib
@@ -112,7 +113,7 @@ def _maker(code: int) -> Callable[[], Any]:
     return make
 
 
-def _own(functions: Optional[_Functions], code: int) -> Optional[Callable[[], Any]]:
+def _own(functions: _Functions | None, code: int) -> Callable[[], Any] | None:
     """Returns the caller's function for a code."""
     if functions is None:
         return None
@@ -134,7 +135,7 @@ class Hasher:
 
     __slots__ = ("_code", "_hash", "_digest")
 
-    def __init__(self, name: Union[str, int], functions: Optional[_Functions] = None) -> None:
+    def __init__(self, name: str | int, functions: _Functions | None = None) -> None:
         if not isinstance(name, (str, int)):
             raise TypeError("name must be a str such as 'sha2-256', or a code, not %s" % type(name).__name__)
         if isinstance(name, str) and name not in CODES:
@@ -163,14 +164,14 @@ def _parts(file: Readable) -> Iterator[Buffer]:
     raise BlockingIOError("the file has no bytes now")
 
 
-def _digest(parts: Iterable[Buffer], name: Union[str, int], functions: Optional[_Functions]) -> Multihash:
+def _digest(parts: Iterable[Buffer], name: str | int, functions: _Functions | None) -> Multihash:
     hasher = Hasher(name, functions)
     for part in parts:
         hasher.update(part)
     return hasher.multihash()
 
 
-def digest(data: Buffer, name: Union[str, int], functions: Optional[_Functions] = None) -> Multihash:
+def digest(data: Buffer, name: str | int, functions: _Functions | None = None) -> Multihash:
     """Returns the multihash of data, hashed with the function of a name or a code.
 
     Raises UnsupportedHashError if neither `functions` nor this build of hashlib has the function. Raises ValueError if
@@ -179,12 +180,12 @@ def digest(data: Buffer, name: Union[str, int], functions: Optional[_Functions] 
     return _digest([data], name, functions)
 
 
-def digest_file(file: Readable, name: Union[str, int], functions: Optional[_Functions] = None) -> Multihash:
+def digest_file(file: Readable, name: str | int, functions: _Functions | None = None) -> Multihash:
     """Returns the multihash of the bytes of a binary file up to its end, as `digest` does, with 256 KiB in memory."""
     return _digest(_parts(file), name, functions)
 
 
-def _verify(multihash: Union[Multihash, Buffer], parts: Iterable[Buffer], functions: Optional[_Functions]) -> bool:
+def _verify(multihash: Multihash | Buffer, parts: Iterable[Buffer], functions: _Functions | None) -> bool:
     import hmac
 
     try:
@@ -204,7 +205,7 @@ def _verify(multihash: Union[Multihash, Buffer], parts: Iterable[Buffer], functi
     return hmac.compare_digest(claimed.digest, found)
 
 
-def verify(multihash: Union[Multihash, Buffer], data: Buffer, functions: Optional[_Functions] = None) -> bool:
+def verify(multihash: Multihash | Buffer, data: Buffer, functions: _Functions | None = None) -> bool:
     """Returns whether data has this multihash: a Multihash or its encoding. Returns False for a truncated digest.
 
     Raises UnsupportedHashError if neither `functions` nor this build of hashlib has a function for the code. The time
@@ -214,6 +215,6 @@ def verify(multihash: Union[Multihash, Buffer], data: Buffer, functions: Optiona
     return _verify(multihash, [part], functions)
 
 
-def verify_file(multihash: Union[Multihash, Buffer], file: Readable, functions: Optional[_Functions] = None) -> bool:
+def verify_file(multihash: Multihash | Buffer, file: Readable, functions: _Functions | None = None) -> bool:
     """Returns whether the bytes of a binary file up to its end have this multihash, as `verify` does."""
     return _verify(multihash, _parts(file), functions)
