@@ -46,7 +46,7 @@ core = Extension(
     "verified_multihash._core",
     ["src/arguments.c", "src/core.c", "src/reader.c", "src/value.c", "multihash_c/multihash.c"],
     include_dirs=["multihash_c"],
-    define_macros=[("Py_LIMITED_API", "0x03%02x0000" % minor)] if is_stable else [],
+    define_macros=[("Py_LIMITED_API", f"0x03{minor:02x}0000")] if is_stable else [],
     extra_compile_args=["/std:c11"] if system.startswith("win") else ["-std=c11", "-fvisibility=hidden"],
     extra_link_args=["-Wl,-z,now"] if system == "linux" else [],
     py_limited_api=is_stable,
@@ -56,7 +56,7 @@ setup(
     license="MIT",
     ext_modules=[core],
     options={
-        "bdist_wheel": {"py_limited_api": "cp3%d" % minor} if is_stable else {},
+        "bdist_wheel": {"py_limited_api": f"cp3{minor}"} if is_stable else {},
         "build_ext": {"force": True},
         "build_py": {"force": True},
     },

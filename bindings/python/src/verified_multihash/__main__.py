@@ -31,8 +31,8 @@ def _shown(text: bytes) -> bytes:
     data = bytes.fromhex(text.decode())
     read(data, limit=64)
     multihash = decode(data)
-    lines = "code %d\nsize %d\ndigest %s\n"
-    return (lines % (multihash.code, len(multihash.digest), multihash.hexdigest() or "-")).encode()
+    digest = multihash.hexdigest() or "-"
+    return f"code {multihash.code}\nsize {len(multihash.digest)}\ndigest {digest}\n".encode()
 
 
 def _write(to: int, text: bytes) -> None:
@@ -58,7 +58,7 @@ def main() -> int:
     except ValueError as error:
         reason = str(error)
     try:
-        _write(2, b"python -m verified_multihash: %s\n" % reason.encode())
+        _write(2, f"python -m verified_multihash: {reason}\n".encode())
     except OSError:
         pass  # there is nowhere to report it
     return 1

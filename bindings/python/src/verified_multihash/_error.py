@@ -38,15 +38,15 @@ class MultihashError(ValueError):
         return self.status in INCOMPLETE
 
     def __repr__(self) -> str:
-        numbers = tuple(map(_shown, (self.size, self.code, self.taken)))
-        return "%s(%r, %s, %s, %s, %r)" % (type(self).__name__, self.status, *numbers, str(self))
+        size, code, taken = map(_shown, (self.size, self.code, self.taken))
+        return f"{type(self).__name__}({self.status!r}, {size}, {code}, {taken}, {str(self)!r})"
 
     def __str__(self) -> str:
         """Returns the text, or else that of the C library. If `args` was replaced, returns what a ValueError does."""
         if len(self.args) != 5:
             return super().__str__()
         number = self.size or self.code
-        return self.args[4] or TEXTS[self.status] + (" (%s)" % _shown(number) if number else "")
+        return self.args[4] or TEXTS[self.status] + (f" ({_shown(number)})" if number else "")
 
 
 _core.set_error(MultihashError)

@@ -29,7 +29,7 @@ def bytes_like(data: Buffer, name: str, hints: Mapping[str, str]) -> Buffer:
         view = memoryview(data)
     except TypeError:
         hint = next((hints[each] for each in hints if hasattr(data, each)), "")
-        raise TypeError("%s must be a bytes-like object%s, not %s" % (name, hint, type(data).__name__)) from None
+        raise TypeError(f"{name} must be a bytes-like object{hint}, not {type(data).__name__}") from None
     return data if view.c_contiguous and view.ndim < 2 else view.tobytes()
 
 
@@ -43,4 +43,4 @@ def read_of(file: object, expected: str = _FILES) -> Any:
     try:
         return getattr(file, "read")
     except AttributeError:
-        raise TypeError("%s, not %s" % (expected, type(file).__name__)) from None
+        raise TypeError(f"{expected}, not {type(file).__name__}") from None

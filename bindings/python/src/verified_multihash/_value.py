@@ -15,14 +15,14 @@ Own = TypeVar("Own", bound=Multihash)
 def fromhex(cls: type[Own], text: str, /) -> Own:
     """Decodes the multihash whose encoding is all of a text in hexadecimal."""
     if not isinstance(text, str):
-        raise TypeError("text must be a str (decode takes bytes), not %s" % type(text).__name__)
+        raise TypeError(f"text must be a str (decode takes bytes), not {type(text).__name__}")
     try:
         data = bytes.fromhex(text)
     except ValueError:
         digits = re.sub(r"\s", "", text, flags=re.ASCII)
         if len(digits) % 2 == 0 or re.search("[^0-9A-Fa-f]", digits):
             raise
-        raise ValueError("the text has an odd number of hexadecimal digits, %d" % len(digits)) from None
+        raise ValueError(f"the text has an odd number of hexadecimal digits, {len(digits)}") from None
     found = decode(data)
     return found if type(found) is cls else cls(found.code, found.digest)
 
@@ -38,7 +38,7 @@ def hexdigest(self: Multihash) -> str:
 
 
 def __repr__(self: Multihash) -> str:
-    return "%s.fromhex(%r)" % (type(self).__qualname__, Multihash.hex(self))
+    return f"{type(self).__qualname__}.fromhex({Multihash.hex(self)!r})"
 
 
 def __format__(self: Multihash, format_spec: str) -> str:
@@ -60,7 +60,7 @@ def __replace__(self: Own, /, **changes: Any) -> Own:
     """For copy.replace: returns one with another code or digest."""
     for name in changes.keys() - {"code", "digest"}:
         if type(self).__new__ is Multihash.__new__:  # no subclass with other parameters
-            raise TypeError("a Multihash has no field %s: code or digest" % name)
+            raise TypeError(f"a Multihash has no field {name}: code or digest")
     fields: dict[str, Any] = {"code": self.code, "digest": self.digest, **changes}
     return type(self)(**fields)
 

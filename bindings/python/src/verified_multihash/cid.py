@@ -42,7 +42,7 @@ _SHA256 = b"\x12\x20"  # the code, and the length of the digest
 _BASES = {
     "b": ("base32", re.compile("[^a-z2-7]")),
     "f": ("base16", re.compile("[^0-9a-f]")),
-    "z": ("base58btc", re.compile("[^%s]" % _BASE58)),
+    "z": ("base58btc", re.compile(f"[^{_BASE58}]")),
 }
 
 
@@ -86,17 +86,17 @@ class CID:
     def __post_init__(self) -> None:
         for name, number in (("version", self.version), ("codec", self.codec)):
             if not isinstance(number, int):
-                raise TypeError("%s must be an int, not %s" % (name, type(number).__name__))
+                raise TypeError(f"{name} must be an int, not {type(number).__name__}")
         if not isinstance(self.multihash, Multihash):
-            raise TypeError("multihash must be a Multihash, not %s" % type(self.multihash).__name__)
+            raise TypeError(f"multihash must be a Multihash, not {type(self.multihash).__name__}")
         if self.codec < 0:
-            raise ValueError("codec must not be negative, but is %d" % self.codec)
+            raise ValueError(f"codec must not be negative, but is {self.codec}")
         if self.version not in (0, 1):
             raise CIDError("unknown_version", "the version must be 0 or 1")
         try:
             encode_varint(self.codec)
         except MultihashError as error:
-            raise CIDError("overflow", "codec: %s" % error) from error
+            raise CIDError("overflow", f"codec: {error}") from error
         if self.version == 0 and (self.codec != CODECS["dag-pb"] or bytes(self.multihash)[:2] != _SHA256):
             raise CIDError("not_version_0", "version 0 has the codec 0x70 and a multihash of SHA2-256 with 32 bytes")
 
@@ -104,7 +104,7 @@ class CID:
     def parse(cls, text: str) -> Self:
         """Decodes a text: `b..` (base32), `f..` (base16), `z..` (base58btc), or `Qm..` (version 0)."""
         if not isinstance(text, str):
-            raise TypeError("text must be a str (CID.decode takes bytes), not %s" % type(text).__name__)
+            raise TypeError(f"text must be a str (CID.decode takes bytes), not {type(text).__name__}")
         if not text:
             raise CIDError("insufficient", "the text is empty")
         is_version_0 = text.startswith("Qm")
@@ -114,9 +114,9 @@ class CID:
         name, other = _BASES[base]
         found = other.search(text, start, TEXT_MAX)
         if found:  # the character is not shown: it may be one that changes how the text is displayed
-            raise CIDError("invalid_digit", "the character at index %d is no digit of %s" % (found.start(), name))
+            raise CIDError("invalid_digit", f"the character at index {found.start()} is no digit of {name}")
         if len(text) > TEXT_MAX:
-            raise CIDError("too_long", "the text has more than %d characters" % TEXT_MAX)
+            raise CIDError("too_long", f"the text has more than {TEXT_MAX} characters")
         data = _DECODERS[base](text[start:])
         if data.startswith(_SHA256) and not is_version_0:
             raise CIDError("wrong_prefix", "a CID of version 0 has the text Qm.., without a prefix")
@@ -141,14 +141,14 @@ class CID:
             if data[:2] != _SHA256:
                 version, start = read_varint(data)
                 if version != 1:
-                    raise CIDError("unknown_version", "the version must be 1, not %d" % version)
+                    raise CIDError("unknown_version", f"the version must be 1, not {version}")
                 part = "codec"
                 codec, length = read_varint(data[start:])
                 start += length
             part = "multihash"
             multihash, length = decoder(data[start:])
         except MultihashError as error:
-            raise CIDError(error.status.name.lower(), "%s: %s" % (part, error)) from error
+            raise CIDError(error.status.name.lower(), f"{part}: {error}") from error
         return cls(version, codec, multihash), start + length
 
     def text(self, base: str = "") -> str:
@@ -156,7 +156,7 @@ class CID:
         version 0. Version 0 has no other base."""
         base = base or ("b" if self.version else "z")
         if base not in _ENCODERS or (self.version == 0 and base != "z"):
-            raise ValueError("base must be 'b', 'f' or 'z', and 'z' for version 0, not %.20r" % (base,))
+            raise ValueError(f"base must be 'b', 'f' or 'z', and 'z' for version 0, not {base!r:.20}")
         prefix = base if self.version else ""
         return prefix + _ENCODERS[base](bytes(self))
 
@@ -172,7 +172,7 @@ class CID:
         return format(str(self), format_spec)
 
     def __repr__(self) -> str:
-        return "%s.parse(%r)" % (type(self).__qualname__, str(self))
+        return f"{type(self).__qualname__}.parse({str(self)!r})"
 
 
 def _copy_of(data: Buffer, most: int | None = None) -> memoryview:
@@ -181,7 +181,7 @@ def _copy_of(data: Buffer, most: int | None = None) -> memoryview:
         view = memoryview(data)
     except TypeError:
         hint = " (CID.parse takes text)" if isinstance(data, str) else ""
-        raise TypeError("data must be a bytes-like object%s, not %s" % (hint, type(data).__name__)) from None
+        raise TypeError(f"data must be a bytes-like object{hint}, not {type(data).__name__}") from None
     is_flat = view.ndim == 1 and view.itemsize == 1
     return memoryview(view[:most].tobytes() if is_flat else view.tobytes()[:most])
 

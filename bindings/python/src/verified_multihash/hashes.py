@@ -74,7 +74,7 @@ class _Identity:
         view = memoryview(data)
         size = len(self._data) + view.nbytes
         if size > DIGEST_MAX:
-            text = "identity takes at most %d bytes of content, got %d" % (DIGEST_MAX, size)
+            text = f"identity takes at most {DIGEST_MAX} bytes of content, got {size}"
             raise MultihashError(Status.INVALID_SIZE, size, text=text)
         self._data += view.tobytes()
 
@@ -98,7 +98,7 @@ def _maker(code: int) -> Callable[[], Any]:
     import hashlib
 
     if code not in NAMES:
-        raise UnsupportedHashError("no hash function is known for the code %#x" % code)
+        raise UnsupportedHashError(f"no hash function is known for the code {hex(code)}")
     name = NAMES[code]
     kind, _, bits = name.partition("-")
     if kind == "identity":
@@ -109,7 +109,7 @@ def _maker(code: int) -> Callable[[], Any]:
     try:
         make()
     except ValueError:
-        raise UnsupportedHashError("hashlib does not have %s here, whose code is %#x" % (name, code)) from None
+        raise UnsupportedHashError(f"hashlib does not have {name} here, whose code is {hex(code)}") from None
     return make
 
 
@@ -117,12 +117,12 @@ def _own(functions: _Functions | None, code: int) -> Callable[[], Any] | None:
     """Returns the caller's function for a code."""
     if functions is None:
         return None
-    text = "functions must map codes to functions, as {0x1E: blake3.blake3} does; it is %s"
+    text = "functions must map codes to functions, as {0x1E: blake3.blake3} does; it is a"
     if not isinstance(functions, Mapping):
-        raise TypeError(text % ("a " + type(functions).__name__))
+        raise TypeError(f"{text} {type(functions).__name__}")
     for key in functions:
         if not isinstance(key, int):
-            raise TypeError(text % ("a map of %.60r" % (key,)))
+            raise TypeError(f"{text} map of {key!r:.60}")
     return functions.get(code)
 
 
@@ -137,9 +137,9 @@ class Hasher:
 
     def __init__(self, name: str | int, functions: _Functions | None = None) -> None:
         if not isinstance(name, (str, int)):
-            raise TypeError("name must be a str such as 'sha2-256', or a code, not %s" % type(name).__name__)
+            raise TypeError(f"name must be a str such as 'sha2-256', or a code, not {type(name).__name__}")
         if isinstance(name, str) and name not in CODES:
-            raise ValueError("name must be in hashes.CODES, such as 'sha2-256', not %.60r" % name)
+            raise ValueError(f"name must be in hashes.CODES, such as 'sha2-256', not {name!r:.60}")
         self._code = CODES[name] if isinstance(name, str) else name
         own = _own(functions, self._code)
         self._hash: Any = _maker(self._code)() if own is None else own()
@@ -191,8 +191,8 @@ def _verify(multihash: Multihash | Buffer, parts: Iterable[Buffer], functions: _
     try:
         claimed = multihash if isinstance(multihash, Multihash) else decode(multihash)
     except TypeError:
-        expected = "multihash must be a Multihash or its encoding (Multihash.fromhex takes text), not %s"
-        raise TypeError(expected % type(multihash).__name__) from None
+        expected = "multihash must be a Multihash or its encoding (Multihash.fromhex takes text)"
+        raise TypeError(f"{expected}, not {type(multihash).__name__}") from None
     hasher = Hasher(claimed.code, functions)
     for part in parts:
         try:
