@@ -1,11 +1,9 @@
 """Names of hash functions in the multicodec table. Made by tools/generate tables."""
 
-from typing import Dict
 
-
-def _family(name: str, first: int, count: int) -> Dict[str, int]:
+def _family(name: str, first: int, count: int) -> dict[str, int]:
     """The codes of a function whose digests have 8, 16, .. bits."""
-    return {"%s-%d" % (name, 8 * (index + 1)): first + index for index in range(count)}
+    return {f"{name}-{8 * (index + 1)}": first + index for index in range(count)}
 
 
 CODES = {
