@@ -104,7 +104,7 @@ def must_be(run: Run, is_same: Any) -> None:
     run.must(is_same, "unknown: other arguments of a function that is called")
 
 
-def read_varint(run: Run, bytes: Value, index: Value, end: Value) -> Value:
+def varint_at(run: Run, bytes: Value, index: Value, end: Value) -> Value:
     """The first varint of an input, or the one after it."""
     must_be(run, bytes is INPUT or bytes is WHOLE)
     origin, index, end = bytes.origin.x, run.number(index, "number").x, run.number(end, "number").x
@@ -185,14 +185,14 @@ def functions() -> dict[str, Function]:
     ones = lambda: [Array("one", rest, at), Array("two", rest, at), left]
     both = lambda: [code, LEFT, left, other, RIGHT, right]
     return {
-        "readVarint": Function(definitions.get_varint, "length", decoded, lambda: [INPUT, at, end]),
+        "varintAt": Function(definitions.get_varint, "length", decoded, lambda: [INPUT, at, end]),
         "readHead": Function(head, "length", decoded, lambda: [INPUT, at, end]),
         "readMultihash": Function(read_limit, "length limit", decoded, lambda: [INPUT, at, end, limit]),
         "decodeMultihash": Function(from_bytes, "length", decoded, lambda: [WHOLE, length]),
         "readScale": Function(definitions.scale_decode, "length", decoded, lambda: [WHOLE, length]),
         "encodingStatus": Function(fitting, "code other", status, lambda: [code, other]),
         "varintLength": Function(varint, "code", length_of, lambda: [code], is_valid),
-        "writeVarint": Function(varint, "code", varint_end, place, z3.And(is_valid, has_room)),
+        "putVarint": Function(varint, "code", varint_end, place, z3.And(is_valid, has_room)),
         "encodedLength": Function(pair, "code size", length_of, lambda: [code, size], is_valid),
         "encodeMultihash": Function(pair, "code size", encoding, lambda: [code, DIGEST, size], is_valid),
         "encodeScale": Function(scale, "code size", encoding, lambda: [code, DIGEST, size], is_valid),
@@ -212,7 +212,7 @@ def result(name: str) -> str:
         solver.add(*RANGES, function.when)
 
         def end(path: Run) -> Wrong:
-            path.summaries = {"readVarint": read_varint, "compareBytes": compare_bytes}
+            path.summaries = {"varintAt": varint_at, "compareBytes": compare_bytes}
             path.summaries.pop(name, None)
             given = function.arguments()
             found = path.call(name, given)

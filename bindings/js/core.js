@@ -61,7 +61,7 @@ function checkedValue(value) {
 export function encodeVarint(value) {
   const number = checkedValue(value);
   const bytes = new Uint8Array(format.varintLength(number));
-  format.writeVarint(number, bytes, 0);
+  format.putVarint(number, bytes, 0);
   return bytes;
 }
 
@@ -73,14 +73,14 @@ export function writeVarint(value, bytes, at = 0) {
   if (typeof at !== 'number') throw wrongType('at', 'a number', at);
   if (!Number.isInteger(at) || at < 0 || length > room - at)
     throw new RangeError(`at must be an index with room for ${length} more in bytes, got ${at} of ${room}`);
-  format.writeVarint(number, bytes, at);
+  format.putVarint(number, bytes, at);
   return length;
 }
 
 /** Decodes the varint at the start of the bytes. */
 export function readVarint(bytes) {
   const length = checkedLength(bytes, 'bytes');
-  const { status, value, next } = format.readVarint(bytes, 0, length);
+  const { status, value, next } = format.varintAt(bytes, 0, length);
   if (status !== 'ok') throw new MultihashError(varintReasonOf(status, length), { status });
   return { value, taken: next };
 }

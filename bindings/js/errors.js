@@ -1,5 +1,5 @@
 // MultihashError, the error of invalid input, and the choice of its text.
-import { readHead, readVarint } from './format.js';
+import { readHead, varintAt } from './format.js';
 import * as texts from './statuses.js';
 
 const ALL = [...texts.STATUSES.slice(1), 'not_hexadecimal'];
@@ -47,7 +47,7 @@ function reasonOf(status, bytes, at, end, limit) {
   if (status === 'unexpected_eof') return texts.truncated('digest', rest, size);
   if (size > limit) return texts.tooLong('digest', size, limit);
   if (status === 'invalid_size') return texts.trailing(rest - size);
-  const code = readVarint(bytes, at, end);
+  const code = varintAt(bytes, at, end);
   const name = code.status === 'ok' ? "digest's length" : 'code';
   if (status !== 'insufficient') return malformed(`varint of the ${name}`, status);
   if (at === end) return texts.empty();

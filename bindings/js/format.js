@@ -30,7 +30,7 @@ const highPart = (value, bits) =>
 // Of an error the other fields are 0, but for the size or the code that is invalid.
 
 /** Reads the varint that starts at an index, of the bytes before `end`. */
-export function readVarint(bytes, at, end) {
+export function varintAt(bytes, at, end) {
   const most = Math.min(end, at + VARINT_LENGTH_MAX);
   const middle = at + LOW_BYTES;
   let low = 0;
@@ -57,9 +57,9 @@ export function readHead(bytes, at, end) {
     const second = bytes[at + 1];
     if (first < 128 && second < 128) return { status: 'ok', code: first, size: second, next: at + 2 }; // as most are
   }
-  const code = readVarint(bytes, at, end);
+  const code = varintAt(bytes, at, end);
   if (code.status !== 'ok') return failed(code.status, code.next);
-  const size = readVarint(bytes, code.next, end);
+  const size = varintAt(bytes, code.next, end);
   if (size.status !== 'ok') return failed(size.status, size.next);
   return { status: 'ok', code: code.value, size: size.value, next: size.next };
 }
@@ -114,7 +114,7 @@ export function varintLength(value) {
 }
 
 /** Writes the varint of a number below 2^63 from an index on. Returns the index after it. */
-export function writeVarint(value, bytes, at) {
+export function putVarint(value, bytes, at) {
   let index = at;
   let rest = value;
   if (typeof value === 'bigint') {
@@ -139,7 +139,7 @@ export const encodedLength = (code, size) => varintLength(code) + varintLength(s
 /** Returns the encoding of a code and a digest of that size. */
 export function encodeMultihash(code, digest, size) {
   const bytes = new Uint8Array(encodedLength(code, size));
-  bytes.set(digest, writeVarint(size, bytes, writeVarint(code, bytes, 0)));
+  bytes.set(digest, putVarint(size, bytes, putVarint(code, bytes, 0)));
   return bytes;
 }
 

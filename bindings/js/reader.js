@@ -1,7 +1,7 @@
 // What reads the items of a stream one after the other: its multihashes, or its frames.
 import { checkedLength, checkedOptions, checkedWide, copyOf } from './arguments.js';
 import { MultihashError, errorOf, frameReasonOf } from './errors.js';
-import { readMultihash, readVarint } from './format.js';
+import { readMultihash, varintAt } from './format.js';
 import { DIGEST_MAX } from './limits.js';
 import { checkedLimit, multihashOf } from './multihash.js';
 import { sourceOf } from './sources.js';
@@ -195,7 +195,7 @@ export class MultihashReader extends ItemReader {
 
 /** Finds the frame that starts at an index: a varint, and then as many bytes. */
 function frameAt(bytes, at, end, limit) {
-  const { status, value: size, next } = readVarint(bytes, at, end);
+  const { status, value: size, next } = varintAt(bytes, at, end);
   if (status !== 'ok') return { status, next };
   if (size > limit) return { status: 'invalid_size', size, next };
   return end - next < size ? { status: 'unexpected_eof', size, next } : { status, size, next: next + size };
