@@ -1,10 +1,8 @@
 // What tsc --strict --exactOptionalPropertyTypes accepts: types of other packages that have to fit, and types that depend
 // on arguments. After each @ts-expect-error is a line that it rejects.
-import * as index from 'verified-multihash';
-import { CODES, Hasher, Multihash, MultihashError, MultihashReader, NAMES, UnsupportedHashError, decode, digest, hashers,
-  head, identity, read, readMany, sha256, verify } from 'verified-multihash';
+import { CODES, FrameReader, Hasher, Multihash, MultihashError, MultihashReader, NAMES, UnsupportedHashError, decode,
+  digest, hashers, head, identity, read, readMany, sha256, verify } from 'verified-multihash';
 import type { ByteStream, Content, Functions, Status, Wide } from 'verified-multihash';
-import * as hashes from 'verified-multihash/hashes';
 import { CID, CODECS } from 'verified-multihash/cid';
 
 type Same<A, B> = (<T>() => T extends A ? 1 : 2) extends <T>() => T extends B ? 1 : 2 ? true : false;
@@ -38,11 +36,10 @@ new MultihashError('a text', { status: 'overflow', taken: undefined });
 declare const stream: ReadableStream<Uint8Array>;
 export const source: ByteStream = stream;
 is<Promise<Multihash | null>>()(new MultihashReader(stream, { limit: 64, rest: bytes }).read());
-is<Promise<Uint8Array | null>>()(new index.FrameReader(stream, { limit: 64n }).read());
+is<Promise<Uint8Array | null>>()(new FrameReader(stream, { limit: 64n }).read());
 export const iterable = (chunks: AsyncIterable<Uint8Array>): MultihashReader => new MultihashReader(chunks);
 // @ts-expect-error chunks are no texts
 export const texts = (stream: ReadableStream<string>): MultihashReader => new MultihashReader(stream);
-export const entries: (typeof index)[] = [hashes];
 
 /** As in js-multiformats, whose `CID.create` takes it. */
 interface MultihashDigest<Code extends number = number> {
