@@ -1,13 +1,14 @@
 // The format: decodes, encodes and compares bytes. Each function that is exported is checked for all inputs, by
 // proof/check_js.py of the repository.
 //
-// Bytes are a Uint8Array. Its length is an argument, since a subclass may define another one. Codes, sizes and other varints
-// are a number where that is exact, up to 2^53 - 1, and a bigint above.
+// Bytes are a Uint8Array, whose length is a separate argument, since a subclass may redefine `length`. Codes, sizes and the
+// values of varints are numbers up to 2^53 - 1, where numbers are exact, and bigints above.
 import { DIGEST_MAX, VARINT_LENGTH_MAX } from './limits.js';
 
-// ---- numbers of up to 64 bits, in two parts that are exact
+// ---- numbers of up to 64 bits, in two parts, each of which is exact as a number
 
-// Each byte of a varint has seven bits of its number, the lowest first. Seven bytes have the low part, two the high part.
+// Each byte of a varint has seven bits of its value, the lowest first: the first seven bytes have the low part, the last
+// two the high part.
 const LOW_BYTES = 7;
 const LOW_BITS = 49;
 
@@ -26,8 +27,9 @@ const highPart = (value, bits) =>
   typeof value === 'number' ? Math.floor(value / 2 ** bits) : Number(value >> BigInt(bits));
 
 // ---- decoding
-// A result has a status, and the index `next` after what was read, or after the byte that is wrong. A digest ends at `next`.
-// Of an error the other fields are 0, but for the size or the code that is invalid.
+// A result has a status, and `next`, the index after the bytes that were consumed, for an error too. A digest that was read
+// ends at `next`. The other fields of an error are 0, except a size or a code that is invalid. The public
+// functions return the number of bytes consumed instead, as `taken`.
 
 /** Reads the varint that starts at an index, of the bytes before `end`. */
 export function varintAt(bytes, at, end) {
@@ -35,7 +37,7 @@ export function varintAt(bytes, at, end) {
   const middle = at + LOW_BYTES;
   let low = 0;
   let high = 0;
-  let weight = 1; // of the byte's seven bits in their part
+  let weight = 1; // of the byte within its part
   for (let index = at; index < most; index++) {
     const byte = bytes[index];
     if (byte === 0 && index > at) return { status: 'not_minimal', value: 0, next: index + 1 };
@@ -55,7 +57,7 @@ export function readHead(bytes, at, end) {
   if (end - at >= 2) {
     const first = bytes[at];
     const second = bytes[at + 1];
-    if (first < 128 && second < 128) return { status: 'ok', code: first, size: second, next: at + 2 }; // as most are
+    if (first < 128 && second < 128) return { status: 'ok', code: first, size: second, next: at + 2 }; // the most common
   }
   const code = varintAt(bytes, at, end);
   if (code.status !== 'ok') return failed(code.status, code.next);
@@ -97,9 +99,9 @@ export function readScale(bytes, length) {
 }
 
 // ---- encoding
-// Other functions than the first expect a code and a size that are valid.
+// All functions but `encodingStatus` require a code and a size for which it returns 'ok'.
 
-/** Returns the status of encoding a code, of up to 64 bits, and a digest of that size. */
+/** Returns the status of encoding a code of up to 64 bits and a digest of that size. */
 export function encodingStatus(code, size) {
   if (size > DIGEST_MAX) return 'invalid_size';
   return typeof code === 'number' || code < 2 ** 63 ? 'ok' : 'invalid_code';
@@ -113,7 +115,7 @@ export function varintLength(value) {
   return length;
 }
 
-/** Writes the varint of a number below 2^63 from an index on. Returns the index after it. */
+/** Writes the varint of a number below 2^63 at an index of bytes that have room for it. Returns the index after it. */
 export function putVarint(value, bytes, at) {
   let index = at;
   let rest = value;
