@@ -1,4 +1,4 @@
-// What the module of content identifiers declares.
+// Content identifiers (CIDs), as bytes and as texts.
 import type { Multihash, Status as MultihashStatus, Wide } from './index.js';
 
 /**
@@ -17,7 +17,7 @@ export const CID_LENGTH_MAX: 276;
 /** The maximum length of a text, in characters. A longer text is rejected before its base is decoded. */
 export const CID_TEXT_MAX: 553;
 
-/** Why a call failed, by the names that other languages have too. */
+/** Why a call failed. The packages for other languages use the same names. */
 export type CIDStatus =
   /**
    * The version, the codec or the multihash is invalid or truncated, or bytes follow it, as `Status` of index.d.ts says;
@@ -30,13 +30,13 @@ export type CIDStatus =
   | 'invalid_digit'
   /** The text has more than `CID_TEXT_MAX` characters. */
   | 'too_long'
-  /** The last digit has bits that belong to no byte, or that are not zero. */
+  /** The last digit is superfluous, or its unused bits are not zero. */
   | 'trailing_bits'
-  /** A CID of version 0 has a prefix, or a text that starts with `Qm` is of no CID of version 0. */
+  /** The text of a CID of version 0 has a prefix, or a text that starts with `Qm` is not of version 0. */
   | 'wrong_prefix'
-  /** The version of bytes is not 1, or that of `CID.of` neither 0 nor 1. */
+  /** The bytes have a version other than 1, or `CID.of` got one other than 0 and 1. */
   | 'unknown_version'
-  /** Version 0 has another codec or multihash than it may have. */
+  /** The codec or the multihash is not one that version 0 can have. */
   | 'not_version_0';
 
 /** The error of a text, of bytes or of fields that are no CID. Arguments of a wrong type throw a `TypeError` instead. */

@@ -12,19 +12,19 @@ export type Content = Uint8Array | ByteStream | AsyncIterable<Uint8Array>;
 /** An object that hashes, as those of `@noble/hashes`, `hash-wasm` and `createHash` of node:crypto do. */
 export interface Hash {
   update(bytes: Uint8Array): unknown;
-  /** The argument is passed to objects that have `init`, as those of `hash-wasm`, and that return a text otherwise. */
+  /** `'binary'` is passed only to objects that have `init`: those of `hash-wasm`, which otherwise return a text. */
   digest(encoding: 'binary'): Uint8Array | PromiseLike<Uint8Array>;
 }
 
 /**
- * Hash functions, by their codes or their names in `CODES`: what begins to hash, or an object whose `create` does, as a
- * function of `@noble/hashes` has. They take precedence over those of the platform.
+ * Hash functions, by their codes or their names in `CODES`. Each is a function that returns a new `Hash`, or an object with
+ * such a method `create`, as in `@noble/hashes`. They take precedence over the functions of the platform.
  */
 export type Functions = Readonly<Record<string | number, (() => Hash) | { create(options?: any): Hash }>>;
 
 /**
- * The error of a hash function that the platform does not have, and that was not passed in `functions`: nothing was
- * hashed, so the content is neither right nor wrong.
+ * The error for a hash function that neither the platform nor `functions` has. Nothing was hashed, so the content is
+ * neither right nor wrong.
  */
 export class UnsupportedHashError extends RangeError {
   constructor(code: Wide);
@@ -43,8 +43,8 @@ export interface MultihashHasher<Code extends number = number> {
 }
 
 /**
- * The functions that this platform has, by their names. Those listed here are on each; Node.js also has those of its
- * OpenSSL.
+ * The functions that this platform has, by their names. Every platform has those listed here. Node.js also has those of
+ * its OpenSSL.
  */
 export const hashers: Readonly<Record<string, MultihashHasher | undefined>> & {
   readonly identity: MultihashHasher<0>;
@@ -54,15 +54,15 @@ export const hashers: Readonly<Record<string, MultihashHasher | undefined>> & {
   readonly 'sha2-512': MultihashHasher<0x13>;
   readonly 'dbl-sha2-256': MultihashHasher<0x56>;
 };
-/** The content itself, at most 255 bytes, is the digest. */
+/** The digest is the content itself, of at most 255 bytes. */
 export const identity: MultihashHasher<0>;
 export const sha256: MultihashHasher<0x12>;
 export const sha384: MultihashHasher<0x20>;
 export const sha512: MultihashHasher<0x13>;
 
 /**
- * Returns the multihash of the content by the function of a name in `CODES`, or of a code. Throws an
- * `UnsupportedHashError` if neither `functions` nor the platform has it. The rest is as for `MultihashHasher`.
+ * Hashes the content with the function that has a name in `CODES`, or a code, and returns the multihash. Throws an
+ * `UnsupportedHashError` if neither `functions` nor the platform has it. `MultihashHasher` documents `truncate`.
  */
 export function digest(
   content: Content, hash: string | number, options?: { truncate?: number; functions?: Functions },
@@ -90,7 +90,7 @@ export class Hasher {
 }
 
 /**
- * Returns whether the multihash, or its encoding, is the multihash of the content: false for a truncated digest.
+ * Returns whether a multihash, which may be its encoding, is that of the content: false if its digest is truncated.
  * Throws an `UnsupportedHashError` if neither `functions` nor the platform has the function. The time for digests of
  * equal lengths does not depend on their bytes.
  */

@@ -12,15 +12,15 @@ export type Wide = number | bigint;
 export type Status =
   /** The input ends before or inside a varint. */
   | 'insufficient'
-  /** A varint has more than nine bytes; numbers of 2^63 and above do. */
+  /** A varint has more than nine bytes, as those of numbers of 2^63 and above have. */
   | 'overflow'
   /** A varint of more than one byte ends in a zero byte. */
   | 'not_minimal'
-  /** `size` is the length of a digest that is too long, or the number of bytes that follow the multihash. */
+  /** `size` is the length of a digest or frame that is too long, or the number of bytes that follow the multihash. */
   | 'invalid_size'
   /** The code is 2^63 or more: `code` is the code. */
   | 'invalid_code'
-  /** The input ends before the end of the digest, after any varints. */
+  /** The input ends after the varints, before the end of the digest or frame; in SCALE, before the end of the encoding. */
   | 'unexpected_eof'
   /** A text is not an even number of hexadecimal digits. */
   | 'not_hexadecimal';
@@ -28,7 +28,7 @@ export type Status =
 /** The fields of an error. */
 export interface Details {
   readonly status: Status;
-  /** The invalid size: the digest's length, or the number of trailing bytes. */
+  /** The invalid size: the length of the digest or frame, or the number of trailing bytes. */
   readonly size?: Wide;
   /** The invalid code. */
   readonly code?: Wide;
@@ -71,7 +71,7 @@ export interface MultihashDigest {
 
 /**
  * A code, which names a hash function, and a digest. A `Multihash<number>` has the properties of `MultihashDigest`
- * in js-multiformats. Do not write to `code`, or to the bytes of `digest` and `bytes`: that would make them differ.
+ * in js-multiformats. Do not write to `code`, or to the bytes of `digest` and `bytes`: they would no longer agree.
  */
 export class Multihash<Code extends Wide = Wide> implements MultihashDigest {
   private constructor();
@@ -81,8 +81,8 @@ export class Multihash<Code extends Wide = Wide> implements MultihashDigest {
   /** Decodes exactly one multihash from hexadecimal digits of either case. Throws what `decode` throws. */
   static fromHex(text: string): Multihash;
   /**
-   * Makes the multihash of what `toJSON` returned: a code, which may be decimal text, and a digest in hexadecimal. A
-   * `size` has to be the digest's length. Throws a `TypeError`, a `RangeError`, or what `of` and `fromHex` throw.
+   * Makes the multihash of what `toJSON` returned: a code, which may be decimal text, and a digest in hexadecimal. If
+   * `size` is there, it must be the digest's length. Throws a `TypeError`, a `RangeError`, or what `of` and `fromHex` throw.
    */
   static fromJSON(json: { readonly code: Wide | string; readonly size?: number; readonly digest: string }): Multihash;
   /** Below 2^63. A `number` up to `Number.MAX_SAFE_INTEGER`, and a `bigint` above. */
@@ -110,7 +110,7 @@ export interface Read {
   readonly taken: number;
 }
 
-/** Multihashes that lie one after the other, as columns: element `i` of each belongs to number `i`, from 0 on. */
+/** Concatenated multihashes as columns: element `i` of each column belongs to multihash `i`, counted from 0. */
 export interface Columns {
   readonly codes: BigUint64Array;
   /** The indices at which the digests start in the input. */
@@ -119,7 +119,7 @@ export interface Columns {
   readonly lengths: Uint8Array;
   /** The number of bytes that were decoded: those of all multihashes in the columns. */
   readonly taken: number;
-  /** Why the bytes from `taken` on are no multihash, with a `taken` of its own from there on: undefined at the end. */
+  /** The error for the bytes from `taken` on; its own `taken` counts from there. Undefined if no bytes follow. */
   readonly error: MultihashError | undefined;
 }
 
@@ -144,8 +144,7 @@ export function readMany(bytes: Uint8Array): Columns;
 /** Decodes the two varints before a digest. */
 export function head(bytes: Uint8Array): Head;
 /**
- * Decodes the varint at the start of `bytes`: any number of multiformats, such as a CID's version or a block's length.
- * `taken` is the varint's length.
+ * Decodes the varint at the start of `bytes`, such as a CID's version or a block's length. `taken` is the varint's length.
  */
 export function readVarint(bytes: Uint8Array): { readonly value: Wide; readonly taken: number };
 /** Returns the varint of a number. Throws a `MultihashError` with the status `overflow` if that is 2^63 or more. */
@@ -182,8 +181,8 @@ export interface ItemReader<Item> extends AsyncIterable<Item> {
   /** A copy of the bytes received that belong to no item returned so far. */
   readonly rest: Uint8Array;
   /**
-   * The number of bytes of the items returned so far, with those in the option `rest`: the position at which the next
-   * item starts, or after a `MultihashError` the invalid one.
+   * The number of bytes of the items returned so far, including bytes of the option `rest`: the position at which the
+   * next item starts, or after a `MultihashError` the invalid one.
    */
   readonly taken: number;
   /**
@@ -220,9 +219,9 @@ export class MultihashReader {
 export interface MultihashReader extends ItemReader<Multihash> {}
 
 /**
- * Reads frames from a `ReadableStream` or an async iterable: each is a varint, and then as many bytes, such as a section
- * of a CAR or a message of libp2p. The bytes of a frame are a copy. A stream ends between frames: otherwise the error is
- * a `MultihashError` with `isIncomplete`. Its text, as that of each error, has the frame's number, from 0 on, and its
+ * Reads frames from a `ReadableStream` or an async iterable: each is a varint, and then that many bytes, such as a section
+ * of a CAR or a message of libp2p. The bytes of a frame are a copy. If the stream ends inside a frame, the error is a
+ * `MultihashError` with `isIncomplete`. The message of each error has the number of the frame, counted from 0, and its
  * offset. Memory grows with the bytes that arrive, not with the length that a frame claims.
  */
 export class FrameReader {
