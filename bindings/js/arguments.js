@@ -1,6 +1,6 @@
-// Checks of arguments. An error names the argument, what was expected, and what came.
+// Checks of arguments. An error names the argument, what was expected, and what was passed.
 
-/** What came, as an error names it. */
+/** The type of a value, as an error names it. */
 export function received(value) {
   if (typeof value === 'object' && value !== null) {
     const kind = Object.prototype.toString.call(value).slice(8, -1);
@@ -9,7 +9,7 @@ export function received(value) {
   return ['string', 'symbol', 'function', 'bigint'].includes(typeof value) ? typeof value : String(value);
 }
 
-/** A number, as an error shows it: at most 40 digits. */
+/** A number or a name as an error shows it: 40 characters at most. */
 export function shown(number) {
   const text = String(number);
   return text.length > 40 ? `${text.slice(0, 40)}...` : text;
@@ -17,7 +17,7 @@ export function shown(number) {
 
 const DECODE = 'Multihash.fromHex(text) and CID.parse(text) decode it';
 const STREAM = 'its stream() is a ReadableStream';
-// What makes an argument of what came, by its kind, or by its kind and the name of the argument.
+// How to make the argument of what was passed, by the type of that, or by the type and the name of the argument.
 const HINTS = {
   __proto__: null,
   'string bytes': DECODE, 'string multihash': DECODE, 'string code': 'CODES has the codes of names',
@@ -30,7 +30,7 @@ const HINTS = {
   Map: 'Object.fromEntries(map) makes one', Multihash: 'its bytes are the encoding', Promise: 'await it',
 };
 
-/** The error of an argument of another type. */
+/** The error for an argument of a wrong type. */
 export function wrongType(name, expected, value) {
   const kind = received(value);
   const got = kind === 'Uint8Array' && !isBytes(value) ? 'a Proxy of a Uint8Array' : kind;
@@ -42,7 +42,7 @@ export function wrongType(name, expected, value) {
 const getter = (prototype, name) => Object.getOwnPropertyDescriptor(prototype, name).get;
 const typedArray = Object.getPrototypeOf(Uint8Array.prototype);
 const { slice } = typedArray;
-// The getters themselves, since a subclass may define others.
+// The getters of the prototype, since a subclass may override them.
 const tagOf = getter(typedArray, Symbol.toStringTag);
 const lengthOf = getter(typedArray, 'length');
 const offsetOf = getter(typedArray, 'byteOffset');
@@ -51,14 +51,14 @@ export const bufferOf = getter(typedArray, 'buffer');
 /** Whether the value is a Uint8Array, of any realm. */
 export const isBytes = (value) => tagOf.call(value) === 'Uint8Array';
 
-/** The length of a Uint8Array that has its memory. Throws a TypeError for any other value. */
+/** The length of a Uint8Array. Throws a TypeError for any other value, and if the array is detached or out of bounds. */
 export function checkedLength(data, name) {
-  // the buffer is not asked for: an engine has to make it first, which takes longer than to decode a short array
+  // `buffer` is not read: the engine may have to make the object first, which takes longer than decoding a short array
   if (tagOf.call(data) !== 'Uint8Array') throw wrongType(name, 'a Uint8Array', data);
-  return data[0] === undefined ? emptyLength(data, name) : lengthOf.call(data); // which is faster once an element was read
+  return data[0] === undefined ? emptyLength(data, name) : lengthOf.call(data); // faster after an element was read
 }
 
-/** 0. Throws a TypeError if an array has this length because its memory is gone. */
+/** Returns 0, the length of an empty array. Throws a TypeError if the array is detached or out of bounds. */
 function emptyLength(data, name) {
   try {
     return new Uint8Array(data).length;
@@ -70,26 +70,26 @@ function emptyLength(data, name) {
 /** A plain Uint8Array over `length` bytes of another one, from an index on. */
 export const viewOf = (data, at, length) => new Uint8Array(bufferOf.call(data), offsetOf.call(data) + at, length);
 
-/** A copy of the bytes from one index to another: a plain Uint8Array, whatever class the other one has. */
+/** A copy of the bytes from one index to another: a plain Uint8Array, even if the data is of a subclass. */
 export function copyOf(data, start, end) {
-  // `slice` makes an array of that class, and the buffer of a short array is not asked for, as above
+  // `slice` is faster, since it needs no `buffer` (see above), but returns an array of the same class
   return data.constructor === Uint8Array ? slice.call(data, start, end) : new Uint8Array(viewOf(data, start, end - start));
 }
 
-/** An object of names and values, which no list and no Map is. */
+/** Returns the value if it is an object of names and values. Throws a TypeError for others, such as an Array or a Map. */
 export function checkedObject(value, name) {
   if (typeof value !== 'object' || value === null || Symbol.iterator in value) throw wrongType(name, 'an object', value);
   return value;
 }
 
-/** The options of a call: an object with these names only. */
+/** Returns the options of a call. Throws a TypeError if they are no object, or have a name that is not in the list. */
 export function checkedOptions(options, names) {
   const other = Object.keys(checkedObject(options, 'options')).find((key) => !names.includes(key));
   if (other !== undefined) throw new TypeError(`options can have ${names.join(' and ')}, got ${shown(other)}`);
   return options;
 }
 
-/** A whole number of 64 bits, not negative: a safe integer or a bigint. Returns a number if that is exact. */
+/** Returns a whole number from 0 to 2^64 - 1, a safe integer or a bigint: as a number if that is exact, or as a bigint. */
 export function checkedWide(number, name) {
   if (Number.isSafeInteger(number) && number >= 0) return number + 0; // -0 is 0
   if (typeof number !== 'bigint' || BigInt.asUintN(64, number) !== number) throw wrongNumber(name, number);

@@ -1,4 +1,4 @@
-// The bases in which multihashes and content identifiers are texts. They are tested, not proved.
+// The bases of texts of multihashes and content identifiers. They are tested, not checked for all inputs.
 import { wrongType } from './arguments.js';
 import { MultihashError } from './errors.js';
 import { LENGTH_MAX, VARINT_LENGTH_MAX } from './limits.js';
@@ -27,10 +27,10 @@ export function unhex(text, name = 'text') {
 }
 
 const BASE16 = Uint8Array.from('0123456789abcdef', (digit) => digit.charCodeAt(0));
-const digits = new Uint8Array(2 * (1 + VARINT_LENGTH_MAX + LENGTH_MAX)); // of a CID
+const digits = new Uint8Array(2 * (1 + VARINT_LENGTH_MAX + LENGTH_MAX)); // as many as a CID can have
 const decoder = new TextDecoder();
 
-/** The bytes of a multihash or a CID in hexadecimal. A text made by additions takes several times as long. */
+/** The bytes of a multihash or a CID in hexadecimal. To append each digit to a text would take several times as long. */
 export function hex(bytes) {
   for (let index = 0; index < bytes.length; index++) {
     digits[2 * index] = BASE16[bytes[index] >> 4];
@@ -67,7 +67,7 @@ function fromBase32(text) {
 
 const BASE58 = '123456789ABCDEFGHJKLMNPQRSTUVWXYZabcdefghijkmnopqrstuvwxyz';
 
-/** The digits of a number in another base, most significant first. Each zero at the start is kept as a digit. */
+/** Converts the digits of a number, most significant first, to another base. Each leading zero stays a leading zero. */
 function inBase(digits, from, to) {
   const made = []; // least significant first
   for (let carry of digits) {
@@ -86,9 +86,9 @@ const toBase58 = (bytes) => inBase(bytes, 256, 58).map((value) => BASE58[value])
 const fromBase58 = (text) => new Uint8Array(inBase([...text].map((digit) => BASE58.indexOf(digit)), 58, 256));
 
 /**
- * By the prefix of a text: the name of the base, what is no digit of it, and its functions for texts without the prefix,
- * which have digits alone. `decode` returns undefined if the last digit has bits that belong to no byte, or that are not
- * zero.
+ * The bases, by the prefixes of texts. `other` matches a character that is no digit. `encode` returns digits without the
+ * prefix, and `decode` expects digits without it. `decode` returns undefined if the last digit is superfluous, or if its
+ * unused bits are not zero.
  */
 export const BASES = {
   __proto__: null,

@@ -1,4 +1,4 @@
-// Content identifiers, as bytes and as texts. The bases are tested, not proved.
+// Content identifiers (CIDs), as bytes and as texts.
 import { checkedLength, checkedWide, shown, viewOf, wrongType } from './arguments.js';
 import { BASES } from './bases.js';
 import { encodeVarint, readVarint } from './core.js';
@@ -13,26 +13,26 @@ export const CODECS = Object.freeze({
 /** The maximum length of an encoding, in bytes. */
 export const CID_LENGTH_MAX = 1 + VARINT_LENGTH_MAX + LENGTH_MAX;
 /**
- * The maximum length of a text, in characters, which is in base16. To decode base58 takes time that is quadratic in the
- * length of the text, so a longer text is not decoded.
+ * The maximum length of a text, in characters: that of base16, whose texts are the longest. A longer text is not decoded,
+ * since the time for base58 grows with the square of the length.
  */
 export const CID_TEXT_MAX = 1 + 2 * CID_LENGTH_MAX;
 
-/** Why a text, bytes or fields are no CID. */
+/** The error for a text, bytes or fields that are no CID. */
 export class CIDError extends Error {
   constructor(status, message, options) {
     super(message, options);
     this.status = status;
   }
 
-  /** The name, the text and the status, for JSON.stringify. */
+  /** Returns the name, the message and the status, for JSON.stringify. */
   toJSON() {
     return { name: this.name, message: this.message, status: this.status };
   }
 }
 Object.defineProperty(CIDError.prototype, 'name', { value: 'CIDError', writable: true, configurable: true });
 
-/** Calls what decodes or encodes a part of a CID, whose arguments were checked. */
+/** Returns what `call` returns, which decodes or encodes a part of a CID. Throws a CIDError for its MultihashError. */
 function ofPart(part, call) {
   try {
     return call();
@@ -44,7 +44,7 @@ function ofPart(part, call) {
 /** Whether the bytes start with the code of SHA2-256 and the length 32, as those of version 0 do. */
 const isVersion0 = (bytes) => bytes[0] === 0x12 && bytes[1] === 0x20;
 
-/** The version and the codec, and the index at which the multihash starts. */
+/** Decodes the version and the codec. `start` is the index at which the multihash starts. */
 function headOf(bytes, length) {
   if (isVersion0(bytes)) return { version: 0, codec: CODECS['dag-pb'], start: 0 };
   const version = ofPart('version', () => readVarint(bytes));
@@ -59,7 +59,7 @@ const encode = ({ version, codec, multihash }) =>
 
 /** A version, a codec and a multihash. */
 export class CID {
-  #bytes; // once they were asked for
+  #bytes; // the encoding, once it was asked for
 
   constructor(making, version, codec, multihash) {
     if (making !== MAKING) throw new TypeError('CID.of(version, codec, multihash) makes a CID');
@@ -121,7 +121,7 @@ export class CID {
     return this.#bytes;
   }
 
-  /** The text, in the base of a prefix. */
+  /** Returns the text in the base that has this prefix. */
   toString(base = this.version === 0 ? 'z' : 'b') {
     if (!BASES[base] || (this.version === 0 && base !== 'z'))
       throw new RangeError(`base must be 'b', 'f' or 'z', and 'z' for version 0, got ${shown(base)}`);
@@ -129,17 +129,17 @@ export class CID {
     return this.version === 0 ? digits : base + digits;
   }
 
-  /** The text, for JSON.stringify. */
+  /** Returns the text, for JSON.stringify. */
   toJSON() {
     return this.toString();
   }
 
-  /** The same for console.log in Node.js. */
+  /** Returns what console.log shows in Node.js. */
   [Symbol.for('nodejs.util.inspect.custom')]() {
     return `CID(${this})`;
   }
 
-  /** Whether the other value is a CID with the same version, codec and multihash. */
+  /** Returns whether another value is a CID with the same version, codec and multihash. */
   equals(other) {
     return other instanceof CID && other.version === this.version && other.codec === this.codec &&
       this.multihash.equals(other.multihash);

@@ -1,14 +1,14 @@
-// The calls over bytes alone: format.js decodes and encodes, between checks of the arguments and the texts of errors.
+// The public functions over bytes and numbers: they check the arguments, call format.js, and throw an error if that fails.
 import { checkedLength, checkedWide, viewOf, wrongType } from './arguments.js';
 import { MultihashError, errorOf, varintReasonOf } from './errors.js';
 import * as format from './format.js';
 import { DIGEST_MAX } from './limits.js';
 import { tooLarge, tooLong } from './statuses.js';
 
-/** Throws why a code and a digest of that length have no encoding. */
+/** Throws an error if a code and a digest of that length have no encoding. */
 export function checkPair(code, length) {
   const status = format.encodingStatus(code, length);
-  if (status !== 'ok') throw encodingError(status, code, length); // apart, so that engines inline this function
+  if (status !== 'ok') throw encodingError(status, code, length); // in another function, so that engines inline this one
 }
 
 function encodingError(status, code, length) {
@@ -50,7 +50,7 @@ export function head(bytes) {
 
 // ---- varints
 
-/** A number that has a varint. */
+/** Returns a value that has a varint. Throws an error if it is 2^63 or more. */
 function checkedValue(value) {
   const number = checkedWide(value, 'value');
   if (number < 2 ** 63) return number;
@@ -87,7 +87,7 @@ export function readVarint(bytes) {
 
 // ---- many multihashes
 
-/** Columns, with those codes, offsets and lengths of others that are there. */
+/** Returns new columns with this capacity. They start with the elements of `others`, as many as fit. */
 function columnsOf(capacity, others = {}) {
   const codes = new BigUint64Array(capacity);
   const columns = { codes, offsets: new Float64Array(capacity), lengths: new Uint8Array(capacity) };
@@ -99,10 +99,10 @@ function columnsOf(capacity, others = {}) {
 export function readMany(bytes) {
   const length = checkedLength(bytes, 'bytes');
   const view = viewOf(bytes, 0, length);
-  // room for as many encodings of 34 bytes as the input has, but at first for a million at most
+  // the capacity at first: enough if each encoding has 34 bytes, but at most a million
   let { codes, offsets, lengths } = columnsOf(Math.min(Math.ceil(length / 34), 2 ** 20));
   let halves = new Uint32Array(codes.buffer);
-  const low = new Uint8Array(Uint32Array.of(1).buffer)[0] === 1 ? 0 : 1; // most machines have the low half of 64 bits first
+  const low = new Uint8Array(Uint32Array.of(1).buffer)[0] === 1 ? 0 : 1; // the index of the low half of 64 bits
   let [taken, count] = [0, 0];
   let error;
   while (taken < length) {
@@ -116,7 +116,7 @@ export function readMany(bytes) {
       ({ codes, offsets, lengths } = columnsOf(2 * count, { codes, offsets, lengths }));
       halves = new Uint32Array(codes.buffer);
     }
-    if (code < 2 ** 32) halves[2 * count + low] = code; // without a bigint, which takes as long as all the rest
+    if (code < 2 ** 32) halves[2 * count + low] = code; // no bigint is made, which would double the time
     else codes[count] = BigInt(code);
     offsets[count] = next - size;
     lengths[count] = size;

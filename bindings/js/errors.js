@@ -1,13 +1,13 @@
-// MultihashError, the error of invalid input, and the choice of its text.
+// MultihashError, the error for invalid input, and the functions that choose its message.
 import { readHead, varintAt } from './format.js';
 import * as texts from './statuses.js';
 
 const ALL = [...texts.STATUSES.slice(1), 'not_hexadecimal'];
 
-/** A number as JSON.stringify accepts it: a bigint as decimal text. */
+/** Returns what JSON.stringify accepts: a bigint as decimal text, a number as it is. */
 export const forJSON = (number) => (typeof number === 'bigint' ? `${number}` : number);
 
-/** Why a call failed. `structuredClone` keeps `cause`, which has the same fields: see `from`. */
+/** The error for invalid input. `cause` repeats the fields, since `structuredClone` keeps it and drops them: see `from`. */
 export class MultihashError extends Error {
   constructor(message, details) {
     const { status, size, code, taken } = { __proto__: null, ...details };
@@ -16,20 +16,20 @@ export class MultihashError extends Error {
     Object.assign(this, fields);
   }
 
-  /** The name, the text and the fields, for JSON.stringify. */
+  /** Returns the name, the message and the fields, for JSON.stringify. */
   toJSON() {
     const { name, message, status, size, code, taken } = this;
     return { name, message, status, size: forJSON(size), code: forJSON(code), taken };
   }
 
-  /** The error that the value is a clone of, the value itself if it is of this class, otherwise undefined. */
+  /** Restores an error from its clone. Returns a MultihashError as it is, and undefined for other values. */
   static from(value) {
     if (value instanceof MultihashError) return value;
     const cause = value?.cause;
     return ALL.includes(cause?.status) ? new MultihashError(value.message, cause) : undefined;
   }
 
-  /** Whether the input is truncated. But for `decode`, only then can more input change the result. */
+  /** Whether the input is truncated. In every call but `decode`, more input can change the result only then. */
   get isIncomplete() {
     return texts.INCOMPLETE.includes(this.status);
   }
@@ -37,10 +37,10 @@ export class MultihashError extends Error {
 Object.defineProperty(MultihashError.prototype, 'name',
   { value: 'MultihashError', writable: true, configurable: true });
 
-/** Why a varint that has a name is rejected, whose end is there. */
+/** The message for a varint that is too long or not minimal; `varint` names it. */
 const malformed = (varint, status) => (status === 'overflow' ? texts.overflow(varint) : texts.notMinimal(varint));
 
-/** Why the bytes from an index on are no multihash with a digest of at most `limit` bytes. */
+/** The message for bytes that, from the index `at` on, are no multihash with a digest of at most `limit` bytes. */
 function reasonOf(status, bytes, at, end, limit) {
   const { size, next } = readHead(bytes, at, end);
   const rest = end - next;
@@ -54,25 +54,25 @@ function reasonOf(status, bytes, at, end, limit) {
   return texts.ends(code.status === 'ok' && code.next === end ? 'before' : 'inside', name);
 }
 
-/** The error that was found in the bytes from an index on. A size that does not belong to its status is 0. */
+/** The error for a result of format.js about the bytes from an index on. The size in a result is 0 unless it is invalid. */
 export function errorOf({ status, size, next }, bytes, at, end, limit) {
   const details = { status, size: size || undefined, taken: next - at };
   return new MultihashError(reasonOf(status, bytes, at, end, limit), details);
 }
 
-/** Why the varint at the start of an input of that length is rejected. */
+/** The message for an input of that length that does not start with a varint. */
 export function varintReasonOf(status, length) {
   if (status !== 'insufficient') return malformed('varint', status);
   return length === 0 ? texts.empty() : texts.ends('inside', 'varint');
 }
 
-/** Why the bytes before `end` have no frame of at most `limit` bytes. */
+/** The message for an invalid frame in the bytes before `end`; `limit` is the maximum length of a frame. */
 export function frameReasonOf({ status, size, next }, end, limit) {
   if (status === 'invalid_size') return texts.tooLong('frame', size, limit);
   return status === 'unexpected_eof' ? texts.truncated('frame', end - next, size) : varintReasonOf(status, end);
 }
 
-/** Why an input of that length is rejected as SCALE. */
+/** The message for an input of that length that does not start with a SCALE encoding. */
 export function scaleReasonOf({ status, code }, input, length) {
   if (status === 'invalid_code') return texts.tooLarge('code', code);
   if (length === 0) return texts.empty();

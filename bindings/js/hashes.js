@@ -1,4 +1,4 @@
-// Hash functions of node:crypto or WebCrypto, which make and verify multihashes.
+// Makes and verifies multihashes with the hash functions of node:crypto or WebCrypto.
 import {
   bufferOf, checkedLength, checkedObject, checkedOptions, checkedWide, isBytes, received, shown, viewOf, wrongType,
 } from './arguments.js';
@@ -10,12 +10,12 @@ import { sourceOf } from './sources.js';
 
 export { CODES, NAMES };
 
-// Absent in browsers. Bundlers follow no `import` here.
+// Undefined in browsers. This is no `import`, since bundlers would follow it.
 const node = globalThis.process?.getBuiltinModule?.('node:crypto');
 
-const PIECE = node ? 2 ** 20 : Infinity; // bytes that are hashed at once: WebCrypto hashes in a thread of its own
+const PIECE = node ? 2 ** 20 : Infinity; // bytes that are hashed at once. WebCrypto hashes in another thread
 
-/** The error of a hash function that the platform does not have, and that was not passed: nothing was hashed. */
+/** The error for a hash function that neither the platform nor the option `functions` has. Nothing was hashed. */
 export class UnsupportedHashError extends RangeError {
   constructor(code) {
     const name = NAMES[code] ? ` (${NAMES[code]})` : '';
@@ -26,7 +26,7 @@ export class UnsupportedHashError extends RangeError {
 Object.defineProperty(UnsupportedHashError.prototype, 'name',
   { value: 'UnsupportedHashError', writable: true, configurable: true });
 
-/** Hashes pieces with WebCrypto, which needs all of them at once, not in shared or resizable memory. */
+/** Hashes pieces with WebCrypto, which takes all of them in one call, and rejects shared and resizable memory. */
 function byWeb(algorithm) {
   const pieces = [];
   return {
@@ -43,7 +43,7 @@ function byWeb(algorithm) {
   };
 }
 
-/** Returns the content as its own digest or, if it is too long for one, an object with its length, for the error. */
+/** Hashes with `identity`: the digest is the content or, if that is too long, an object with its length, for the error. */
 function byNothing() {
   const content = new Uint8Array(DIGEST_MAX);
   let length = 0;
@@ -56,7 +56,7 @@ function byNothing() {
   };
 }
 
-/** Hashes the digest of the pieces. */
+/** Hashes the pieces, and then their digest. */
 function twice(create) {
   const [first, second] = [create(), create()];
   return {
@@ -68,7 +68,7 @@ function twice(create) {
   };
 }
 
-// What creates an object that hashes pieces, by the names of the functions that this platform has.
+// The functions of this platform, by their names. Each value creates an object that hashes pieces.
 const creators = { __proto__: null, identity: byNothing };
 if (node) {
   const available = node.getHashes();
@@ -84,7 +84,8 @@ if (node) {
 creators['dbl-sha2-256'] = () => twice(creators['sha2-256']);
 
 /**
- * Calls with what makes a source of the content, once. After an error the source is cancelled, even if it was not read.
+ * Returns what `call(open)` returns; `open()` returns the source of the content, the same each time. After an error the
+ * source is cancelled, even if it was not read.
  */
 async function reading(content, call) {
   let source;
@@ -93,18 +94,18 @@ async function reading(content, call) {
     if (content?.readableEnded) throw new TypeError('content is a stream that was read before: open it again');
     return await call(open);
   } catch (error) {
-    await (async () => open().close())().catch(() => {}); // the first error is the one to know
+    await (async () => open().close())().catch(() => {}); // the first error is thrown, not one of cancelling
     throw error;
   }
 }
 
-/** The digest of bytes, or of the chunks of the source that `open` returns. */
+/** Returns the digest of the content: of bytes, or of the chunks of the source that `open` returns. */
 async function digestOf(create, content, open) {
   const hash = create();
   if (isBytes(content)) {
     const length = checkedLength(content, 'content');
     for (let at = 0; at < length; at += PIECE) {
-      if (at > 0) await new Promise((resolve) => globalThis.setImmediate(resolve)); // other work has a turn
+      if (at > 0) await new Promise((resolve) => globalThis.setImmediate(resolve)); // other tasks can run
       hash.update(viewOf(content, at, Math.min(PIECE, length - at)));
     }
     return hash.digest();
@@ -112,13 +113,13 @@ async function digestOf(create, content, open) {
   const source = open();
   for (let chunk; !(chunk = await source.next()).done; ) {
     checkedLength(chunk.value, 'a chunk of the stream');
-    hash.update(new Uint8Array(chunk.value)); // a copy, since sources may use their memory again
+    hash.update(new Uint8Array(chunk.value)); // a copy, since a source may reuse its memory
   }
   source.release();
   return hash.digest();
 }
 
-/** Hashes pieces with an object of @noble/hashes, hash-wasm or node:crypto, which a function of a caller returns. */
+/** Hashes pieces with an object that a caller's function creates, such as one of @noble/hashes or hash-wasm. */
 function byOwn(create, name) {
   const hash = create();
   if (typeof hash?.update !== 'function' || typeof hash.digest !== 'function')
@@ -126,7 +127,7 @@ function byOwn(create, name) {
   return {
     update: (piece) => hash.update(piece),
     async digest() {
-      // hash-wasm, whose objects have `init`, returns hexadecimal otherwise, and node:crypto a text if it is asked so
+      // objects of hash-wasm, which have `init`, return a text without 'binary', and those of node:crypto with it
       const digest = await (hash.init ? hash.digest('binary') : hash.digest());
       if (!isBytes(digest)) throw new TypeError(`${name} must make a digest that is a Uint8Array, got ${received(digest)}`);
       return digest;
@@ -134,7 +135,7 @@ function byOwn(create, name) {
   };
 }
 
-/** What creates an object that hashes by a code: a caller's function, by its name or code, or that of the platform. */
+/** Returns the function for a code, which creates an object that hashes: the caller's, or else the platform's. */
 function creatorOf(code, functions = {}) {
   checkedObject(functions, 'functions');
   const key = [code, NAMES[code]].find((each) => Object.prototype.hasOwnProperty.call(functions, each));
@@ -148,7 +149,7 @@ function creatorOf(code, functions = {}) {
   return () => byOwn(create, `functions[${key}]`);
 }
 
-/** The code of a name, or itself. */
+/** Returns the code of a name, or the code that was passed. */
 function codeOf(hash) {
   if (typeof hash === 'number' || typeof hash === 'bigint') return checkedWide(hash, 'hash');
   if (typeof hash !== 'string') throw wrongType('hash', 'a name in CODES or a code', hash);
@@ -156,7 +157,7 @@ function codeOf(hash) {
   return CODES[hash];
 }
 
-/** The multihash of a digest, of which the first `truncate` bytes are kept. */
+/** Returns the multihash of a digest, or of its first `truncate` bytes. Throws an error if `identity` returned none. */
 function multihashOf(code, whole, truncate) {
   const { length } = whole;
   if (!isBytes(whole))
@@ -169,7 +170,7 @@ function multihashOf(code, whole, truncate) {
   return Multihash.of(code, whole.subarray(0, size));
 }
 
-/** Returns the multihash of the content by the function of a name or a code. */
+/** Hashes the content with the function of a name or a code, and returns the multihash. */
 export const digest = (content, hash, options = {}) => reading(content, async (open) => {
   const { truncate, functions } = checkedOptions(options, ['truncate', 'functions']);
   const code = codeOf(hash);
@@ -180,7 +181,7 @@ export const digest = (content, hash, options = {}) => reading(content, async (o
 export class Hasher {
   #code;
   #hash;
-  #multihash; // once it was asked for
+  #multihash; // a promise, once it was asked for
 
   constructor(hash, options = {}) {
     const { functions } = checkedOptions(options, ['functions']);
@@ -192,7 +193,7 @@ export class Hasher {
   update(content) {
     const length = checkedLength(content, 'content');
     if (this.#multihash) throw new TypeError('multihash() was called, so this hasher takes no more bytes');
-    this.#hash.update(node ? viewOf(content, 0, length) : new Uint8Array(content)); // WebCrypto hashes at the end
+    this.#hash.update(node ? viewOf(content, 0, length) : new Uint8Array(content)); // a copy, since WebCrypto hashes later
     return this;
   }
 
@@ -209,7 +210,7 @@ for (const name of Object.keys(creators))
 Object.freeze(hashers);
 export const { identity, 'sha2-256': sha256, 'sha2-384': sha384, 'sha2-512': sha512 } = hashers;
 
-/** The code and the digest that are claimed. */
+/** Returns an object with the code and the digest of a multihash, which may be its encoding or a similar object. */
 function claimOf(multihash) {
   if (isBytes(multihash)) return decode(multihash);
   if (multihash instanceof Multihash) return multihash;
@@ -220,12 +221,12 @@ function claimOf(multihash) {
 /** Returns whether a multihash, or its encoding, is that of the content. */
 export const verify = (multihash, content, options = {}) => reading(content, async (open) => {
   const { functions } = checkedOptions(options, ['functions']);
-  if (!isBytes(content)) open(); // if the arguments are swapped, it is the content that has the wrong type
+  if (!isBytes(content)) open(); // before the multihash is checked, so that the error of swapped arguments names the content
   const { code, digest } = claimOf(multihash);
   const wanted = await digestOf(creatorOf(code, functions), content, open);
   if (digest.length === 0) checkedLength(digest, 'the digest');
   if (digest.length !== wanted.length) return false;
-  let difference = 0; // the time does not depend on the bytes
+  let difference = 0; // of all bytes, so that the time does not depend on them
   for (let index = 0; index < wanted.length; index++) difference |= wanted[index] ^ digest[index];
   return difference === 0;
 });

@@ -1,4 +1,4 @@
-// The class Multihash, the calls that decode one, and how multihashes compare.
+// The class Multihash, and the functions that decode and compare multihashes.
 import { checkedLength, checkedWide, copyOf, isBytes, shown, wrongType } from './arguments.js';
 import { hex, unhex } from './bases.js';
 import { checkPair, encode } from './core.js';
@@ -6,14 +6,14 @@ import { MultihashError, errorOf, forJSON, scaleReasonOf } from './errors.js';
 import { compareBytes, compareMultihashes, decodeMultihash, readMultihash, readScale } from './format.js';
 import { DIGEST_MAX } from './limits.js';
 
-/** What only this package has, to make a multihash that was checked. */
+/** The first argument of the constructors. It is not exported by the package, so its users call `of`, which checks. */
 export const MAKING = Symbol('making');
 
 /**
  * A code, which names a hash function, and a digest. The fields are not frozen: that would double the time of `decode`.
  */
 export class Multihash {
-  #bytes; // once they were asked for
+  #bytes; // the encoding, once it was asked for
 
   constructor(making, code, digest) {
     if (making !== MAKING) throw new TypeError('Multihash.of(code, digest) makes a multihash');
@@ -36,7 +36,7 @@ export class Multihash {
     return decode(unhex(text));
   }
 
-  /** Makes the multihash that `toJSON` was called on, of what it returned. */
+  /** Makes the multihash of what `toJSON` returned. */
   static fromJSON(json) {
     if (typeof json !== 'object' || json === null) throw wrongType('json', 'an object', json);
     const { code, size, digest } = json;
@@ -44,12 +44,12 @@ export class Multihash {
     if (size !== undefined && size !== bytes.length)
       throw new RangeError(`size must be ${bytes.length}, the length of the digest, got ${shown(size)}`);
     const isText = typeof code === 'string' && /^\d+$/.test(code);
-    // 64 bits have at most 20 digits, and to convert many takes long
+    // a number of 64 bits has at most 20 digits, and converting a long text takes long
     if (isText && code.length > 20) throw new RangeError(`code must be from 0 to 2^63 - 1, got ${shown(code)}`);
     return Multihash.of(isText ? BigInt(code) : code, bytes);
   }
 
-  /** The encoding, which is made once, and again if its memory was moved elsewhere. */
+  /** The encoding. It is made at first use, and again if the array was detached since. */
   get bytes() {
     if (!(#bytes in this)) return encode(this.code, this.digest); // a Proxy has no private fields
     if (!this.#bytes?.length) this.#bytes = encode(this.code, this.digest);
@@ -66,18 +66,18 @@ export class Multihash {
     return hex(this.bytes);
   }
 
-  /** The code, and the digest in hexadecimal, for JSON.stringify. */
+  /** Returns the code, the size, and the digest in hexadecimal, for JSON.stringify. */
   toJSON() {
     return { code: forJSON(this.code), size: this.size, digest: this.digestHex };
   }
 
-  /** The same for console.log in Node.js. */
+  /** Returns what console.log shows in Node.js. */
   [Symbol.for('nodejs.util.inspect.custom')]() {
     const digest = this.digest.length === this.size ? this.digestHex || 'empty' : 'detached';
     return `Multihash(0x${this.code.toString(16)}, ${digest})`;
   }
 
-  /** Whether another value, such as a digest of js-multiformats, has the same code and the same digest. */
+  /** Returns whether another value, such as a digest of js-multiformats, has the same code and digest. */
   equals(other) {
     const digest = digestOf(this, 'this multihash');
     if (!isBytes(other?.digest) || (typeof other.code !== 'number' && typeof other.code !== 'bigint')) return false;
@@ -86,14 +86,14 @@ export class Multihash {
     return other.code == this.code && length === digest.length && compareBytes(digest, other.digest, length) === 0;
   }
 
-  /** This multihash, whose code is a number: a RangeError if it is a bigint. */
+  /** Returns this multihash, whose code is a number. Throws a RangeError if the code is a bigint. */
   narrow() {
     if (typeof this.code !== 'number') throw new RangeError(`the code ${this.code} is 2^53 or more, so it is a bigint`);
     return this;
   }
 }
 
-/** The multihash that was found in the bytes, which has a copy of its digest. */
+/** Makes the multihash that format.js found in the bytes. Its digest is a copy. */
 export const multihashOf = (bytes, { code, size, next }) => new Multihash(MAKING, code, copyOf(bytes, next - size, next));
 
 /** Decodes the multihash whose encoding is the whole of the bytes. */
@@ -104,7 +104,7 @@ export function decode(bytes) {
   return multihashOf(bytes, found);
 }
 
-/** The maximum length of a digest by the argument `limit`. */
+/** Returns the maximum length of a digest for the argument `limit`, which may be larger. */
 export const checkedLimit = (limit) => Math.min(Number(checkedWide(limit, 'limit')), DIGEST_MAX);
 
 /** Decodes the multihash whose encoding is a prefix of the bytes, with a digest of at most `limit` bytes. */
@@ -125,7 +125,7 @@ export function scaleDecode(bytes) {
   throw new MultihashError(scaleReasonOf(found, bytes, length), { status, code: code || undefined, taken: next });
 }
 
-/** The digest of a Multihash, whose memory was not moved elsewhere. */
+/** Returns the digest of a Multihash. Throws a TypeError if its length has changed. */
 function digestOf({ digest, size }, name) {
   if (digest.length !== size) throw new TypeError(`the digest of ${name} is detached or was replaced`);
   return digest;

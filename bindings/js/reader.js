@@ -1,4 +1,4 @@
-// What reads the items of a stream one after the other: its multihashes, or its frames.
+// The classes that read a stream's multihashes or frames, one after the other.
 import { checkedLength, checkedOptions, checkedWide, copyOf } from './arguments.js';
 import { MultihashError, errorOf, frameReasonOf } from './errors.js';
 import { readMultihash, varintAt } from './format.js';
@@ -12,19 +12,19 @@ class ItemReader {
   #source;
   #find;
   #make;
-  #bytes = new Uint8Array(); // what was received, and room for more
-  #at = 0; // the index in it after the last item that was returned
-  #end = 0; // the index after what was received
-  #taken = 0; // bytes of all that were returned
-  #calls = 0; // pending calls
-  #last = Promise.resolve(); // settled after the last of them
-  #isReleased = false; // by its user
-  #stop; // ends the call that waits
-  #over; // what each call does once the reader has ended: it returns null, or throws an error
+  #bytes = new Uint8Array(); // the bytes received, and room for more
+  #at = 0; // the index in #bytes after the last item that was returned
+  #end = 0; // the index in #bytes after the bytes received
+  #taken = 0; // the number of bytes of the items returned so far
+  #calls = 0; // the number of pending calls
+  #last = Promise.resolve(); // settles with the last of them
+  #isReleased = false; // whether `release` was called
+  #stop; // ends the wait for a chunk
+  #over; // set when the reader ends: returns null or throws an error, for each call from then on
 
   /**
    * `rest` holds bytes that precede those of the source. `find(bytes, at, end)` returns the status of the item that starts
-   * at an index, and the index `next` after it; `make(found, bytes, at, end)` returns the item, or throws why there is none.
+   * at an index, and the index `next` after it. `make(found, bytes, at, end)` returns the item, or throws the error.
    */
   constructor(source, rest, find, make) {
     this.#find = find;
@@ -52,7 +52,7 @@ class ItemReader {
     return next;
   }
 
-  /** The next item, once it was received. At an error or the end of the source the reader ends. */
+  /** Waits for the next item and returns it. At an error or the end of the source the reader ends. */
   async #next() {
     let isLast = false;
     try {
@@ -73,7 +73,7 @@ class ItemReader {
     return this.#over();
   }
 
-  /** The next item, if all of it was received. Throws if the rest of it does not follow. */
+  /** Returns the next item, or undefined if more of it may follow. Throws an error if the item is invalid or truncated. */
   #received(isLast = false) {
     const found = this.#find(this.#bytes, this.#at, this.#end);
     if (!isLast && INCOMPLETE.includes(found.status)) return undefined;
@@ -87,7 +87,7 @@ class ItemReader {
   #more() {
     return new Promise((resolve, reject) => {
       this.#stop = resolve;
-      // a chunk that comes later is appended to `rest`
+      // if `cancel` comes first, the chunk is appended to `rest` all the same
       this.#receive().then(resolve, reject);
     });
   }
@@ -103,7 +103,7 @@ class ItemReader {
     const length = checkedLength(bytes, name);
     if (this.#end + length > this.#bytes.length) {
       const rest = this.#bytes.subarray(this.#at, this.#end);
-      // at least doubled, so that the time of a long item in short chunks is linear
+      // at least doubled, so that a long item in short chunks takes linear time
       this.#bytes = new Uint8Array(rest.length + Math.max(rest.length, length));
       this.#bytes.set(rest);
       this.#end = rest.length;
@@ -113,7 +113,7 @@ class ItemReader {
     this.#end += length;
   }
 
-  /** What `read` would return, if that is an item and nothing needs to be awaited. */
+  /** Returns the next item if it was received and no call is pending, and otherwise undefined. `#next` throws the errors. */
   #ready() {
     try {
       return this.#calls === 0 && !this.#over ? this.#received() : undefined;
@@ -140,8 +140,8 @@ class ItemReader {
   }
 
   /**
-   * Returns each item; where the loop is left, the source is cancelled. This is what an async generator would do, which
-   * takes twice as long for an item that was received before.
+   * Returns an iterator over the items, which cancels the source when the loop is left. An async generator would do the
+   * same, but takes twice as long for an item that was already received.
    */
   [Symbol.asyncIterator]() {
     let isOver = false;
@@ -156,7 +156,7 @@ class ItemReader {
     };
     const loop = {
       next: () => {
-        const value = this.#ready(); // none after the end, since `return` cancels
+        const value = this.#ready(); // undefined after the end, since `return` cancels
         return value ? Promise.resolve({ done: false, value }) : awaited();
       },
       return: async (value) => {
@@ -167,7 +167,7 @@ class ItemReader {
         return { done: true, value };
       },
       throw: async (error) => {
-        await loop.return().catch(() => {}); // the first error is the one to know
+        await loop.return().catch(() => {}); // the first error is thrown, not one of cancelling
         throw error;
       },
       [Symbol.asyncIterator]: () => loop,
@@ -178,7 +178,7 @@ class ItemReader {
 }
 if (Symbol.asyncDispose) ItemReader.prototype[Symbol.asyncDispose] = ItemReader.prototype.cancel;
 
-/** The maximum length of an item, and bytes that precede those of the source. */
+/** The options: the maximum length of an item, and bytes that precede those of the source. */
 const checkedLimits = (options) => checkedOptions(options, ['limit', 'rest']);
 
 /** Reads concatenated encodings. */
@@ -193,7 +193,7 @@ export class MultihashReader extends ItemReader {
   }
 }
 
-/** Finds the frame that starts at an index: a varint, and then as many bytes. */
+/** Finds the frame that starts at an index: a varint, and then that many bytes. */
 function frameAt(bytes, at, end, limit) {
   const { status, value: size, next } = varintAt(bytes, at, end);
   if (status !== 'ok') return { status, next };

@@ -1,9 +1,9 @@
-// What the reader and the hash functions read: the chunks of a ReadableStream or of an async iterable.
+// The sources that the readers and the hash functions read: a ReadableStream or an async iterable.
 import { wrongType } from './arguments.js';
 
 /**
- * The chunks of a ReadableStream, which in Safari is not an async iterable, or of an async iterable. `next` returns what
- * that of an iterator does, `release` unlocks a stream for other readers, and `close` ends the source.
+ * Returns an object that reads the chunks of a ReadableStream, which in Safari is no async iterable, or of an async
+ * iterable. Its `next` is that of an iterator, `release` unlocks a stream for other readers, and `close` ends the source.
  */
 export function sourceOf(source, name, others = '') {
   if (typeof source?.getReader === 'function') return chunksOfStream(source);
@@ -14,7 +14,7 @@ export function sourceOf(source, name, others = '') {
   return {
     next: () => iterator.next(),
     release() {},
-    // `return` waits for what `next` waits for, which a Node.js Readable ends; before the first `next` it ends nothing
+    // `return` waits for a pending `next`, and before the first `next` it ends nothing, so a Node.js Readable is destroyed
     close() {
       if (typeof source.destroy === 'function') source.destroy();
       return iterator.return?.();
@@ -24,7 +24,7 @@ export function sourceOf(source, name, others = '') {
 
 const ignore = () => {};
 
-/** Listens once to the errors of a Node.js Readable: `next` throws them, also those that came before it. */
+/** Keeps errors of a Node.js Readable from being uncaught: `next` throws them. Adds the listener only once. */
 function listen(source) {
   source.off?.('error', ignore);
   source.on?.('error', ignore);
