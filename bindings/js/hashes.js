@@ -13,7 +13,7 @@ export { CODES, NAMES };
 // Undefined in browsers. This is no `import`, since bundlers would follow it.
 const node = globalThis.process?.getBuiltinModule?.('node:crypto');
 
-const PIECE = node ? 2 ** 20 : Infinity; // bytes that are hashed at once. WebCrypto hashes in another thread
+const PIECE = node ? 2 ** 20 : Infinity; // bytes that are hashed at once: all by WebCrypto, which has another thread
 
 /** The error for a hash function that neither the platform nor the option `functions` has. Nothing was hashed. */
 export class UnsupportedHashError extends RangeError {
