@@ -93,6 +93,10 @@ impl<W: Write + ?Sized> Write for &mut W {
     fn write(&mut self, buf: &[u8]) -> Result<usize, Error> {
         W::write(self, buf)
     }
+
+    fn write_all(&mut self, buf: &[u8]) -> Result<(), Error> {
+        W::write_all(self, buf)
+    }
 }
 
 /// Consumes the bytes from the front of the slice. A `read_exact` that fails consumes none.

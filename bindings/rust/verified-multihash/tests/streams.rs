@@ -49,6 +49,25 @@ impl Write for Slow<Vec<u8>> {
     }
 }
 
+/// Appends by `write_all` alone.
+struct Whole(Vec<u8>);
+
+impl Write for Whole {
+    fn write(&mut self, _: &[u8]) -> Result<usize, io::Error> {
+        unreachable!("`write_all` does not call it")
+    }
+
+    fn write_all(&mut self, bytes: &[u8]) -> Result<(), io::Error> {
+        self.0.extend_from_slice(bytes);
+        Ok(())
+    }
+
+    #[cfg(feature = "std")]
+    fn flush(&mut self) -> Result<(), io::Error> {
+        unreachable!("nothing flushes")
+    }
+}
+
 /// Returns a value whose encoding has two numbers of two bytes.
 fn value() -> Value {
     Value::wrap(0x100, &[7; 150]).expect("it fits")
@@ -126,6 +145,14 @@ fn ends() {
     });
     assert_eq!(Value::read_next(&b""[..]).expect("the end"), None);
     assert_eq!(varint::read_next(&mut &b""[..]).expect("the end"), None);
+}
+
+/// The `write_all` of a borrowed writer is the writer's own.
+#[test]
+fn borrowed() {
+    let mut writer = Whole(Vec::new());
+    value().write(&mut writer).expect("memory");
+    assert_eq!(Value::read(&writer.0[..]).expect("it is whole"), value());
 }
 
 /// A slice of `no_std_io` keeps a truncated digest.
