@@ -67,7 +67,8 @@ def message_texts() -> Iterator[tuple[str, ...]]:
 
 
 def all_names(row: str, indent: str) -> str:
-    """Returns a row for each code with its name, also those of each family, several in a line. ~ is a blank in a row."""
+    """Returns a row for each code with its name, sorted by code, also those of each family, several in a line. ~ is a blank
+    in a row."""
     table = OTHERS + [(code + i, f"{name}-{8 * i + 8}") for code, name, count in FAMILIES for i in range(count)]
     text = " ".join(row.format(code, name) for code, name in sorted(table))
     return textwrap.indent(textwrap.fill(text, 110, break_on_hyphens=False).replace("~", " "), indent)
@@ -175,7 +176,7 @@ CODES = {{
 
 /// Returns the name of a code, or `None` if no hash function has the code.
 pub fn name(code: u64) -> Option<&'static str> {{
-    NAMES.iter().find(|row| row.0 == code).map(|row| row.1)
+    NAMES.binary_search_by_key(&code, |row| row.0).ok().map(|at| NAMES[at].1)
 }}
 
 /// Returns the code of a name, or `None` if no hash function has the name.
@@ -185,6 +186,7 @@ pub fn code(name: &str) -> Option<u64> {{
 
 {rows("/// The code of `{1}`.", "pub const {2}: u64 = {0:#x};", of=CONSTANTS)}
 
+// Sorted by code.
 const NAMES: &[(u64, &str)] = &[
 {all_names('({0:#x},~"{1}"),', " " * 4)}
 ];

@@ -13,7 +13,7 @@
 
 /// Returns the name of a code, or `None` if no hash function has the code.
 pub fn name(code: u64) -> Option<&'static str> {
-    NAMES.iter().find(|row| row.0 == code).map(|row| row.1)
+    NAMES.binary_search_by_key(&code, |row| row.0).ok().map(|at| NAMES[at].1)
 }
 
 /// Returns the code of a name, or `None` if no hash function has the name.
@@ -134,6 +134,7 @@ pub const SSZ_SHA2_256_BMT: u64 = 0xb502;
 /// The code of `sha2-256-chunked`.
 pub const SHA2_256_CHUNKED: u64 = 0xb510;
 
+// Sorted by code.
 const NAMES: &[(u64, &str)] = &[
     (0x0, "identity"), (0x11, "sha1"), (0x12, "sha2-256"), (0x13, "sha2-512"), (0x14, "sha3-512"),
     (0x15, "sha3-384"), (0x16, "sha3-256"), (0x17, "sha3-224"), (0x18, "shake-128"), (0x19, "shake-256"),
