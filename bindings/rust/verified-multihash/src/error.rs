@@ -37,9 +37,9 @@ enum Kind {
 #[derive(Clone, Copy, Debug)]
 struct Place {
     part: Part,
-    /// How many bytes of the part are there, and belong to it, which is 0 for a varint. Of a digest that is too long the
-    /// second is the limit.
+    /// How many bytes of the part are there.
     there: u8,
+    /// How many bytes a digest should have, or the limit that it exceeds; else 0.
     whole: u8,
     /// How many bytes were consumed.
     consumed: Option<u16>,

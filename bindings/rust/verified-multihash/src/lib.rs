@@ -5,7 +5,7 @@
 
 #[cfg(feature = "alloc")]
 extern crate alloc;
-// Not by its own name, which is Rattle's `std` in `rattle`: to Rust below 1.72 a path could be either.
+// Not as `std`: Rust below 1.72 reports a path as ambiguous if it could begin with that or with the module `rattle::std`.
 #[cfg(feature = "std")]
 extern crate std as host;
 

@@ -68,14 +68,14 @@ impl<const S: usize> Multihash<S> {
     ///
     /// The bytes that were read before an error are consumed.
     ///
-    /// - The reader's error, if it fails. Of one that is interrupted too, if that is before the digest.
+    /// - The reader's error, if it fails. `Interrupted` is returned too, except inside the digest.
     /// - An error if the next bytes are not a multihash with a digest of at most `S` bytes. No byte of a digest
     ///   that is too long is read.
     pub fn read<R: Read>(mut r: R) -> Result<Self, Error> {
         Self::read_from(&mut r)
     }
 
-    /// Reads by a reader of the proved source: all others are some.
+    /// As [`Multihash::read`], by the trait of the proved source, which every reader implements.
     // The proved `read` does not say whether the input is empty.
     #[inline(always)]
     pub(crate) fn read_from<R: proved::no_std_io::Read>(r: &mut R) -> Result<Self, Error> {
@@ -155,7 +155,8 @@ impl<const S: usize> Multihash<S> {
     /// # Errors
     ///
     /// For a digest of more than `R` bytes.
-    // By hand: the proved one takes Rust's compiler twice the instructions.
+    // By hand, and filled in place: with an early return the value is copied once more, and the proved function takes even
+    // more instructions.
     pub fn resize<const R: usize>(&self) -> Result<Multihash<R>, Error> {
         let mut result = Ok(Multihash::default());
         match &mut result {
