@@ -1,6 +1,6 @@
 #!/usr/bin/env bash
 # The packages for Rust: their tests over the test vectors, with and without std, by other versions and
-# on other targets, beside other crates; the packages as packed, and in place of upstream's; serde; lints.
+# on other targets, beside other crates; the packages as packed, and in place of upstream's; serde; lints; the format.
 # shellcheck source=checks/lib/tap.sh
 . "$(dirname "$0")/lib/tap.sh"
 registry=/usr/share/cargo/registry
@@ -71,6 +71,15 @@ rust_lints() {
   done
 }
 
+# What is by hand has the format of rustfmt.toml. `cargo fmt` skips two such files with the generated modules below them.
+rust_format() {
+  local package file
+  for package in verified-multihash multihash tests/neighbours; do in_crate $package cargo fmt --check; done
+  for file in bindings/rust/verified-multihash/src/{proved,form/values}.rs; do
+    diff "$file" <(in_crate verified-multihash rustfmt < "$file")
+  done
+}
+
 # without what Cargo made, which names other versions
 tar -c --exclude=target --exclude=Cargo.lock LICENSE bindings/rust crates/vectors/data | tar -x -C "$work"
 install -D bindings/rust/offline.toml "$work/cargo/config.toml"
@@ -84,6 +93,7 @@ needs="$cargo $registry/cid-0.5* $registry/multihash-0.11*" try "beside other cr
 needs=$cargo try "the packed packages" rust_packed
 needs=$bare try "the switch from upstream's package" rust_switch
 needs="$bare cargo-clippy" try "lints" rust_lints
+needs="$cargo cargo-fmt rustfmt" try "the format" rust_format
 # with another byte order or word, by a linker and an emulator
 for target in armv7-unknown-linux-gnueabihf s390x-unknown-linux-gnu; do
   system=${target/v7-unknown/} system=${system/-unknown/} variable=CARGO_TARGET_${target^^} variable=${variable//-/_}

@@ -7,6 +7,7 @@ use crate::rattle::AllocError;
 use core::fmt;
 use io::ErrorKind;
 
+#[rustfmt::skip] // made by tools/generate
 mod texts;
 
 /// Why a multihash or a varint was not read, written or made.

@@ -9,14 +9,17 @@ extern crate alloc;
 #[cfg(feature = "std")]
 extern crate std as host;
 
+#[rustfmt::skip] // made by tools/generate, as other modules that are skipped
 pub mod codes;
 mod error;
 #[cfg(feature = "alloc")]
+#[rustfmt::skip]
 pub mod form;
 pub mod list;
 mod multihash;
 #[cfg(not(feature = "std"))]
 pub mod no_std_io;
+#[rustfmt::skip]
 mod proved;
 mod rattle;
 #[cfg(any(feature = "serde", feature = "serde-codec"))]

@@ -3,9 +3,9 @@
 use crate::no_std_io::{Error, ErrorKind};
 
 pub mod std {
-    pub use core::*;
     #[cfg(feature = "std")] // `core` has it from Rust 1.81 on
     pub use ::host::error;
+    pub use core::*;
     #[cfg(feature = "alloc")]
     pub mod alloc {
         pub use crate::rattle::{AllocError, AllocFailed};

@@ -24,7 +24,8 @@ impl<const S: usize> Serialize for Multihash<S> {
 impl<'de, const S: usize> Deserialize<'de> for Multihash<S> {
     fn deserialize<D: Deserializer<'de>>(deserializer: D) -> Result<Self, D::Error> {
         if HAS_BYTES {
-            deserializer.deserialize_bytes(Encoding("a valid Multihash in bytes")) // as upstream
+            // as upstream
+            deserializer.deserialize_bytes(Encoding("a valid Multihash in bytes"))
         } else if deserializer.is_human_readable() {
             deserializer.deserialize_str(Encoding("a multihash in hexadecimal"))
         } else {

@@ -119,8 +119,7 @@ type Node = Both<LittleEndian<8>, Both<Counted<Block<1000>, 1000>, Block<1_000_0
 
 /// The same struct and enum by the proved parts alone.
 type Cid = Both<Tag<1>, Both<Number, Multihash<64>>>;
-type Protocols =
-    Case<Bytes<4>, 4, Case<BigEndian<2>, 6, Case<Block<253>, 53, Case<Cid, 421, Tagged<Number, FAR>>>>>;
+type Protocols = Case<Bytes<4>, 4, Case<BigEndian<2>, 6, Case<Block<253>, 53, Case<Cid, 421, Tagged<Number, FAR>>>>>;
 const FAR: u64 = 0x7fff_ffff_ffff_ffff;
 
 fn text<T>(result: &Result<T, FormError>) -> String {

@@ -24,11 +24,17 @@ fn take(length: usize) -> bool {
 // SAFETY: each call is one of the system's allocator, or fails.
 unsafe impl GlobalAlloc for Limited {
     unsafe fn alloc(&self, layout: Layout) -> *mut u8 {
-        if take(layout.size()) { System.alloc(layout) } else { std::ptr::null_mut() }
+        if !take(layout.size()) {
+            return std::ptr::null_mut();
+        }
+        System.alloc(layout)
     }
 
     unsafe fn realloc(&self, bytes: *mut u8, layout: Layout, length: usize) -> *mut u8 {
-        if take(length) { System.realloc(bytes, layout, length) } else { std::ptr::null_mut() }
+        if !take(length) {
+            return std::ptr::null_mut();
+        }
+        System.realloc(bytes, layout, length)
     }
 
     unsafe fn dealloc(&self, bytes: *mut u8, layout: Layout) {
@@ -99,11 +105,8 @@ fn claimed_lengths() {
 /// A format of which each allocation fails.
 #[test]
 fn formats() {
-    let links = vec![value(); 100];
-    let node: Node = Both {
-        first: Counted::new(links).expect("they fit"),
-        second: Block::new(vec![5; 100_000]).expect("it fits"),
-    };
+    let links = Counted::new(vec![value(); 100]).expect("they fit");
+    let node: Node = Both { first: links, second: Block::new(vec![5; 100_000]).expect("it fits") };
     let bytes = form::to_bytes(&node).expect("memory");
     let mut failed = [0; 2];
     for allocations in 0..100 {

@@ -138,7 +138,8 @@ fn failing() {
 /// At the end of the input, and if a writer is full.
 #[test]
 fn ends() {
-    each_byte(|| Ok(0), |error, is_reader| {
+    let end: Event = || Ok(0);
+    each_byte(end, |error, is_reader| {
         assert_eq!(error.is_incomplete(), is_reader);
         let kind = if is_reader { "UnexpectedEof" } else { "WriteZero" };
         assert!(format!("{:?}", source(&error)).contains(kind));

@@ -2,8 +2,8 @@
 //! own types formats.
 use crate::form::{encoded_len, BigEndian, Block, Both, Bytes, Case, Cases, Choice, Counted, Form, FormError};
 use crate::form::{LittleEndian, Number, Others, Tag, Tagged};
-pub use crate::proved::no_std_io::{Read, Write};
 use crate::no_std_io as io;
+pub use crate::proved::no_std_io::{Read, Write};
 use crate::rattle::AllocError;
 use crate::{varint, Multihash};
 use alloc::vec::Vec;
