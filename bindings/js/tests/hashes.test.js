@@ -82,10 +82,10 @@ test('identity has at most 255 bytes of content', async () => {
   assert.equal(`${await identity.digest(chunks(ABC))}`, '0003616263');
   assert.equal(`${await new Hasher('identity').update(ABC).update(ABC).multihash()}`, '0006616263616263');
   assert.equal((await identity.digest(new Uint8Array(255).fill(1))).digestHex, '01'.repeat(255));
-  const parts = new Hasher('identity').update(new Uint8Array(200)).update(new Uint8Array(56));
-  for (const promise of [identity.digest(new Uint8Array(256)), parts.multihash()]) {
-    const { status, size } = await rejects(MultihashError, promise, 'identity 255 256');
-    assert.deepEqual([status, size], ['invalid_size', 256]);
+  const parts = new Hasher('identity').update(new Uint8Array(200)).update(new Uint8Array(100));
+  for (const [promise, length] of [[identity.digest(new Uint8Array(256)), 256], [parts.multihash(), 300]]) {
+    const { status, size } = await rejects(MultihashError, promise, `identity 255 ${length}`);
+    assert.deepEqual([status, size], ['invalid_size', length]);
   }
   assert.equal(await verify(Multihash.of(0, new Uint8Array(255)), new Uint8Array(300)), false);
 });
