@@ -29,6 +29,7 @@ check({4, 3, 0, 0, 0, 2}, C.multihash_ffi_read_limit(BINARY, 5, 2, result))
 check({0, 0, 18, 9, 3, 12}, C.multihash_ffi_scale_decode(SCALE, 12, result))
 local items = ffi.new('struct { uint64_t code; size_t digest_offset, digest_length; }[2]')
 check({3, 0, 1, 5}, C.multihash_ffi_read_many(BINARY .. PADDED, 7, items, 2, result))
+check({4, 383, 1, 5}, C.multihash_ffi_read_many(BINARY .. '\18\255\2', 8, items, 2, result))
 same(tonumber(items[0].code + items[0].digest_offset + items[0].digest_length), 18 + 2 + 3)
 check({0, 18, 3, 2}, C.multihash_ffi_head(BINARY, 2, result))
 check({0, 300, 2}, C.multihash_ffi_read_varint('\172\2', 2, result))
@@ -40,6 +41,7 @@ check({0, 0, 5}, C.multihash_ffi_encode(18, 'abc', 3, out, 300, result))
 same(ffi.string(out, 5), BINARY)
 check({0, 0, 12}, C.multihash_ffi_scale_encode(18, 'abc', 3, out, 300, result))
 same(ffi.string(out, 12), SCALE)
+check({7, 0, 12}, C.multihash_ffi_scale_encode(18, 'abc', 3, out, 11, result))
 
 for status = 0, 8 do same(C.multihash_ffi_is_incomplete(status), (status == 1 or status == 6) and 1 or 0) end
 same(ffi.string(C.multihash_ffi_status_text(4)), 'the digest or the input is too long')
@@ -60,7 +62,7 @@ same(C.multihash_ffi_code('none'), -1ULL)
 local function unhex(digits)
   return (digits:gsub('^-$', ''):gsub('%x%x', function(pair) return string.char(tonumber(pair, 16)) end))
 end
-local bytes, found = ffi.new('uint8_t[276]'), 0
+local bytes, made, found = ffi.new('uint8_t[276]'), ffi.new('uint64_t[2]'), 0
 for line in io.lines(cids) do
   local of_cid, fields, digest, encoding = line:match('^(%w+)\tcid (%d+ %d+ %d+) (%S+)\t(%x+)$')
   if of_cid then
@@ -70,6 +72,8 @@ for line in io.lines(cids) do
       local version, codec, code = tostring(result[0]), tostring(result[1]), tostring(result[2])
       same((version .. ' ' .. codec .. ' ' .. code):gsub('ULL', ''), fields)
       same(encoding:sub(tonumber(result[4]) + 1, tonumber(result[4] + result[5])), digest)
+      C.multihash_ffi_encoded_len(result[2], #digest, made)
+      same(tonumber(result[3] + made[1]), #encoding)
       same(tonumber(result[6]), #encoding)
     end
     same_cid(C.multihash_ffi_cid_parse(of_cid, #of_cid, bytes, 276, result))
@@ -82,6 +86,9 @@ for line in io.lines(cids) do
     local base = version == 0 and 'z' or of_cid:sub(1, 1)
     check({0, 0, #of_cid}, C.multihash_ffi_cid_text(encoding, #encoding, base:byte(), text, 554, result))
     same(ffi.string(text), of_cid)
+    same(C.multihash_ffi_cid_parse(of_cid, #of_cid, bytes, 1, result), 7) -- and too little room
+    check({7, 0, #encoding}, C.multihash_ffi_cid_encode(version, codec, code, digest, #digest, bytes, 1, result))
+    check({7, 0, #of_cid + 1}, C.multihash_ffi_cid_text(encoding, #encoding, base:byte(), text, 1, result))
   end
 end
 same(found > 0, true)
