@@ -76,6 +76,9 @@ class Cids(unittest.TestCase):
             self.assertEqual((eval(repr(cid)), f"{cid:>60}", f"{cid}"), (cid, str(cid).rjust(60), str(cid)))
             for other in (pickle.loads(pickle.dumps(cid)), copy.copy(cid), CID(cid.version, cid.codec, cid.multihash)):
                 self.assertEqual((other, hash(other)), (cid, hash(cid)))
+        own = type("Own", (CID,), {})
+        for made in (own.parse(str(RAW)), own.decode(bytes(RAW)), own.read(bytes(RAW))[0]):
+            self.assertIs(type(made), own)
         self.assertNotEqual(CID(1, 0x70, HELLO), OLD)
         self.assertRaises(AttributeError, setattr, RAW, "codec", 0)
         self.assertEqual(vars(RAW), {"version": 1, "codec": 0x55, "multihash": HELLO})  # pydantic 1 reads them there
