@@ -42,6 +42,7 @@ STATED = (
     (C, "multihash-{}.tar.gz", HEADER, r'MULTIHASH_VERSION "(.*)"'),
     (C, "libmultihash_c.so.{}`", HEADER, r'MULTIHASH_VERSION "(\d+)'),
     ("CHANGES", "{}", HEADER, r'MULTIHASH_VERSION "(.*)"'),
+    (README, "Version {} ", HEADER, r'MULTIHASH_VERSION "(.*)"'),
     (FORMAT, "0 to `min(S {})`", HEADER, r"MULTIHASH_DIGEST_MAX (\d+)"),
     (FORMAT, "an encoding | 2 to {} bytes", HEADER, r"MULTIHASH_LENGTH_MAX (\d+)"),
     (FORMAT, "both varints together | 2 to {} bytes", HEADER, r"MULTIHASH_HEAD_MAX (\d+)"),
