@@ -131,6 +131,7 @@ static void check_cid(const row &columns)
     CHECK(cid::read(rest) == found && rest == "d" && found.bytes() == bytes);
     CHECK(cid(found.version(), found.codec(), found.multihash()) == found && cid::parse(found.text()) == found);
     CHECK(found.text(found.version() == 0 ? 'z' : text[0]) == text);
+    CHECK(found.text() == found.text(found.version() == 0 ? 'z' : 'b'));
     sorted.insert(found);
     hashed.insert(found);
     encodings.insert(bytes);
@@ -154,6 +155,7 @@ static void check_texts()
     check_message([] { value::from_hex("1g"); }, "the text has a character that is no digit");
     check_message([] { value::from_hex("1203aabb"); }, "the input ends inside the digest (2 of 3 bytes)");
     check_message([] { value::from_hex(""); }, "the input is empty");
+    check_message([] { value(1ull << 63, ""); }, "the code 9223372036854775808 is 2^63 or more");
     check_message([] { cid(2, MULTIHASH_CID_RAW, value()); }, "the version is unknown");
     check_message([] { cid(1, MULTIHASH_CID_RAW, value()).text('Q'); }, "the text must start with b, f, z or Qm");
     std::string_view future = "\2\x55"; // unchanged by an error
@@ -161,6 +163,7 @@ static void check_texts()
     CHECK(future.size() == 2);
     CHECK(value::from_hex("1202aAfF") == value(0x12, "\xaa\xff") && value() == value(0, ""));
     CHECK(value(0x12, "").name() == "sha2-256" && value(1, "").name().empty());
+    CHECK(value(0xb220, "").name() == "blake2b-256");
     value from(0x12, "abc"), to = std::move(from);
     from = to;
     CHECK(from == to && to.digest() == "abc");
