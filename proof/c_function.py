@@ -92,7 +92,7 @@ class Function:
         if self.is_reader:
             number, count = (x.variable.value for x in path.arguments.values() if isinstance(x, Place))
             is_ok = wanted.members["status"] == OK
-            found = {"status": result, "taken": count, "value": number if is_ok else z3.BitVecVal(0, 64)}
+            found = {"status": result, "consumed": count, "value": number if is_ok else z3.BitVecVal(0, 64)}
         wrong = different(found, wanted.members)
         if "out" in path.arguments:
             out = path.arguments["out"].region

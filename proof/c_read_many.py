@@ -1,6 +1,6 @@
 """Shows multihash_read_many for any number of items, by induction over its loop.
 
-The invariant says what the variables are before a turn, after `count` items were written and `taken` bytes consumed, without
+The invariant says what the variables are before a turn, after `count` items were written and `consumed` bytes consumed, without
 an error. It is shown for the first turn. Then one turn from any such state ends the function with the result of the
 definition, or writes the next item and keeps the invariant with more bytes consumed."""
 from typing import Any
@@ -15,15 +15,15 @@ from path import Rejected, Wrong
 from c_tree import Node, Unit
 
 
-def invariant(count: Any, taken: Any) -> dict[str, Any]:
+def invariant(count: Any, consumed: Any) -> dict[str, Any]:
     """Variables of the function, and members of them. Its arguments do not change. Other variables have no value."""
     status, size = z3.BitVecVal(OK, 32), z3.BitVecVal(0, 64)
-    return {"count": count, "consumed": taken, "result.status": status, "result.size": size}
+    return {"count": count, "consumed": consumed, "result.status": status, "result.size": size}
 
 
-def violated(state: dict[str, Value], arguments: dict[str, Value], count: Any, taken: Any) -> dict[str, Any]:
+def violated(state: dict[str, Value], arguments: dict[str, Value], count: Any, consumed: Any) -> dict[str, Any]:
     """What of the invariant a state does not meet, and when."""
-    wrong = {name: differs(state[name], x) for name, x in invariant(count, taken).items()}
+    wrong = {name: differs(state[name], x) for name, x in invariant(count, consumed).items()}
     return wrong | {name: z3.BoolVal(state[name] is not x) for name, x in arguments.items()}
 
 
@@ -35,7 +35,7 @@ class Turn(Run):
     """A path from the start to the loop, and from any state there through one turn of it."""
 
     count: Any = None
-    taken: Any = None
+    consumed: Any = None
     is_in_turn = False
 
     def place_of(self, name: str) -> Place:
@@ -59,7 +59,7 @@ class Turn(Run):
         for variable in self.scope.values():
             if variable.name not in self.arguments:
                 variable.value = dict.fromkeys(variable.value) if isinstance(variable.value, dict) else None
-        for name, x in invariant(self.count, self.taken).items():
+        for name, x in invariant(self.count, self.consumed).items():
             self.store(self.place_of(name), x)
         if (not test or self.truth(test)) and self.turn(body):
             if step:
@@ -68,17 +68,17 @@ class Turn(Run):
 
     def byte(self, region: Region, offset: Any) -> Any:
         """A byte of what is left has the name that it has in `read`."""
-        return super().byte(region, z3.simplify(offset - self.taken))
+        return super().byte(region, z3.simplify(offset - self.consumed))
 
 
 class ReadMany(Function):
-    """`count` and `taken` are those before a turn; `room` and `rest` are what is left."""
+    """`count` and `consumed` are those before a turn; `room` and `rest` are what is left."""
 
     what = "not shown: read_many"
 
     def __init__(self, unit: Unit):
         super().__init__(unit, "read_many")
-        names = ("rest", "room", "count", "taken")
+        names = ("rest", "room", "count", "consumed")
         self.rest, self.room, self.count, self.start = (z3.BitVec(x, unit.word) for x in names)
         self.given |= {"bytes_length": self.start + self.rest, "out_length": self.count + self.room}
         self.solver.add(z3.ULE(self.start, self.given["bytes_length"]), z3.ULE(self.count, self.given["out_length"]))
@@ -91,7 +91,7 @@ class ReadMany(Function):
 
     def new_path(self, prefix: list[bool], model: Any) -> Turn:
         path = Turn(self.unit, self.solver, prefix, model)
-        path.count, path.taken = self.count, self.start
+        path.count, path.consumed = self.count, self.start
         return path
 
     def end(self, path: Any, definition: Any) -> Wrong:
@@ -105,7 +105,7 @@ class ReadMany(Function):
         """What may be wrong where the function ends: in its result, or in an item of the last turn."""
         if not path.is_in_turn or "code" in wanted.members:
             return {"an item that is left out, or an end before the loop": True}
-        return super().wrong(path, result, Result({**wanted.members, "count": self.count, "taken": self.start}))
+        return super().wrong(path, result, Result({**wanted.members, "count": self.count, "consumed": self.start}))
 
     def went_on(self, path: Any, state: dict[str, Value], wanted: Result) -> dict[str, Any]:
         """What may be wrong where a turn ends at the loop."""
@@ -115,6 +115,6 @@ class ReadMany(Function):
         [(index, found)] = items.items()
         item = {name: read[name] for name in ("code", "digest_offset", "digest_length")}
         item["digest_offset"] = widened(self.start) + widened(read["digest_offset"])
-        taken = widened(self.start) + widened(read["taken"])
-        wrong = different(found, item) | violated(state, path.arguments, self.count + 1, taken)
-        return wrong | {"index": index != self.count, "end": z3.UGT(widened(read["taken"]), widened(self.rest))}
+        consumed = widened(self.start) + widened(read["consumed"])
+        wrong = different(found, item) | violated(state, path.arguments, self.count + 1, consumed)
+        return wrong | {"index": index != self.count, "end": z3.UGT(widened(read["consumed"]), widened(self.rest))}

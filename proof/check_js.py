@@ -69,7 +69,7 @@ def decoded(found: Value, wanted: Result, given: list[Value]) -> dict[str, Any]:
     numbers = {"code": wide(members.get("code", 0)), "size": size}
     if "value" in members:
         numbers = {"value": wide(members["value"])}
-    numbers["next"] = origin + wide(members["taken"])
+    numbers["next"] = origin + wide(members["consumed"])
     if not isinstance(found, dict) or found.keys() != {"status", *numbers}:
         return {"the fields": True}
     wrong = {name: another(found[name], x) for name, x in numbers.items()}

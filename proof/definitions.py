@@ -104,14 +104,14 @@ class TwoVarints(NamedTuple):
         return z3.And(FIRST.holds(self.name, 0, self.length), *second)
 
 
-def stopped(status: Value, taken: Value) -> Result:
-    return Result({"status": status, "taken": taken})
+def stopped(status: Value, consumed: Value) -> Result:
+    return Result({"status": status, "consumed": consumed})
 
 
 def get_varint(length: Any) -> Rows:
     """The varint at the start of an input, and how many bytes decide."""
     rows = varint("bytes", 0, length)
-    return [(when, Result({"status": status, "value": x, "taken": end})) for when, (status, x, end) in rows]
+    return [(when, Result({"status": status, "value": x, "consumed": end})) for when, (status, x, end) in rows]
 
 
 def read_varint(bytes_length: Any) -> Rows:
@@ -121,22 +121,25 @@ def read_varint(bytes_length: Any) -> Rows:
     return [(when, result(*row)) for when, row in varint("bytes", 0, bytes_length)]
 
 
-def malformed(taken: Any = None) -> Rows:
+def malformed(consumed: Any = None) -> Rows:
     """The errors of the two varints, with that many bytes consumed, or else those up to and including the one that decides."""
-    return [(each.status != OK, stopped(each.status, each.end if taken is None else taken)) for each in (FIRST, SECOND)]
+    return [
+        (each.status != OK, stopped(each.status, each.end if consumed is None else consumed))
+        for each in (FIRST, SECOND)
+    ]
 
 
 def head(bytes_length: Any) -> TwoVarints:
-    both = Result({"status": OK, "code": CODE, "digest_length": SIZE, "taken": END})
+    both = Result({"status": OK, "code": CODE, "digest_length": SIZE, "consumed": END})
     return TwoVarints([*malformed(), (True, both)], "bytes", bytes_length)
 
 
 def read_limit(bytes_length: Any, limit: Value) -> TwoVarints:
     after = widened(END)
-    pair = {"code": CODE, "digest_offset": END, "digest_length": SIZE, "taken": after + SIZE}
+    pair = {"code": CODE, "digest_offset": END, "digest_length": SIZE, "consumed": after + SIZE}
     rows = [
         *malformed(),
-        (is_too_long(SIZE, limit), Result({"status": INVALID_SIZE, "size": SIZE, "taken": END})),
+        (is_too_long(SIZE, limit), Result({"status": INVALID_SIZE, "size": SIZE, "consumed": END})),
         (z3.ULT(widened(bytes_length) - after, SIZE), stopped(UNEXPECTED_EOF, END)),
         (True, Result({"status": OK, **pair})),
     ]
@@ -153,10 +156,10 @@ def whole(name: str, length: Any, whole_length: Any) -> TwoVarints:
     pair = {"code": CODE, "digest_offset": END, "digest_length": SIZE}
     rows = [
         *malformed(whole_length),
-        (is_too_long(SIZE), Result({"status": INVALID_SIZE, "size": SIZE, "taken": whole_length})),
+        (is_too_long(SIZE), Result({"status": INVALID_SIZE, "size": SIZE, "consumed": whole_length})),
         (z3.ULT(left, SIZE), stopped(UNEXPECTED_EOF, whole_length)),
-        (z3.UGT(left, SIZE), Result({"status": INVALID_SIZE, "size": left - SIZE, "taken": whole_length})),
-        (True, Result({"status": OK, **pair, "taken": whole_length})),
+        (z3.UGT(left, SIZE), Result({"status": INVALID_SIZE, "size": left - SIZE, "consumed": whole_length})),
+        (True, Result({"status": OK, **pair, "consumed": whole_length})),
     ]
     return TwoVarints(rows, name, length)
 
@@ -215,10 +218,10 @@ def scale_decode(bytes_length: Any) -> Rows:
     code, size = z3.Concat(*reversed(source[:8])), widened(source[8])
     return [
         (z3.ULT(length, 8), stopped(UNEXPECTED_EOF, 0)),
-        (z3.Not(is_code(code)), Result({"status": INVALID_CODE, "code": code, "taken": 8})),
+        (z3.Not(is_code(code)), Result({"status": INVALID_CODE, "code": code, "consumed": 8})),
         (length == 8, stopped(UNEXPECTED_EOF, 8)),
         (z3.ULT(length - 9, size), stopped(UNEXPECTED_EOF, 9)),
-        (True, Result({"status": OK, "code": code, "digest_offset": 9, "digest_length": size, "taken": 9 + size})),
+        (True, Result({"status": OK, "code": code, "digest_offset": 9, "digest_length": size, "consumed": 9 + size})),
     ]
 
 

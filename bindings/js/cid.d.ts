@@ -60,8 +60,8 @@ export class CID {
   static of(version: 0 | 1, codec: Wide, multihash: Multihash): CID;
   /** Decodes `bytes`, which must be exactly one CID. */
   static decode(bytes: Uint8Array): CID;
-  /** Decodes the CID at the start of `bytes`. `taken` is the length of its encoding. */
-  static read(bytes: Uint8Array): { readonly cid: CID; readonly taken: number };
+  /** Decodes the CID at the start of `bytes`. `consumed` is the length of its encoding. */
+  static read(bytes: Uint8Array): { readonly cid: CID; readonly consumed: number };
   /**
    * Decodes a text: `b..` (base32), `f..` (base16), `z..` (base58btc), or `Qm..` (version 0). A CID has one text in each
    * base, and no other is accepted: no capitals, no padding.

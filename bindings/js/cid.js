@@ -49,8 +49,8 @@ function headOf(bytes, length) {
   if (isVersion0(bytes)) return { version: 0, codec: CODECS['dag-pb'], start: 0 };
   const version = ofPart('version', () => readVarint(bytes));
   if (version.value !== 1) throw new CIDError('unknown_version', `the version must be 1, not ${version.value}`);
-  const codec = ofPart('codec', () => readVarint(viewOf(bytes, version.taken, length - version.taken)));
-  return { version: 1, codec: codec.value, start: version.taken + codec.taken };
+  const codec = ofPart('codec', () => readVarint(viewOf(bytes, version.consumed, length - version.consumed)));
+  return { version: 1, codec: codec.value, start: version.consumed + codec.consumed };
 }
 
 /** The encoding of a version, a codec and a multihash. */
@@ -90,8 +90,8 @@ export class CID {
   static read(bytes) {
     const length = checkedLength(bytes, 'bytes');
     const { version, codec, start } = headOf(bytes, length);
-    const { multihash, taken } = ofPart('multihash', () => read(viewOf(bytes, start, length - start)));
-    return { cid: CID.of(version, codec, multihash), taken: start + taken };
+    const { multihash, consumed } = ofPart('multihash', () => read(viewOf(bytes, start, length - start)));
+    return { cid: CID.of(version, codec, multihash), consumed: start + consumed };
   }
 
   /** Decodes the text of a CID. */

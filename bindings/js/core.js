@@ -45,7 +45,7 @@ export function head(bytes) {
   const length = checkedLength(bytes, 'bytes');
   const found = format.readHead(bytes, 0, length);
   if (found.status !== 'ok') throw errorOf(found, bytes, 0, length, DIGEST_MAX);
-  return { code: found.code, digestLength: found.size, taken: found.next };
+  return { code: found.code, digestLength: found.size, consumed: found.next };
 }
 
 // ---- varints
@@ -82,7 +82,7 @@ export function readVarint(bytes) {
   const length = checkedLength(bytes, 'bytes');
   const { status, value, next } = format.varintAt(bytes, 0, length);
   if (status !== 'ok') throw new MultihashError(varintReasonOf(status, length), { status });
-  return { value, taken: next };
+  return { value, consumed: next };
 }
 
 // ---- many multihashes
@@ -103,13 +103,13 @@ export function readMany(bytes) {
   let { codes, offsets, lengths } = columnsOf(Math.min(Math.ceil(length / 34), 2 ** 20));
   let halves = new Uint32Array(codes.buffer);
   const low = new Uint8Array(Uint32Array.of(1).buffer)[0] === 1 ? 0 : 1; // the index of the low half of 64 bits
-  let [taken, count] = [0, 0];
+  let [consumed, count] = [0, 0];
   let error;
-  while (taken < length) {
-    const found = format.readMultihash(view, taken, length, DIGEST_MAX);
+  while (consumed < length) {
+    const found = format.readMultihash(view, consumed, length, DIGEST_MAX);
     const { status, code, size, next } = found;
     if (status !== 'ok') {
-      error = errorOf(found, view, taken, length, DIGEST_MAX);
+      error = errorOf(found, view, consumed, length, DIGEST_MAX);
       break;
     }
     if (count === lengths.length) {
@@ -120,9 +120,9 @@ export function readMany(bytes) {
     else codes[count] = BigInt(code);
     offsets[count] = next - size;
     lengths[count] = size;
-    taken = next;
+    consumed = next;
     count++;
   }
   if (count < lengths.length) ({ codes, offsets, lengths } = columnsOf(count, { codes, offsets, lengths }));
-  return { codes, offsets, lengths, taken, error };
+  return { codes, offsets, lengths, consumed, error };
 }

@@ -10,16 +10,16 @@ export const forJSON = (number) => (typeof number === 'bigint' ? `${number}` : n
 /** The error for invalid input. `cause` repeats the fields, since `structuredClone` keeps it and drops them: see `from`. */
 export class MultihashError extends Error {
   constructor(message, details) {
-    const { status, size, code, taken } = { __proto__: null, ...details };
-    const fields = { status, size, code, taken };
+    const { status, size, code, consumed } = { __proto__: null, ...details };
+    const fields = { status, size, code, consumed };
     super(message, { cause: fields });
     Object.assign(this, fields);
   }
 
   /** Returns the name, the message and the fields, for JSON.stringify. */
   toJSON() {
-    const { name, message, status, size, code, taken } = this;
-    return { name, message, status, size: forJSON(size), code: forJSON(code), taken };
+    const { name, message, status, size, code, consumed } = this;
+    return { name, message, status, size: forJSON(size), code: forJSON(code), consumed };
   }
 
   /** Restores an error from its clone. Returns a MultihashError as it is, and undefined for other values. */
@@ -56,7 +56,7 @@ function reasonOf(status, bytes, at, end, limit) {
 
 /** The error for a result of format.js about the bytes from an index on. The size in a result is 0 unless it is invalid. */
 export function errorOf({ status, size, next }, bytes, at, end, limit) {
-  const details = { status, size: size || undefined, taken: next - at };
+  const details = { status, size: size || undefined, consumed: next - at };
   return new MultihashError(reasonOf(status, bytes, at, end, limit), details);
 }
 

@@ -29,7 +29,7 @@ const highPart = (value, bits) =>
 // ---- decoding
 // A result has a status, and `next`, the index after the bytes that were consumed, for an error too. A digest that was read
 // ends at `next`. The other fields of an error are 0, except a size or a code that is invalid. The public
-// functions return the number of bytes consumed instead, as `taken`.
+// functions return the number of bytes consumed instead, as `consumed`.
 
 /** Reads the varint that starts at an index, of the bytes before `end`. */
 export function varintAt(bytes, at, end) {

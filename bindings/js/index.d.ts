@@ -33,7 +33,7 @@ export interface Details {
   /** The invalid code. */
   readonly code?: Wide;
   /** The number of bytes that a decoding consumed. */
-  readonly taken?: number;
+  readonly consumed?: number;
 }
 
 /** The error of invalid input. Arguments of a wrong type or range throw a `TypeError` or a `RangeError` instead. */
@@ -58,7 +58,7 @@ export class MultihashError extends Error {
     status: Status;
     size?: number | string;
     code?: number | string;
-    taken?: number;
+    consumed?: number;
   };
 }
 export interface MultihashError extends Details {}
@@ -107,7 +107,7 @@ export class Multihash<Code extends Wide = Wide> implements MultihashDigest {
 /** A multihash, and the number of bytes that were decoded. */
 export interface Read {
   readonly multihash: Multihash;
-  readonly taken: number;
+  readonly consumed: number;
 }
 
 /** Concatenated multihashes as columns: element `i` of each column belongs to multihash `i`, counted from 0. */
@@ -118,8 +118,8 @@ export interface Columns {
   /** The digests' lengths in bytes. */
   readonly lengths: Uint8Array;
   /** The number of bytes that were decoded: those of all multihashes in the columns. */
-  readonly taken: number;
-  /** The error for the bytes from `taken` on; its own `taken` counts from there. Undefined if no bytes follow. */
+  readonly consumed: number;
+  /** The error for the bytes from `consumed` on; its own `consumed` counts from there. Undefined if no bytes follow. */
   readonly error: MultihashError | undefined;
 }
 
@@ -129,7 +129,7 @@ export interface Head {
   /** Below 2^63. It may exceed 255, the maximum of a multihash. */
   readonly digestLength: Wide;
   /** The length of both varints. */
-  readonly taken: number;
+  readonly consumed: number;
 }
 
 /** Decodes `bytes`, which must be exactly one multihash. */
@@ -144,9 +144,9 @@ export function readMany(bytes: Uint8Array): Columns;
 /** Decodes the two varints before a digest. */
 export function head(bytes: Uint8Array): Head;
 /**
- * Decodes the varint at the start of `bytes`, such as a CID's version or a block's length. `taken` is the varint's length.
+ * Decodes the varint at the start of `bytes`, such as a CID's version or a block's length. `consumed` is the varint's length.
  */
-export function readVarint(bytes: Uint8Array): { readonly value: Wide; readonly taken: number };
+export function readVarint(bytes: Uint8Array): { readonly value: Wide; readonly consumed: number };
 /** Returns the varint of a number. Throws a `MultihashError` with the status `overflow` if that is 2^63 or more. */
 export function encodeVarint(value: Wide): Uint8Array;
 /**
@@ -184,7 +184,7 @@ export interface ItemReader<Item> extends AsyncIterable<Item> {
    * The number of bytes of the items returned so far, including bytes of the option `rest`: the position at which the
    * next item starts, or after a `MultihashError` the invalid one.
    */
-  readonly taken: number;
+  readonly consumed: number;
   /**
    * Returns the next item, or null if the source has ended after the last one. After an error every call rejects with
    * that error. After an error or null the source is released. An error of a Node.js `Readable` before the first call

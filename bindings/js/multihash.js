@@ -113,7 +113,7 @@ export function read(bytes, limit) {
   const length = checkedLength(bytes, 'bytes');
   const found = readMultihash(bytes, 0, length, most);
   if (found.status !== 'ok') throw errorOf(found, bytes, 0, length, most);
-  return { multihash: multihashOf(bytes, found), taken: found.next };
+  return { multihash: multihashOf(bytes, found), consumed: found.next };
 }
 
 /** Decodes the multihash whose SCALE encoding is a prefix of the bytes. */
@@ -121,8 +121,8 @@ export function scaleDecode(bytes) {
   const length = checkedLength(bytes, 'bytes');
   const found = readScale(bytes, length);
   const { status, code, next } = found;
-  if (status === 'ok') return { multihash: multihashOf(bytes, found), taken: next };
-  throw new MultihashError(scaleReasonOf(found, bytes, length), { status, code: code || undefined, taken: next });
+  if (status === 'ok') return { multihash: multihashOf(bytes, found), consumed: next };
+  throw new MultihashError(scaleReasonOf(found, bytes, length), { status, code: code || undefined, consumed: next });
 }
 
 /** Returns the digest of a Multihash. Throws a TypeError if its length has changed. */

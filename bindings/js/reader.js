@@ -15,7 +15,7 @@ class ItemReader {
   #bytes = new Uint8Array(); // the bytes received, and room for more
   #at = 0; // the index in #bytes after the last item that was returned
   #end = 0; // the index in #bytes after the bytes received
-  #taken = 0; // the number of bytes of the items returned so far
+  #consumed = 0; // the number of bytes of the items returned so far
   #calls = 0; // the number of pending calls
   #last = Promise.resolve(); // settles with the last of them
   #isReleased = false; // whether `release` was called
@@ -39,8 +39,8 @@ class ItemReader {
   }
 
   /** The number of bytes of the items returned so far. */
-  get taken() {
-    return this.#taken;
+  get consumed() {
+    return this.#consumed;
   }
 
   /** Returns the next item, or null after the last one. Calls that overlap run one after the other. */
@@ -78,7 +78,7 @@ class ItemReader {
     const found = this.#find(this.#bytes, this.#at, this.#end);
     if (!isLast && INCOMPLETE.includes(found.status)) return undefined;
     const item = this.#make(found, this.#bytes, this.#at, this.#end);
-    this.#taken += found.next - this.#at;
+    this.#consumed += found.next - this.#at;
     this.#at = found.next;
     return item;
   }
@@ -214,8 +214,8 @@ export class FrameReader extends ItemReader {
         this.#count++;
         return copyOf(bytes, next - size, next);
       }
-      const reason = `frame ${this.#count} at offset ${this.taken}: ${frameReasonOf(found, end, most)}`;
-      throw new MultihashError(reason, { status, size: status === 'invalid_size' ? size : undefined, taken: next - at });
+      const reason = `frame ${this.#count} at offset ${this.consumed}: ${frameReasonOf(found, end, most)}`;
+      throw new MultihashError(reason, { status, size: status === 'invalid_size' ? size : undefined, consumed: next - at });
     });
   }
 

@@ -57,12 +57,12 @@ function read(bytes) {
   const [code, at] = varint(bytes, 0);
   const [size, start] = varint(bytes, at);
   if (size > 255 || size > bytes.length - start) throw new RangeError('a digest');
-  return { multihash: new Multihash(code, bytes.slice(start, start + size)), taken: start + size };
+  return { multihash: new Multihash(code, bytes.slice(start, start + size)), consumed: start + size };
 }
 
 function decode(bytes) {
-  const { multihash, taken } = read(bytes);
-  if (taken !== bytes.length) throw new RangeError('trailing bytes');
+  const { multihash, consumed } = read(bytes);
+  if (consumed !== bytes.length) throw new RangeError('trailing bytes');
   return multihash;
 }
 
@@ -91,8 +91,8 @@ async function* readStream(source) {
     bytes.set(chunk, rest.length);
     let at = 0;
     while (bytes.length - at >= 2 && bytes.length - at >= 2 + bytes[at + 1]) { // codes and lengths below 128
-      const { multihash, taken } = read(bytes.subarray(at));
-      at += taken;
+      const { multihash, consumed } = read(bytes.subarray(at));
+      at += consumed;
       yield multihash;
     }
     rest = bytes.subarray(at);

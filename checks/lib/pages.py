@@ -125,10 +125,10 @@ def byte_errors() -> Iterator[str]:
         for row in table.splitlines():
             _, _, result, *_, inputs, consumed, _ = (cell.strip() for cell in row.split("|"))
             for data in re.findall(r"`([^`]*)`", inputs):
-                found, taken = verdicts.result(call, size, bytes.fromhex(data))
+                found, length = verdicts.result(call, size, bytes.fromhex(data))
                 name = found.split()[0].replace("unexpected_eof", "truncated").replace("_", " ")
-                if name not in result or consumed != str(taken or ""):
-                    yield f"{placed(FORMAT, row)}: {data} is {found}, and {taken} bytes are consumed"
+                if name not in result or consumed != str(length or ""):
+                    yield f"{placed(FORMAT, row)}: {data} is {found}, and {length} bytes are consumed"
 
 
 if __name__ == "__main__":

@@ -24,7 +24,7 @@ from pathlib import Path
 TOP = Path(__file__).resolve().parents[2]
 DEFINITIONS = (TOP / "crates/multihash/specs/Varint.antt").read_text("utf-8")
 STORED = TOP / "crates/vectors/data/verdicts.tsv"
-COLUMNS = ("S", "input", "read", "read_taken", "from_bytes", "scale_decode", "scale_taken")
+COLUMNS = ("S", "input", "read", "read_consumed", "from_bytes", "scale_decode", "scale_consumed")
 VALUE_COLUMNS = ("kind", "limit", "code", "digest", "encoding", "scale")
 VALUES, PAGE = STORED.with_name("values.tsv"), STORED.with_name("README.md")
 
@@ -73,10 +73,14 @@ class Rules:
         return code, *digest(size, data, SCALE_HEAD, data[SCALE_CODE])
 
     def line(self, size: int, data: bytes) -> str:
-        (read, taken), (scale, scale_taken) = (result(call, size, data) for call in (self.read, self.scale_decode))
-        is_longer = read.startswith("pair") and len(data) > taken
-        whole = f"invalid_size {len(data) - taken}" if is_longer else read
-        return "\t".join(map(str, (size, data.hex() or "-", read, taken or "-", whole, scale, scale_taken or "-")))
+        (read, consumed), (scale, scale_consumed) = (
+            result(call, size, data) for call in (self.read, self.scale_decode)
+        )
+        is_longer = read.startswith("pair") and len(data) > consumed
+        whole = f"invalid_size {len(data) - consumed}" if is_longer else read
+        return "\t".join(
+            map(str, (size, data.hex() or "-", read, consumed or "-", whole, scale, scale_consumed or "-"))
+        )
 
 
 def digest(size: int, data: bytes, start: int, length: int) -> tuple[bytes, int]:

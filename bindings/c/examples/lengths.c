@@ -23,7 +23,7 @@ int main(void)
                 const char *name = multihash_name(items[i].code);
                 printf("%s %zu\n", name != NULL ? name : "unknown", items[i].digest_length);
             }
-            at += batch.taken;
+            at += batch.consumed;
         } while (batch.count == 256);
         if (batch.status != MULTIHASH_OK && !(multihash_is_incomplete(batch.status) && more > 0)) {
             multihash_print_message(stderr, bytes + at, length - at, MULTIHASH_DIGEST_MAX);

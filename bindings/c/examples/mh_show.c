@@ -35,9 +35,9 @@ static int decode_hexadecimal(uint8_t *line, size_t length)
 static multihash_decoded decode_multihash(const uint8_t *bytes, size_t length)
 {
     multihash_decoded found = multihash_read_limit(bytes, length, DIGEST_LIMIT);
-    if (found.status == MULTIHASH_OK && found.taken < length) {
+    if (found.status == MULTIHASH_OK && found.consumed < length) {
         found.status = MULTIHASH_INVALID_SIZE;
-        found.size = length - found.taken;
+        found.size = length - found.consumed;
     }
     return found;
 }

@@ -28,7 +28,7 @@ typedef enum stream_result {
  * are complete one more is all that is known. */
 static size_t missing(const stream *from, multihash_head_result head)
 {
-    if (head.status == MULTIHASH_OK) return head.taken + (size_t)head.digest_length - from->have;
+    if (head.status == MULTIHASH_OK) return head.consumed + (size_t)head.digest_length - from->have;
     return from->have == 0 ? 2 : 1;
 }
 

@@ -82,7 +82,7 @@ class value : private ordered<value> {
         const multihash_decoded result = multihash_read_limit(bytes_of(bytes), bytes.size(), limit);
         if (result.status != MULTIHASH_OK) fail(result.status, bytes, limit);
         value first(result.code, bytes.substr(result.digest_offset, result.digest_length));
-        bytes.remove_prefix(result.taken);
+        bytes.remove_prefix(result.consumed);
         return first;
     }
 
@@ -212,7 +212,7 @@ class cid : private ordered<cid> {
     {
         const multihash_cid found = multihash_cid_read(value::bytes_of(bytes), bytes.size());
         cid first(found, bytes);
-        bytes.remove_prefix(found.taken);
+        bytes.remove_prefix(found.consumed);
         return first;
     }
 
@@ -221,7 +221,7 @@ class cid : private ordered<cid> {
     {
         std::uint8_t out[MULTIHASH_CID_LENGTH_MAX];
         const multihash_cid found = multihash_cid_parse(text.data(), text.size(), out, sizeof out);
-        return cid(found, value::chars_of(out, found.taken));
+        return cid(found, value::chars_of(out, found.consumed));
     }
 
     std::uint64_t version() const noexcept { return version_; }

@@ -48,7 +48,7 @@ enum {
     MULTIHASH_CID_NOT_VERSION_0 = 22
 };
 
-/* A CID in a buffer. At an error the fields but `status` are 0, except that `taken` is the size that `out` needs at
+/* A CID in a buffer. At an error the fields but `status` are 0, except that `consumed` is the size that `out` needs at
  * MULTIHASH_NO_ROOM. Padding between the fields is not set. */
 typedef struct multihash_cid {
     multihash_status status;
@@ -58,14 +58,14 @@ typedef struct multihash_cid {
     size_t multihash_offset; /* the index of the multihash */
     size_t digest_offset;    /* the index of its digest */
     size_t digest_length;    /* the digest's length in bytes, at most 255 */
-    size_t taken;            /* the length of the encoding, at most MULTIHASH_CID_LENGTH_MAX */
+    size_t consumed;         /* the length of the encoding, at most MULTIHASH_CID_LENGTH_MAX */
 } multihash_cid;
 
-static inline multihash_cid mh_cid_error(multihash_status status, size_t taken)
+static inline multihash_cid mh_cid_error(multihash_status status, size_t consumed)
 {
     multihash_cid cid = {0, 0, 0, 0, 0, 0, 0, 0};
     cid.status = status;
-    cid.taken = taken;
+    cid.consumed = consumed;
     return cid;
 }
 
@@ -96,7 +96,7 @@ static inline multihash_cid mh_cid_decode(const uint8_t *bytes, size_t bytes_len
     cid.code = found.code;
     cid.digest_offset = cid.multihash_offset + found.digest_offset;
     cid.digest_length = found.digest_length;
-    cid.taken = cid.multihash_offset + found.taken;
+    cid.consumed = cid.multihash_offset + found.consumed;
     return cid;
 }
 
@@ -112,7 +112,7 @@ static inline multihash_cid multihash_cid_from_bytes(const uint8_t *bytes, size_
 
 /* Decodes the CID at the start of `bytes`, such as that of a section of a CAR file. More bytes may follow.
  *
- * Returns: the CID, whose offsets are in `bytes`. What follows it is at `bytes + taken`.
+ * Returns: the CID, whose offsets are in `bytes`. What follows it is at `bytes + consumed`.
  * Errors:  as multihash_cid_from_bytes, but of the multihash those of multihash_read. */
 static inline multihash_cid multihash_cid_read(const uint8_t *bytes, size_t bytes_length)
 {
@@ -190,7 +190,7 @@ static inline size_t mh_cid_convert(const uint8_t *from, size_t from_length, uns
  * Returns: the CID, whose offsets are in `out`. The rest of `out` is unchanged.
  * Errors:  MULTIHASH_INSUFFICIENT if the text is empty; MULTIHASH_CID_UNKNOWN_BASE, MULTIHASH_CID_INVALID_DIGIT,
  *          MULTIHASH_CID_TOO_LONG, MULTIHASH_CID_TRAILING_BITS, MULTIHASH_CID_WRONG_PREFIX; those of
- *          multihash_cid_from_bytes; MULTIHASH_NO_ROOM with the size that `out` needs in `taken`. After an error `out`
+ *          multihash_cid_from_bytes; MULTIHASH_NO_ROOM with the size that `out` needs in `consumed`. After an error `out`
  *          is unchanged. */
 static inline multihash_cid multihash_cid_parse(const char *text, size_t text_length, uint8_t *out, size_t out_length)
 {
@@ -221,8 +221,8 @@ static inline multihash_cid multihash_cid_parse(const char *text, size_t text_le
     if (mh_cid_is_version_0(bytes, bytes_length) == has_prefix) return mh_cid_error(MULTIHASH_CID_WRONG_PREFIX, 0);
     multihash_cid cid = multihash_cid_from_bytes(bytes, bytes_length);
     if (cid.status != MULTIHASH_OK) return cid;
-    if (cid.taken > out_length) return mh_cid_error(MULTIHASH_NO_ROOM, cid.taken);
-    for (size_t i = 0; i < cid.taken; i++) out[i] = bytes[i];
+    if (cid.consumed > out_length) return mh_cid_error(MULTIHASH_NO_ROOM, cid.consumed);
+    for (size_t i = 0; i < cid.consumed; i++) out[i] = bytes[i];
     return cid;
 }
 

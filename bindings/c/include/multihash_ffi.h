@@ -8,18 +8,18 @@
  * fields of the result to `result`, in their order, each in eight bytes. multihash_compare and multihash_version return
  * numbers, so call them as they are. */
 
-/* size, code, digest_offset, digest_length, taken */
+/* size, code, digest_offset, digest_length, consumed */
 uint32_t multihash_ffi_from_bytes(const uint8_t *bytes, size_t bytes_length, uint64_t *result);
 uint32_t multihash_ffi_from_prefix(const uint8_t *prefix, size_t prefix_length, size_t whole_length, uint64_t *result);
 uint32_t multihash_ffi_read(const uint8_t *bytes, size_t bytes_length, uint64_t *result);
 uint32_t multihash_ffi_read_limit(const uint8_t *bytes, size_t bytes_length, size_t limit, uint64_t *result);
 uint32_t multihash_ffi_scale_decode(const uint8_t *bytes, size_t bytes_length, uint64_t *result);
 
-/* size, count, taken. An item of `out` is a code in eight bytes, and two `size_t`: the digest's offset and length. */
+/* size, count, consumed. An item of `out` is a code in eight bytes, and two `size_t`: the digest's offset and length. */
 uint32_t multihash_ffi_read_many(const uint8_t *bytes, size_t bytes_length, void *out, size_t out_length,
                                  uint64_t *result);
 
-/* code, digest_length, taken */
+/* code, digest_length, consumed */
 uint32_t multihash_ffi_head(const uint8_t *bytes, size_t bytes_length, uint64_t *result);
 
 /* value, length */
@@ -35,7 +35,7 @@ uint32_t multihash_ffi_write_varint(uint64_t value, uint8_t *out, size_t out_len
 
 /* The functions of multihash_cid.h. A CID has at most 276 bytes, and a text, with its zero byte, at most 554.
  *
- * version, codec, code, multihash_offset, digest_offset, digest_length, taken */
+ * version, codec, code, multihash_offset, digest_offset, digest_length, consumed */
 uint32_t multihash_ffi_cid_from_bytes(const uint8_t *bytes, size_t bytes_length, uint64_t *result);
 uint32_t multihash_ffi_cid_read(const uint8_t *bytes, size_t bytes_length, uint64_t *result);
 uint32_t multihash_ffi_cid_parse(const char *text, size_t text_length, uint8_t *out, size_t out_length,

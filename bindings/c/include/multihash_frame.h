@@ -23,7 +23,7 @@ typedef size_t multihash_stream_read(void *stream, uint8_t *to, size_t length);
 typedef struct multihash_frame {
     multihash_status status;
     uint64_t length; /* once its varint was read: the frame's length in bytes, without the varint; below 2^63 */
-    size_t taken;    /* always: the number of bytes read from the stream */
+    size_t consumed; /* always: the number of bytes read from the stream */
 } multihash_frame;
 
 /* Reads the next frame of a stream by `reader`, and no byte after it. Writes its bytes, without the varint, to the start
@@ -41,9 +41,9 @@ static inline multihash_frame multihash_read_frame(multihash_stream_read *reader
     multihash_frame frame = {MULTIHASH_FRAME_END, 0, 0};
 
     do {
-        if (reader(stream, bytes + frame.taken, 1) == 0) return frame;
-        frame.taken++;
-        multihash_varint varint = multihash_read_varint(bytes, frame.taken);
+        if (reader(stream, bytes + frame.consumed, 1) == 0) return frame;
+        frame.consumed++;
+        multihash_varint varint = multihash_read_varint(bytes, frame.consumed);
         frame.status = varint.status;
         frame.length = varint.value;
     } while (frame.status == MULTIHASH_INSUFFICIENT);
@@ -54,7 +54,7 @@ static inline multihash_frame multihash_read_frame(multihash_stream_read *reader
     }
     size_t length = frame.length & SIZE_MAX; /* fits; a cast would be old-style in C++ */
     size_t got = reader(stream, out, length);
-    frame.taken += got;
+    frame.consumed += got;
     if (got < length) frame.status = MULTIHASH_UNEXPECTED_EOF;
     return frame;
 }

@@ -72,13 +72,13 @@ static inline int mh_text_trailing(char *text, size_t text_size, uint64_t count)
 static inline int mh_message_malformed(char *text, size_t text_size, const uint8_t *bytes, multihash_head_result head)
 {
     size_t ended = 0; /* the number of varints that end in the bytes consumed: the malformed one, if it is not minimal */
-    for (size_t i = 0; i < head.taken; i++) ended += bytes[i] < 128;
+    for (size_t i = 0; i < head.consumed; i++) ended += bytes[i] < 128;
     int is_minimal = head.status != MULTIHASH_NOT_MINIMAL, is_code = ended == (is_minimal ? 0 : 1);
     const char *varint = is_code ? "varint of the code" : "varint of the digest's length";
 
     if (!is_minimal) return mh_text_not_minimal(text, text_size, varint);
     if (head.status == MULTIHASH_OVERFLOW) return mh_text_overflow(text, text_size, varint);
-    const char *place = bytes[head.taken - 1] < 128 ? "before" : "inside";
+    const char *place = bytes[head.consumed - 1] < 128 ? "before" : "inside";
     return mh_text_ends(text, text_size, place, is_code ? "code" : "digest's length");
 }
 
@@ -101,7 +101,7 @@ static inline int multihash_message(char *text, size_t text_size, const uint8_t 
     size_t first = bytes_length < MULTIHASH_HEAD_MAX ? bytes_length : MULTIHASH_HEAD_MAX;
     multihash_head_result head = multihash_head(bytes, first);
     uint64_t most = limit < MULTIHASH_DIGEST_MAX ? limit : MULTIHASH_DIGEST_MAX;
-    uint64_t present = bytes_length - head.taken, length = head.digest_length;
+    uint64_t present = bytes_length - head.consumed, length = head.digest_length;
 
     if (bytes_length == 0) return mh_text_empty(text, text_size);
     if (head.status != MULTIHASH_OK) return mh_message_malformed(text, text_size, bytes, head);

@@ -87,10 +87,10 @@ static multihash_head_result get_long_head(const uint8_t *bytes, size_t length)
     multihash_head_result head = {0};
     uint64_t code, digest_length;
     size_t consumed;
-    head.status = get_varint(bytes, length, &code, &head.taken);
+    head.status = get_varint(bytes, length, &code, &head.consumed);
     if (head.status != MULTIHASH_OK) return head;
-    head.status = get_varint(bytes + head.taken, length - head.taken, &digest_length, &consumed);
-    head.taken += consumed;
+    head.status = get_varint(bytes + head.consumed, length - head.consumed, &digest_length, &consumed);
+    head.consumed += consumed;
     if (head.status != MULTIHASH_OK) return head;
     head.code = code;
     head.digest_length = digest_length;
@@ -101,7 +101,7 @@ static multihash_head_result get_long_head(const uint8_t *bytes, size_t length)
 static inline multihash_head_result get_head(const uint8_t *bytes, size_t length)
 {
     if (length < 2 || bytes[0] >= 0x80 || bytes[1] >= 0x80) return get_long_head(bytes, length);
-    return (multihash_head_result){.status = MULTIHASH_OK, .code = bytes[0], .digest_length = bytes[1], .taken = 2};
+    return (multihash_head_result){.status = MULTIHASH_OK, .code = bytes[0], .digest_length = bytes[1], .consumed = 2};
 }
 
 multihash_head_result multihash_head(const uint8_t *bytes, size_t bytes_length)
@@ -111,7 +111,7 @@ multihash_head_result multihash_head(const uint8_t *bytes, size_t bytes_length)
 
 static inline multihash_decoded failed(multihash_status status, uint64_t size, size_t consumed)
 {
-    return (multihash_decoded){.status = status, .size = size, .taken = consumed};
+    return (multihash_decoded){.status = status, .size = size, .consumed = consumed};
 }
 
 /* Decodes the multihash that is an input of `whole_length` bytes, of which the first `length` are there. */
@@ -122,14 +122,14 @@ static inline multihash_decoded decode_whole(const uint8_t *bytes, size_t length
     if (head.digest_length > MULTIHASH_DIGEST_MAX) {
         return failed(MULTIHASH_INVALID_SIZE, head.digest_length, whole_length);
     }
-    const size_t rest = whole_length - head.taken;
+    const size_t rest = whole_length - head.consumed;
     if (rest < head.digest_length) return failed(MULTIHASH_UNEXPECTED_EOF, 0, whole_length);
     if (rest > head.digest_length) return failed(MULTIHASH_INVALID_SIZE, rest - head.digest_length, whole_length);
     return (multihash_decoded){.status = MULTIHASH_OK,
                                .code = head.code,
-                               .digest_offset = head.taken,
+                               .digest_offset = head.consumed,
                                .digest_length = rest,
-                               .taken = whole_length};
+                               .consumed = whole_length};
 }
 
 multihash_decoded multihash_from_bytes(const uint8_t *bytes, size_t bytes_length)
@@ -146,17 +146,17 @@ multihash_decoded multihash_from_prefix(const uint8_t *prefix, size_t prefix_len
 static inline multihash_decoded decode_start(const uint8_t *bytes, size_t length, size_t limit)
 {
     const multihash_head_result head = get_head(bytes, length);
-    if (head.status != MULTIHASH_OK) return failed(head.status, 0, head.taken);
+    if (head.status != MULTIHASH_OK) return failed(head.status, 0, head.consumed);
     if (head.digest_length > limit || head.digest_length > MULTIHASH_DIGEST_MAX) {
-        return failed(MULTIHASH_INVALID_SIZE, head.digest_length, head.taken);
+        return failed(MULTIHASH_INVALID_SIZE, head.digest_length, head.consumed);
     }
-    if (head.digest_length > length - head.taken) return failed(MULTIHASH_UNEXPECTED_EOF, 0, head.taken);
+    if (head.digest_length > length - head.consumed) return failed(MULTIHASH_UNEXPECTED_EOF, 0, head.consumed);
     const size_t digest_length = (size_t)head.digest_length;
     return (multihash_decoded){.status = MULTIHASH_OK,
                                .code = head.code,
-                               .digest_offset = head.taken,
+                               .digest_offset = head.consumed,
                                .digest_length = digest_length,
-                               .taken = head.taken + digest_length};
+                               .consumed = head.consumed + digest_length};
 }
 
 multihash_decoded multihash_read(const uint8_t *bytes, size_t bytes_length)
@@ -184,10 +184,10 @@ multihash_batch multihash_read_many(const uint8_t *bytes, size_t bytes_length, m
             result = decode_start(next, rest, MULTIHASH_DIGEST_MAX);
             if (result.status != MULTIHASH_OK) break;
             out[count++] = (multihash_item){result.code, consumed + result.digest_offset, result.digest_length};
-            consumed += result.taken;
+            consumed += result.consumed;
         }
     }
-    return (multihash_batch){.status = result.status, .size = result.size, .count = count, .taken = consumed};
+    return (multihash_batch){.status = result.status, .size = result.size, .count = count, .consumed = consumed};
 }
 
 /* ---- Encoding */
@@ -264,7 +264,7 @@ multihash_decoded multihash_scale_decode(const uint8_t *bytes, size_t bytes_leng
 {
     if (bytes_length < 8) return failed(MULTIHASH_UNEXPECTED_EOF, 0, 0);
     const uint64_t code = get_u64(bytes);
-    if (code > NUMBER_MAX) return (multihash_decoded){.status = MULTIHASH_INVALID_CODE, .code = code, .taken = 8};
+    if (code > NUMBER_MAX) return (multihash_decoded){.status = MULTIHASH_INVALID_CODE, .code = code, .consumed = 8};
     if (bytes_length == 8) return failed(MULTIHASH_UNEXPECTED_EOF, 0, 8);
     const size_t digest_length = bytes[8];
     if (digest_length > bytes_length - 9) return failed(MULTIHASH_UNEXPECTED_EOF, 0, 9);
@@ -272,7 +272,7 @@ multihash_decoded multihash_scale_decode(const uint8_t *bytes, size_t bytes_leng
                                .code = code,
                                .digest_offset = 9,
                                .digest_length = digest_length,
-                               .taken = 9 + digest_length};
+                               .consumed = 9 + digest_length};
 }
 
 multihash_encoded multihash_scale_encode(uint64_t code, const uint8_t *digest, size_t digest_length, uint8_t *out,

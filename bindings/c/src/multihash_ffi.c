@@ -23,19 +23,19 @@ static uint32_t decoded(multihash_decoded from, uint64_t *result)
 {
     result[2] = from.digest_offset;
     result[3] = from.digest_length;
-    result[4] = from.taken;
+    result[4] = from.consumed;
     return put(from.status, result, from.size, from.code);
 }
 
 static uint32_t batch(multihash_batch from, uint64_t *result)
 {
-    result[2] = from.taken;
+    result[2] = from.consumed;
     return put(from.status, result, from.size, from.count);
 }
 
 static uint32_t head(multihash_head_result from, uint64_t *result)
 {
-    result[2] = from.taken;
+    result[2] = from.consumed;
     return put(from.status, result, from.code, from.digest_length);
 }
 
@@ -50,7 +50,7 @@ static uint32_t cid(multihash_cid from, uint64_t *result)
     result[3] = from.multihash_offset;
     result[4] = from.digest_offset;
     result[5] = from.digest_length;
-    result[6] = from.taken;
+    result[6] = from.consumed;
     return put(from.status, result, from.version, from.codec);
 }
 

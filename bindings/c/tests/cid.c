@@ -32,14 +32,14 @@ static void check_result(multihash_cid cid, const uint8_t *bytes, const char *co
     if (cid.status != MULTIHASH_OK) {
         check_word(cid.status, column);
         CHECK(strcmp(multihash_cid_status_text(cid.status), "unknown status") != 0);
-        CHECK(cid.version == 0 && cid.codec == 0 && cid.code == 0 && cid.digest_length == 0 && cid.taken == 0);
+        CHECK(cid.version == 0 && cid.codec == 0 && cid.code == 0 && cid.digest_length == 0 && cid.consumed == 0);
         return;
     }
     CHECK(sscanf(column, "cid %" SCNu64 " %" SCNu64 " %" SCNu64 " %510s", &version, &codec, &code, digits) == 4);
     CHECK(cid.version == version && cid.codec == codec && cid.code == code);
     CHECK(parse_hex(digits, wanted, sizeof wanted) == cid.digest_length);
     CHECK(memcmp(wanted, bytes + cid.digest_offset, cid.digest_length) == 0);
-    CHECK(cid.multihash_offset < cid.digest_offset && cid.digest_offset + cid.digest_length == cid.taken);
+    CHECK(cid.multihash_offset < cid.digest_offset && cid.digest_offset + cid.digest_length == cid.consumed);
 }
 
 /* Whether a call wrote the bytes to `out`, or, after an error, left the zeros there. */
@@ -60,10 +60,10 @@ static void check_rooms(multihash_cid cid, const uint8_t *bytes, const char *tex
         uint8_t *encoding = buffer(room), *parsed = buffer(room), *shown = buffer(room);
         multihash_encoded made =
             multihash_cid_encode(cid.version, cid.codec, cid.code, of_digest, cid.digest_length, encoding, room);
-        CHECK(made.length == cid.taken && is_written(made.status, encoding, room, bytes, cid.taken));
+        CHECK(made.length == cid.consumed && is_written(made.status, encoding, room, bytes, cid.consumed));
         multihash_cid found = multihash_cid_parse(text, text_length, parsed, room);
-        CHECK(found.taken == cid.taken && is_written(found.status, parsed, room, bytes, cid.taken));
-        made = multihash_cid_text(bytes, cid.taken, cid.version == 0 ? 'z' : text[0], (char *)shown, room);
+        CHECK(found.consumed == cid.consumed && is_written(found.status, parsed, room, bytes, cid.consumed));
+        made = multihash_cid_text(bytes, cid.consumed, cid.version == 0 ? 'z' : text[0], (char *)shown, room);
         CHECK(is_written(made.status, shown, room, text, made.status == MULTIHASH_OK ? text_length : text_length + 1));
         CHECK(made.length == text_length + (made.status != MULTIHASH_OK));
         CHECK(made.status != MULTIHASH_OK || shown[text_length] == '\0');
@@ -88,8 +88,8 @@ void check_cid_line(char *line)
         check_result(multihash_cid_from_bytes(input, bytes_length), input, columns[1]);
     }
     if (cid.status == MULTIHASH_OK) {
-        CHECK(cid.taken == bytes_length && memcmp(out, bytes, bytes_length) == 0);
-        CHECK(multihash_cid_read(bytes, bytes_length + 9).taken == bytes_length);
+        CHECK(cid.consumed == bytes_length && memcmp(out, bytes, bytes_length) == 0);
+        CHECK(multihash_cid_read(bytes, bytes_length + 9).consumed == bytes_length);
         check_rooms(cid, input, (const char *)text, length);
     }
     free(text);

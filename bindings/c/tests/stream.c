@@ -32,7 +32,7 @@ static stream_result read_on(stream *from, size_t *at)
     for (; (result = next_multihash(from, &found)) == STREAM_FOUND; *at += 1) {
         CHECK(*at < ITEMS && from->have == ends[*at + 1] - ends[*at]);
         CHECK(memcmp(from->bytes, whole + ends[*at], from->have) == 0);
-        CHECK(found.status == MULTIHASH_OK && found.taken == from->have);
+        CHECK(found.status == MULTIHASH_OK && found.consumed == from->have);
     }
     return result;
 }
@@ -52,16 +52,16 @@ static void check_cut(size_t cut)
 }
 
 /* A stream is rejected, again and again, and no byte is read after those that decide it. */
-static void check_rejected(const char *bytes, size_t length, multihash_status status, size_t taken)
+static void check_rejected(const char *bytes, size_t length, multihash_status status, size_t consumed)
 {
     uint8_t rest[64];
     multihash_decoded found;
     stream from = {.limit = 64};
     CHECK(close(open_pipe(&from, bytes, length)) == 0);
     for (int again = 0; again < 2; again++) {
-        CHECK(next_multihash(&from, &found) == STREAM_REJECTED && found.status == status && found.taken == taken);
+        CHECK(next_multihash(&from, &found) == STREAM_REJECTED && found.status == status && found.consumed == consumed);
     }
-    CHECK(read(from.descriptor, rest, sizeof rest) == (ssize_t)(length - taken) && close(from.descriptor) == 0);
+    CHECK(read(from.descriptor, rest, sizeof rest) == (ssize_t)(length - consumed) && close(from.descriptor) == 0);
 }
 
 int main(void)

@@ -63,22 +63,22 @@ static void check_cut_frames(void)
         multihash_frame frame = multihash_read_frame(read_memory, &from, out, sizeof out);
         size_t count = 0;
         for (; frame.status == MULTIHASH_OK; frame = multihash_read_frame(read_memory, &from, out, sizeof out)) {
-            CHECK(from.at == ends[++count] && frame.taken == from.at - ends[count - 1]);
+            CHECK(from.at == ends[++count] && frame.consumed == from.at - ends[count - 1]);
             CHECK(memcmp(out, bytes + from.at - frame.length, (size_t)frame.length) == 0);
         }
-        CHECK((count == 3 || cut < ends[count + 1]) && frame.taken == cut - ends[count]);
+        CHECK((count == 3 || cut < ends[count + 1]) && frame.consumed == cut - ends[count]);
         multihash_status inside = cut == 6 ? MULTIHASH_INSUFFICIENT : MULTIHASH_UNEXPECTED_EOF; /* 5 and 6 are a varint */
         CHECK(frame.status == (cut == ends[count] ? MULTIHASH_FRAME_END : inside));
     }
 }
 
 /* A frame is rejected, and no byte after its varint is read. */
-static void check_rejected_frame(const char *bytes, multihash_status status, uint64_t length, size_t taken)
+static void check_rejected_frame(const char *bytes, multihash_status status, uint64_t length, size_t consumed)
 {
     uint8_t out[130];
     struct memory from = {(const uint8_t *)bytes, 10, 0};
     multihash_frame frame = multihash_read_frame(read_memory, &from, out, sizeof out);
-    CHECK(frame.status == status && frame.length == length && frame.taken == taken && from.at == taken);
+    CHECK(frame.status == status && frame.length == length && frame.consumed == consumed && from.at == consumed);
 }
 
 static void check_version(void)

@@ -76,8 +76,8 @@ static void check_verdict(const row &columns)
     const size_t limit = std::stoul(columns[0]);
     std::string_view rest = bytes;
     check([&] { return value::read(rest, limit); }, wanted);
-    const size_t taken = wanted.substr(0, 5) == "pair " ? std::stoul(columns[3]) : 0;
-    CHECK(bytes.size() - rest.size() == taken);
+    const size_t consumed = wanted.substr(0, 5) == "pair " ? std::stoul(columns[3]) : 0;
+    CHECK(bytes.size() - rest.size() == consumed);
     if (limit >= MULTIHASH_DIGEST_MAX) check([&] { return value::decode(bytes); }, columns[4]);
     std::istringstream stream(bytes);
     if (bytes.empty()) {

@@ -29,7 +29,7 @@ void check_word(multihash_status status, const char *word)
 }
 
 /* Compares a result with its column: a word, a number and a digest. Where there is none the fields are 0. */
-static void check_result(multihash_decoded result, const uint8_t *input, const char *column, const char *taken)
+static void check_result(multihash_decoded result, const uint8_t *input, const char *column, const char *consumed)
 {
     char word[32], digits[2 * MULTIHASH_DIGEST_MAX + 1] = "-";
     uint8_t digest[MULTIHASH_DIGEST_MAX];
@@ -41,7 +41,7 @@ static void check_result(multihash_decoded result, const uint8_t *input, const c
     CHECK(parse_hex(digits, digest, sizeof digest) == result.digest_length);
     CHECK(result.digest_length == 0 || memcmp(digest, input + result.digest_offset, result.digest_length) == 0);
     CHECK(result.status == MULTIHASH_OK || result.digest_offset == 0);
-    CHECK(strcmp(taken, "-") == 0 || result.taken == strtoul(taken, NULL, 10));
+    CHECK(strcmp(consumed, "-") == 0 || result.consumed == strtoul(consumed, NULL, 10));
 }
 
 typedef multihash_encoded (*encoder)(uint64_t, const uint8_t *, size_t, uint8_t *, size_t);
@@ -67,13 +67,13 @@ static void check_accepted(const uint8_t *input, size_t length, multihash_decode
     multihash_varint code = multihash_read_varint(input, length);
     multihash_batch batch = multihash_read_many(input, length, &item, 1);
     const size_t start = result.digest_offset;
-    CHECK(head.status == MULTIHASH_OK && head.code == result.code && head.taken == start);
-    CHECK(head.digest_length == result.digest_length && start + result.digest_length == result.taken);
+    CHECK(head.status == MULTIHASH_OK && head.code == result.code && head.consumed == start);
+    CHECK(head.digest_length == result.digest_length && start + result.digest_length == result.consumed);
     CHECK(code.status == MULTIHASH_OK && code.value == result.code && code.length < start);
-    CHECK(batch.status == MULTIHASH_OK && batch.size == 0 && batch.count == 1 && batch.taken == result.taken);
+    CHECK(batch.status == MULTIHASH_OK && batch.size == 0 && batch.count == 1 && batch.consumed == result.consumed);
     CHECK(item.code == result.code && item.digest_offset == start && item.digest_length == result.digest_length);
-    CHECK(multihash_encoded_len(result.code, result.digest_length).length == result.taken);
-    check_encoding(multihash_encode, result.code, input + start, result.digest_length, input, result.taken);
+    CHECK(multihash_encoded_len(result.code, result.digest_length).length == result.consumed);
+    check_encoding(multihash_encode, result.code, input + start, result.digest_length, input, result.consumed);
 }
 
 /* A limit, an input, and what the calls return. Only multihash_read_limit has another limit than 255. */
@@ -94,7 +94,7 @@ static void check_verdict(const char *const *column)
         check_result(scale, input, column[5], column[6]);
         if (scale.status == MULTIHASH_OK) {
             const uint8_t *digest = input + scale.digest_offset;
-            check_encoding(multihash_scale_encode, scale.code, digest, scale.digest_length, input, scale.taken);
+            check_encoding(multihash_scale_encode, scale.code, digest, scale.digest_length, input, scale.consumed);
         }
     }
     free(input);

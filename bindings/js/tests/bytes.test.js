@@ -10,20 +10,20 @@ function told(call) {
   try {
     const result = call();
     const found = result.multihash ?? result;
-    return [`pair ${found.code} ${hex(found.digest) || '-'}`, found, result.taken];
+    return [`pair ${found.code} ${hex(found.digest) || '-'}`, found, result.consumed];
   } catch (error) {
     if (!(error instanceof MultihashError)) throw error;
-    const { status, size, code, taken } = error;
-    return [[status, size ?? code ?? []].flat().join(' '), error, taken];
+    const { status, size, code, consumed } = error;
+    return [[status, size ?? code ?? []].flat().join(' '), error, consumed];
   }
 }
 
 /** Compares the result of a call that decodes the start of its input, and the number of bytes that it consumed. */
 function consumes(call, wanted, wantedTaken, row) {
-  const [words, found, taken] = told(call);
+  const [words, found, consumed] = told(call);
   assert.equal(words, wanted, row.input);
   if (found.isIncomplete) assert.equal(wantedTaken, '-', row.input); // more input can change the result
-  else assert.equal(taken, Number(wantedTaken), row.input);
+  else assert.equal(consumed, Number(wantedTaken), row.input);
 }
 
 /** Whether the result with a limit is the result with 255 too. */
@@ -36,14 +36,14 @@ test('vectors of decoding', () => {
     const data = unhex(row.input);
     const limit = Number(row.S);
     // what follows does not change a result, and is not part of it
-    const more = row.read_taken === '-' ? data : Uint8Array.of(...data, ...new Uint8Array(400));
-    consumes(() => (limit === 255 ? read(kind(more)) : read(kind(more), limit)), row.read, row.read_taken, row);
+    const more = row.read_consumed === '-' ? data : Uint8Array.of(...data, ...new Uint8Array(400));
+    consumes(() => (limit === 255 ? read(kind(more)) : read(kind(more), limit)), row.read, row.read_consumed, row);
     if (isForAll(row.scale_decode, limit))
-      consumes(() => scaleDecode(kind(data)), row.scale_decode, row.scale_taken, row);
+      consumes(() => scaleDecode(kind(data)), row.scale_decode, row.scale_consumed, row);
     if (!isForAll(row.read, limit)) continue;
     const [words, found] = told(() => decode(kind(data)));
     assert.equal(words, row.from_bytes, row.input);
-    if (found instanceof MultihashError) assert.equal(found.taken, data.length, row.input);
+    if (found instanceof MultihashError) assert.equal(found.consumed, data.length, row.input);
     else assert.equal(`${found}`, row.input);
   }
 });
@@ -104,7 +104,7 @@ test('varints of each kind of number, in memory of each kind', () => {
       const bytes = kind(new Uint8Array(12).fill(0xee));
       assert.equal(writeVarint(value, bytes, 2), varint.length);
       assert.equal(hex([...bytes]), `eeee${text}`.padEnd(24, 'e'));
-      assert.deepEqual(readVarint(kind(joined(varint, [0x81]))), { value, taken: varint.length });
+      assert.deepEqual(readVarint(kind(joined(varint, [0x81]))), { value, consumed: varint.length });
     }
     for (let cut = 0; cut < varint.length; cut++) {
       const words = cut === 0 ? 'empty' : 'inside varint';
@@ -120,7 +120,7 @@ test('malformed varints, numbers that have none, and where none fits', () => {
   const malformed = [['ff'.repeat(9), 'overflow', 'varint nine'], ['8000', 'not_minimal', 'varint minimal']];
   for (const [text, status, words] of malformed) {
     const error = fails(MultihashError, () => readVarint(unhex(text)), words);
-    assert.equal(`${error.status} ${error.isIncomplete} ${error.taken}`, `${status} false undefined`);
+    assert.equal(`${error.status} ${error.isIncomplete} ${error.consumed}`, `${status} false undefined`);
   }
   const bytes = new Uint8Array(3);
   for (const call of [encodeVarint, (value) => writeVarint(value, bytes)])
@@ -132,29 +132,29 @@ test('malformed varints, numbers that have none, and where none fits', () => {
 });
 
 test('heads and lengths', () => {
-  assert.deepEqual(head(unhex('ac02ff01')), { code: 300, digestLength: 255, taken: 4 });
-  assert.deepEqual(head(unhex('12ffffffffffffffff7f')), { code: 18, digestLength: 2n ** 63n - 1n, taken: 10 });
+  assert.deepEqual(head(unhex('ac02ff01')), { code: 300, digestLength: 255, consumed: 4 });
+  assert.deepEqual(head(unhex('12ffffffffffffffff7f')), { code: 18, digestLength: 2n ** 63n - 1n, consumed: 10 });
   for (const [code, size] of [[18, 32], [300, 0], [2n ** 63n - 1n, 255]]) {
     const digest = new Uint8Array(size);
     assert.equal(encodedLength(code, size), encode(code, digest).length);
-    const { multihash, taken } = scaleDecode(joined(scaleEncode(code, digest), digest));
-    assert.deepEqual([multihash.code, multihash.size, taken], [code, size, 9 + size]);
+    const { multihash, consumed } = scaleDecode(joined(scaleEncode(code, digest), digest));
+    assert.deepEqual([multihash.code, multihash.size, consumed], [code, size, 9 + size]);
   }
   assert.throws(() => encodedLength(2n ** 63n, 2), { status: 'invalid_code', code: 2n ** 63n });
   assert.throws(() => encodedLength(2n ** 63n, 2n ** 63n + 256n), { status: 'invalid_size', size: 2n ** 63n + 256n });
   assert.throws(() => read(unhex('0101aa'), 0), { status: 'invalid_size', size: 1 });
-  assert.equal(read(unhex('0101aa'), 2n ** 64n - 1n).taken, 3);
+  assert.equal(read(unhex('0101aa'), 2n ** 64n - 1n).consumed, 3);
 });
 
 /** The columns of readMany by calls of read. */
 function oneByOne(bytes) {
-  const found = { codes: [], offsets: [], lengths: [], taken: 0, error: undefined };
-  while (found.taken < bytes.length) {
+  const found = { codes: [], offsets: [], lengths: [], consumed: 0, error: undefined };
+  while (found.consumed < bytes.length) {
     try {
-      const { multihash, taken } = read(bytes.subarray(found.taken));
-      found.taken += taken;
+      const { multihash, consumed } = read(bytes.subarray(found.consumed));
+      found.consumed += consumed;
       found.codes.push(BigInt(multihash.code));
-      found.offsets.push(found.taken - multihash.size);
+      found.offsets.push(found.consumed - multihash.size);
       found.lengths.push(multihash.size);
     } catch (error) {
       return { ...found, error };
@@ -164,9 +164,9 @@ function oneByOne(bytes) {
 }
 
 function checkMany(bytes, kind = (each) => each) {
-  const { codes, offsets, lengths, taken, error } = readMany(kind(bytes));
+  const { codes, offsets, lengths, consumed, error } = readMany(kind(bytes));
   const wanted = oneByOne(bytes);
-  assert.deepEqual({ codes: [...codes], offsets: [...offsets], lengths: [...lengths], taken, error }, wanted);
+  assert.deepEqual({ codes: [...codes], offsets: [...offsets], lengths: [...lengths], consumed, error }, wanted);
   const types = [BigUint64Array, Float64Array, Uint8Array];
   assert.deepEqual([codes, offsets, lengths].map((column) => column.constructor), types);
   for (const column of [codes, lengths]) assert.equal(column.buffer.byteLength, column.byteLength);

@@ -41,7 +41,7 @@ test('vectors of content identifiers', () => {
       continue;
     }
     assert.deepEqual([hex(cid.bytes), cid.toString(cid.version ? text[0] : 'z')], [bytes, text]);
-    assert.deepEqual(CID.read(kind(Uint8Array.of(...data, ...data))), { cid, taken: data.length });
+    assert.deepEqual(CID.read(kind(Uint8Array.of(...data, ...data))), { cid, consumed: data.length });
     assert.equal(typeof cid.codec, BigInt(cid.codec) < 2n ** 53n ? 'number' : 'bigint');
   }
 });

@@ -126,21 +126,21 @@ test('errors have fields that are exact, and are restored from a clone', () => {
   const cases = [
     [() => encode(1, new Uint8Array(256)), '"invalid_size","size":256'],
     [() => encode(code, EXAMPLE), `"invalid_code","code":"${code}"`],
-    [() => decode(unhex('12ffffffffffffffff7f')), `"invalid_size","size":"${code - 1n}","taken":10`],
-    [() => decode(new Uint8Array(1 << 22)), '"invalid_size","size":4194302,"taken":4194304'],
-    [() => decode(unhex('80')), '"insufficient","taken":1'],
-    [() => head(unhex('8000')), '"not_minimal","taken":2'],
+    [() => decode(unhex('12ffffffffffffffff7f')), `"invalid_size","size":"${code - 1n}","consumed":10`],
+    [() => decode(new Uint8Array(1 << 22)), '"invalid_size","size":4194302,"consumed":4194304'],
+    [() => decode(unhex('80')), '"insufficient","consumed":1'],
+    [() => head(unhex('8000')), '"not_minimal","consumed":2'],
     [() => Multihash.fromHex('1g'), '"not_hexadecimal"'],
-    [() => Multihash.fromHex(''), '"insufficient","taken":0'],
+    [() => Multihash.fromHex(''), '"insufficient","consumed":0'],
   ];
   for (const [call, rest] of cases) {
     const error = fails(MultihashError, call, '');
     const start = `{"name":"MultihashError","message":${JSON.stringify(error.message)},"status":`;
     assert.equal(JSON.stringify(error), `${start}${rest}}`);
-    assert.deepEqual(Object.keys(error), ['status', 'size', 'code', 'taken']); // what console.log shows
+    assert.deepEqual(Object.keys(error), ['status', 'size', 'code', 'consumed']); // what console.log shows
     const again = MultihashError.from(structuredClone(error));
     assert.ok(again instanceof MultihashError);
-    for (const name of ['name', 'message', 'status', 'size', 'code', 'taken', 'isIncomplete', 'cause'])
+    for (const name of ['name', 'message', 'status', 'size', 'code', 'consumed', 'isIncomplete', 'cause'])
       assert.deepEqual(again[name], error[name]);
     assert.equal(MultihashError.from(error), error);
   }
@@ -151,8 +151,8 @@ test('errors have fields that are exact, and are restored from a clone', () => {
 test('the fields of an error are its own, whatever Object.prototype has', () => {
   Object.assign(Object.prototype, { size: 5, code: 6 });
   try {
-    const { size, code, taken } = fails(MultihashError, () => head(unhex('8000')), '');
-    assert.equal(`${size} ${code} ${taken}`, 'undefined undefined 2');
+    const { size, code, consumed } = fails(MultihashError, () => head(unhex('8000')), '');
+    assert.equal(`${size} ${code} ${consumed}`, 'undefined undefined 2');
   } finally {
     delete Object.prototype.size;
     delete Object.prototype.code;

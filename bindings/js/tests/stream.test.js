@@ -57,26 +57,26 @@ async function cutAt(cut, { Reader, items, encodings }, starts) {
   for (const source of [chunks(...parts), streamOf(parts)]) {
     const whole = new Reader(source);
     assert.deepEqual(await drained(whole), { found: items });
-    assert.deepEqual([whole.taken, whole.rest.length], [bytes.length, 0]);
+    assert.deepEqual([whole.consumed, whole.rest.length], [bytes.length, 0]);
   }
   const count = starts.filter((start) => start <= cut).length - 1;
   const reader = new Reader(chunks(parts[0]));
   const { found, error } = await drained(reader);
   assert.deepEqual(found, items.slice(0, count));
-  assert.deepEqual([reader.taken, hex(reader.rest)], [starts[count], hex(bytes.subarray(starts[count], cut))]);
+  assert.deepEqual([reader.consumed, hex(reader.rest)], [starts[count], hex(bytes.subarray(starts[count], cut))]);
   assert.equal(error?.isIncomplete, cut === starts[count] ? undefined : true);
   if (error && Reader === FrameReader) checkFrame(reader, error, count, cut - starts[count]);
   const other = new Reader(chunks(parts[1]), { rest: reader.rest });
   assert.deepEqual(await drained(other), { found: items.slice(count) });
-  assert.equal(other.taken, bytes.length - starts[count]);
+  assert.equal(other.consumed, bytes.length - starts[count]);
 }
 
 /** The error of a frame of which that many bytes are there names its number and its offset. */
 function checkFrame(reader, error, count, there) {
   const varint = PREFIXES[count].length / 2;
   const words = there < varint ? 'inside varint' : `${there - varint} of ${FRAMES[count].length / 2}`;
-  fails(MultihashError, () => { throw error; }, `frame ${count} offset ${reader.taken} ${words}`);
-  assert.deepEqual([reader.count, error.taken], [count, Math.min(varint, there)]);
+  fails(MultihashError, () => { throw error; }, `frame ${count} offset ${reader.consumed} ${words}`);
+  assert.deepEqual([reader.count, error.consumed], [count, Math.min(varint, there)]);
 }
 
 for (const reader of READERS)
@@ -101,7 +101,7 @@ test('an item that is too long, before its bytes arrive, or malformed', async ()
   for (const [Reader, text, options, fields, words] of cases) {
     const { error } = await drained(new Reader(streamOf([unhex(text)], () => {}), options));
     fails(MultihashError, () => { throw error; }, words);
-    assert.deepEqual([error.status, error.size, error.taken], fields);
+    assert.deepEqual([error.status, error.size, error.consumed], fields);
   }
 });
 
@@ -149,7 +149,7 @@ test('an error releases a stream for another reader, and a loop that it ends can
   const source = streamOf([STREAM], undefined, () => (cancelled += 1));
   const ended = new MultihashReader(source, { limit: 31 });
   const { error } = await drained(ended);
-  assert.deepEqual([ended.taken, source.locked, await ended.read().catch((again) => again)], [0, false, error]);
+  assert.deepEqual([ended.consumed, source.locked, await ended.read().catch((again) => again)], [0, false, error]);
   const other = new MultihashReader(source, { rest: ended.rest });
   await ended.cancel(); // the stream is the other's now
   assert.deepEqual([(await drained(other)).found, cancelled, source.locked], [MULTIHASHES, 0, false]);

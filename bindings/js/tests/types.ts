@@ -31,7 +31,7 @@ is<Status>()(error.status);
 // @ts-expect-error 'ok' is the status of no error
 new MultihashError('a text', { status: 'ok' });
 // @ts-expect-error a field may be absent, not undefined
-new MultihashError('a text', { status: 'overflow', taken: undefined });
+new MultihashError('a text', { status: 'overflow', consumed: undefined });
 
 declare const stream: ReadableStream<Uint8Array>;
 export const source: ByteStream = stream;

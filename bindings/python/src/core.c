@@ -22,10 +22,10 @@ static PyObject *raise_with(const state *own, PyObject *arguments)
     return NULL;
 }
 
-PyObject *raise_error(const state *own, multihash_status status, uint64_t size, uint64_t code, size_t taken,
+PyObject *raise_error(const state *own, multihash_status status, uint64_t size, uint64_t code, size_t consumed,
                       const char *text)
 {
-    unsigned long long numbers[] = {size, code, taken};
+    unsigned long long numbers[] = {size, code, consumed};
     return raise_with(own, Py_BuildValue("IKKKs", status, numbers[0], numbers[1], numbers[2], text));
 }
 
@@ -88,7 +88,7 @@ PyObject *decoded(const state *own, const input *from, multihash_decoded found, 
     } else {
         multihash_message(text, sizeof text, from->bytes, from->whole, *limit);
     }
-    return raise_error(own, found.status, found.size, found.code, found.taken, text);
+    return raise_error(own, found.status, found.size, found.code, found.consumed, text);
 }
 
 /* The same for an input, which it steals, with the number of bytes consumed. */
@@ -96,7 +96,7 @@ static PyObject *decoded_front(PyObject *module, input *from, multihash_decoded 
 {
     PyObject *multihash = decoded(PyModule_GetState(module), from, found, limit);
     Py_DECREF(from->owner);
-    return multihash == NULL ? NULL : Py_BuildValue("Nn", multihash, (Py_ssize_t)found.taken);
+    return multihash == NULL ? NULL : Py_BuildValue("Nn", multihash, (Py_ssize_t)found.consumed);
 }
 
 /* The first bytes of `data`, the only argument of a function. */
@@ -146,7 +146,7 @@ static PyObject *head(PyObject *module, PyObject *data)
     multihash_head_result found = multihash_head(from.bytes, from.length);
     if (found.status == MULTIHASH_OK) {
         unsigned long long code = found.code, length = found.digest_length;
-        result = Py_BuildValue("KKn", code, length, (Py_ssize_t)found.taken);
+        result = Py_BuildValue("KKn", code, length, (Py_ssize_t)found.consumed);
     } else {
         result = decoded(PyModule_GetState(module), &from, multihash_read(from.bytes, from.length), &longest);
     }
@@ -172,17 +172,17 @@ static PyObject *read_varint(PyObject *module, PyObject *const *given, Py_ssize_
  * error set. */
 static Py_ssize_t read_items(const uint8_t *bytes, size_t length, PyObject *items)
 {
-    size_t count = 0, taken = 0;
+    size_t count = 0, consumed = 0;
     for (size_t capacity = 128;; capacity *= 2) {
         if (PyByteArray_Resize(items, (Py_ssize_t)(capacity * sizeof(multihash_item))) < 0) return -1;
         multihash_item *to = (multihash_item *)(void *)PyByteArray_AsString(items) + count;
-        multihash_batch part = multihash_read_many(bytes + taken, length - taken, to, capacity - count);
-        for (size_t at = 0; taken > 0 && at < part.count; at++) to[at].digest_offset += taken;
+        multihash_batch part = multihash_read_many(bytes + consumed, length - consumed, to, capacity - count);
+        for (size_t at = 0; consumed > 0 && at < part.count; at++) to[at].digest_offset += consumed;
         count += part.count;
-        taken += part.taken;
+        consumed += part.consumed;
         if (count < capacity) break;
     }
-    return PyByteArray_Resize(items, (Py_ssize_t)(count * sizeof(multihash_item))) < 0 ? -1 : (Py_ssize_t)taken;
+    return PyByteArray_Resize(items, (Py_ssize_t)(count * sizeof(multihash_item))) < 0 ? -1 : (Py_ssize_t)consumed;
 }
 
 static PyObject *read_many(PyObject *module, PyObject *data)
@@ -191,12 +191,12 @@ static PyObject *read_many(PyObject *module, PyObject *data)
     (void)module;
     if (get_buffer(data, "data", PyBUF_SIMPLE, &view) < 0) return NULL;
     PyObject *items = PyByteArray_FromStringAndSize(NULL, 0), *rest = NULL;
-    Py_ssize_t taken = items == NULL ? -1 : read_items(view.buf, (size_t)view.len, items);
+    Py_ssize_t consumed = items == NULL ? -1 : read_items(view.buf, (size_t)view.len, items);
     /* Another thread may change the buffer once it is released. An error depends on these bytes of the rest alone. */
-    Py_ssize_t left = view.len - taken < MULTIHASH_LENGTH_MAX ? view.len - taken : MULTIHASH_LENGTH_MAX;
-    if (taken >= 0) rest = PyBytes_FromStringAndSize(left == 0 ? NULL : (const char *)view.buf + taken, left);
+    Py_ssize_t left = view.len - consumed < MULTIHASH_LENGTH_MAX ? view.len - consumed : MULTIHASH_LENGTH_MAX;
+    if (consumed >= 0) rest = PyBytes_FromStringAndSize(left == 0 ? NULL : (const char *)view.buf + consumed, left);
     PyBuffer_Release(&view);
-    if (rest != NULL) return Py_BuildValue("NnN", items, taken, rest);
+    if (rest != NULL) return Py_BuildValue("NnN", items, consumed, rest);
     Py_XDECREF(items);
     return NULL;
 }

@@ -64,7 +64,7 @@ PyTypeObject *type_in_c(PyTypeObject *type);
 const state *state_of(PyTypeObject *type);
 
 /* Raises a MultihashError, and returns null. */
-PyObject *raise_error(const state *own, multihash_status status, uint64_t size, uint64_t code, size_t taken,
+PyObject *raise_error(const state *own, multihash_status status, uint64_t size, uint64_t code, size_t consumed,
                       const char *text);
 
 /* Raises the error of an encoding of a digest of that length, to which it steals the reference, and a code, or of the

@@ -13,7 +13,7 @@ typedef struct reader_object {
     size_t wanted;  /* the number of bytes that a call of the file was asked for which has not returned, or 0 */
     size_t length;  /* of what was read of the next item's head, */
     size_t kept;    /* and of its body */
-    unsigned long long taken; /* bytes of the items that were returned */
+    unsigned long long consumed; /* bytes of the items that were returned */
     unsigned long long count; /* of these items */
     multihash_head_result head;     /* of `bytes`, as far as it is known; a frame has no code */
     int is_framed;            /* whether it reads frames */
@@ -49,7 +49,7 @@ static int reader_init(PyObject *self, PyObject *arguments, PyObject *named)
     drop(reader);
     reader->own = state_of(Py_TYPE(self));
     reader->limit = is_framed || limit < MULTIHASH_DIGEST_MAX ? limit : MULTIHASH_DIGEST_MAX;
-    reader->taken = 0;
+    reader->consumed = 0;
     reader->count = 0;
     reader->is_framed = is_framed;
     reader->has_lost = 0;
@@ -203,7 +203,7 @@ static PyObject *frame_error(const reader_object *reader)
         status = MULTIHASH_UNEXPECTED_EOF;
         mh_text_truncated(reason, sizeof reason, "frame", reader->kept, length);
     }
-    snprintf(text, sizeof text, "frame %llu at offset %llu: %s", reader->count, reader->taken, reason);
+    snprintf(text, sizeof text, "frame %llu at offset %llu: %s", reader->count, reader->consumed, reason);
     return raise_error(reader->own, status, size, 0, reader->length, text);
 }
 
@@ -225,7 +225,7 @@ static PyObject *take(reader_object *reader)
     PyObject *item = body_of(reader);
     if (!reader->is_framed) item = new_multihash(reader->own->type, head->code, item);
     if (item == NULL) return NULL;
-    reader->taken += reader->length + reader->kept;
+    reader->consumed += reader->length + reader->kept;
     reader->count++;
     drop(reader);
     return item;
@@ -289,7 +289,7 @@ static PyMethodDef reader_methods[] = {
 
 static PyMemberDef reader_members[] = {
     {"_read", T_OBJECT_EX, offsetof(reader_object, read), READONLY, NULL},
-    {"taken", T_ULONGLONG, offsetof(reader_object, taken), READONLY,
+    {"consumed", T_ULONGLONG, offsetof(reader_object, consumed), READONLY,
      "The number of bytes of the multihashes or frames returned so far."},
     {"count", T_ULONGLONG, offsetof(reader_object, count), READONLY,
      "The number of the multihashes or frames returned so far."},

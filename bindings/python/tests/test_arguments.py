@@ -96,7 +96,7 @@ def result_of(call, *arguments):
     try:
         return call(*arguments)
     except MultihashError as error:
-        return error.status, error.size, error.code, error.taken, str(error)
+        return error.status, error.size, error.code, error.consumed, str(error)
 
 
 class Named(Multihash):
@@ -295,7 +295,9 @@ class Values(unittest.TestCase):
         for again in copies(value):
             self.assertEqual((type(again), again, again.more, again.slot), (Sha256, Multihash(18, b"abc"), "kept", 3))
         for again in copies(error):
-            self.assertEqual((type(again), again.more, again.args, again.taken), (type(error), "kept", error.args, 3))
+            self.assertEqual(
+                (type(again), again.more, again.args, again.consumed), (type(error), "kept", error.args, 3)
+            )
 
     def test_hexadecimal(self):
         """A text has digits and white space; a subclass makes its own values, if it has the parameters."""

@@ -79,8 +79,8 @@ class Readers(unittest.TestCase):
             part = Mock(side_effect=lambda size: memoryview(file.read(min(size, most))))
             reader = kind(SimpleNamespace(read=part))
             for number, item in enumerate(items):
-                self.assertEqual((reader.count, reader.taken), (number, len(b"".join(encodings[:number]))))
-                self.assertEqual((reader.read(), reader.rest, file.tell()), (item, b"", reader.taken))
+                self.assertEqual((reader.count, reader.consumed), (number, len(b"".join(encodings[:number]))))
+                self.assertEqual((reader.read(), reader.rest, file.tell()), (item, b"", reader.consumed))
             self.assertEqual((reader.read(), reader.read(), reader.count), (None, None, len(items)))
             self.assertLess(part.call_count, 40 if most == 500 else 999)
             self.assertEqual(list(kind(io.BytesIO(b"".join(encodings)))), items)
@@ -98,7 +98,7 @@ class Readers(unittest.TestCase):
                     found += [] if item is None else [item]
                 except (BlockingIOError, MultihashError) as error:
                     self.assertIs(getattr(error, "is_incomplete", None), None if fails != b"" else True)
-                    self.assertEqual(reader.rest, data[reader.taken :][: len(reader.rest)])
+                    self.assertEqual(reader.rest, data[reader.consumed :][: len(reader.rest)])
                     self.assertEqual(kind(io.BytesIO(encodings[1])).read(), items[1])
                     waits += 1
             self.assertEqual((found, waits), (items, len(data) - (len(items) if fails == b"" else 0)))
@@ -116,9 +116,9 @@ class Readers(unittest.TestCase):
                     reader.read()
                 error = raised.exception
                 self.assertEqual(str(error), "frame 2 at offset 3: " + text)
-                taken = len(data.rstrip(b"a"))  # the varint
-                self.assertEqual((error.status, error.size, error.code, error.taken), (status, size, 0, taken))
-                self.assertEqual((reader.count, reader.taken, reader.rest, file.read(4)), (2, 3, data, more))
+                consumed = len(data.rstrip(b"a"))  # the varint
+                self.assertEqual((error.status, error.size, error.code, error.consumed), (status, size, 0, consumed))
+                self.assertEqual((reader.count, reader.consumed, reader.rest, file.read(4)), (2, 3, data, more))
                 more = b""
 
     def test_long_frames(self):
@@ -144,7 +144,7 @@ class Readers(unittest.TestCase):
                 for _ in range(2):
                     self.assertRaisesRegex(ValueError, "failed before", reader.read)
                 reader.__init__(io.BytesIO(data))  # it reads another file
-                self.assertEqual((reader.taken, reader.count, len(list(reader))), (0, 0, 1))
+                self.assertEqual((reader.consumed, reader.count, len(list(reader))), (0, 0, 1))
 
     def test_no_files(self):
         closed = io.BytesIO(b"\0\0")
@@ -152,7 +152,7 @@ class Readers(unittest.TestCase):
         for kind, _, _ in READERS:
             self.assertRaisesRegex(ValueError, "__init__", kind.__new__(kind).read)
             self.assertRaisesRegex(ValueError, "closed file", kind(closed).read)
-            self.assertRaises(AttributeError, setattr, kind(closed), "taken", 2)
+            self.assertRaises(AttributeError, setattr, kind(closed), "consumed", 2)
 
     def test_calls_at_once(self):
         """A call while another one waits is an error, and the other one goes on."""
@@ -183,7 +183,7 @@ class Readers(unittest.TestCase):
             asyncio.run(run(kind))
 
     def test_loops(self):
-        """An error of the file that would end a loop, as an exhausted iterator raises it, is not taken for its end."""
+        """An error of the file that would end a loop, as an exhausted iterator raises it, is not consumed for its end."""
         for error in (StopIteration, StopAsyncIteration):
             reader = vm.MultihashReader(turns(b"\0\0", b"\1", error))
             self.assertEqual(next(reader), Multihash(0, b""))
@@ -224,7 +224,7 @@ class Readers(unittest.TestCase):
         # so does the digest that the file returns
         chunk = type("Chunk", (bytearray,), {"__del__": lambda _: reader.__init__(io.BytesIO(b"\2\1b"))})
         reader.__init__(Mock(read=lambda size: b"\1\1" if size == 2 else chunk(size)))
-        self.assertEqual((reader.read(), reader.taken, reader.count), (Multihash(2, b"b"), 3, 1))
+        self.assertEqual((reader.read(), reader.consumed, reader.count), (Multihash(2, b"b"), 3, 1))
 
     def test_cancelled_calls(self):
         """A call is cancelled at each byte and each step of the loop, before or after more bytes are there."""

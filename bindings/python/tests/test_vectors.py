@@ -40,10 +40,10 @@ def failed(error):
 def decoded(call, *arguments):
     """The result as the list has it, and the number of bytes consumed: `-` where more input can change the result."""
     try:
-        multihash, taken = call(*arguments)
+        multihash, consumed = call(*arguments)
     except MultihashError as error:
-        return failed(error), "-" if error.is_incomplete else str(error.taken)
-    return "pair %d %s" % (multihash.code, multihash.digest.hex() or "-"), str(taken)
+        return failed(error), "-" if error.is_incomplete else str(error.consumed)
+    return "pair %d %s" % (multihash.code, multihash.digest.hex() or "-"), str(consumed)
 
 
 def encoded(call, *arguments):
@@ -65,19 +65,19 @@ class Vectors(unittest.TestCase):
         for most in (1, 500):
             file = io.BytesIO(data)
             reader = vm.MultihashReader(SimpleNamespace(read=lambda size: file.read(min(size, most))), limit)
-            self.assertEqual(decoded(lambda: (reader.read(), reader.taken)), wanted)
+            self.assertEqual(decoded(lambda: (reader.read(), reader.consumed)), wanted)
             self.assertEqual(file.tell(), len(data) if wanted[1] == "-" else int(wanted[1]))
-            self.assertEqual(reader.rest, data[reader.taken : file.tell()])
+            self.assertEqual(reader.rest, data[reader.consumed : file.tell()])
 
     def check(self, row, kind):
-        limit, data, wanted = int(row["S"]), bytes_of(row["input"]), (row["read"], row["read_taken"])
+        limit, data, wanted = int(row["S"]), bytes_of(row["input"]), (row["read"], row["read_consumed"])
         self.assertEqual(decoded(vm.read, kind(data), limit), wanted)
         if data:
             self.check_file(data, limit, wanted)
         if is_for_all(row["read"], limit):
             self.assertEqual(decoded(lambda: (vm.decode(kind(data)), 0))[0], row["from_bytes"])
         if is_for_all(row["scale_decode"], limit):
-            self.assertEqual(decoded(vm.scale_decode, kind(data)), (row["scale_decode"], row["scale_taken"]))
+            self.assertEqual(decoded(vm.scale_decode, kind(data)), (row["scale_decode"], row["scale_consumed"]))
 
     def test_verdicts(self):
         """Each input is in one kind of buffer."""
@@ -126,11 +126,11 @@ class Many(unittest.TestCase):
         pairs = [(row % 300, bytes(row % 5 or row % 256)) for row in range(3000)]
         for kind, count, more in itertools.product(KINDS, (0, 128, 3000), ERRORS):
             data = kind(b"".join(itertools.starmap(vm.encode, pairs[:count])) + more)
-            codes, offsets, lengths, taken, error = vm.read_many(data)
+            codes, offsets, lengths, consumed, error = vm.read_many(data)
             found = [(code, bytes(data[at : at + size])) for code, at, size in zip(codes, offsets, lengths)]
-            self.assertEqual((found, taken), (pairs[:count], len(data) - len(more)))
-            self.assertEqual(error and (error.status, error.taken), ERRORS[more])
-        self.assertEqual(vm.read_many(array("H", [0, 0, 0x101])).taken, 4)
+            self.assertEqual((found, consumed), (pairs[:count], len(data) - len(more)))
+            self.assertEqual(error and (error.status, error.consumed), ERRORS[more])
+        self.assertEqual(vm.read_many(array("H", [0, 0, 0x101])).consumed, 4)
 
     def test_columns(self):
         data = bytearray(vm.encode(1 << 62, b"abc") + vm.encode(2, b""))
@@ -154,4 +154,4 @@ class Many(unittest.TestCase):
 
         with patch("verified_multihash._core.read_many", changes):
             found = vm.read_many(data)
-        self.assertEqual((found.taken, found.error.status, found.error.taken), (2, Status.NOT_MINIMAL, 2))
+        self.assertEqual((found.consumed, found.error.status, found.error.consumed), (2, Status.NOT_MINIMAL, 2))

@@ -42,7 +42,7 @@ match multihash:
     case Multihash(0x12, digest):
         assert_type(digest, bytes)
 
-error: ValueError = vm.MultihashError(status=4, size=256, code=0, taken=2, text="")
+error: ValueError = vm.MultihashError(status=4, size=256, code=0, consumed=2, text="")
 if isinstance(error, vm.MultihashError):
     assert_type((error.status, error.is_incomplete, error.size), tuple[Status, bool, int])
 

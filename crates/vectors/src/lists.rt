@@ -118,14 +118,14 @@ fn is_incomplete<const S: usize>(found: &Result<Multihash<S>, Error>) -> bool {
 fn put_reading<const S: usize>(
     page: &mut Page,
     found: &Result<Multihash<S>, Error>,
-    taken: usize,
+    consumed: usize,
     truncated_len: usize,
 ) {
     put_verdict(page, found);
-    if is_incomplete(found) && taken == truncated_len {
+    if is_incomplete(found) && consumed == truncated_len {
         page.put("\t-");
     } else {
-        page.put(format_args!("\t{taken}"));
+        page.put(format_args!("\t{consumed}"));
     }
 }
 
@@ -135,8 +135,8 @@ fn put_readings<const S: usize>(page: &mut Page, encoding: Encoding, input: &[u8
 {
     let mut left = input;
     let found = encoding.read::<S, _>(&mut left);
-    let taken = input.len().saturating_sub(left.len());
-    put_reading(page, &found, taken, encoding.truncated_len(input));
+    let consumed = input.len().saturating_sub(left.len());
+    put_reading(page, &found, consumed, encoding.truncated_len(input));
     page.result("");
     for most in 1..8 {
         let mut cuts = Cuts::new(input, most);
@@ -150,7 +150,7 @@ fn put_readings<const S: usize>(page: &mut Page, encoding: Encoding, input: &[u8
         page.result(format_args!(" or by {most} bytes "));
     }
     if !is_incomplete(&found) {
-        put_determined::<S>(page, encoding, input.get(..taken).unwrap_or(&[]));
+        put_determined::<S>(page, encoding, input.get(..consumed).unwrap_or(&[]));
     }
 }
 

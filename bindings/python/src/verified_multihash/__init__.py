@@ -49,15 +49,15 @@ class Columns(NamedTuple):
     """What `read_many` decoded. Item i of each column belongs to multihash i, from 0 on.
 
     `codes` has the codes. The digest is `data[offsets[i] : offsets[i] + lengths[i]]`, if `data` is of bytes.
-    `taken` is the number of bytes consumed: those of all multihashes in the columns.
-    `error` is why the bytes from `taken` on are no multihash, with a `taken` of its own from there on, or None if there
+    `consumed` is the number of bytes consumed: those of all multihashes in the columns.
+    `error` is why the bytes from `consumed` on are no multihash, with a `consumed` of its own from there on, or None if there
     are none.
     """
 
     codes: memoryview
     offsets: memoryview
     lengths: memoryview
-    taken: int
+    consumed: int
     error: MultihashError | None
 
 
@@ -72,7 +72,7 @@ def read_many(data: Buffer) -> Columns:
     `data` must be contiguous. No digest is copied, and no object is made for a multihash: the columns are memoryviews,
     which other packages use without a copy. No MultihashError is raised: `error` of the columns has it.
     """
-    items, taken, rest = _core.read_many(data)  # of the rest, the bytes that an error depends on
+    items, consumed, rest = _core.read_many(data)  # of the rest, the bytes that an error depends on
     error = None
     if rest:
         try:
@@ -83,4 +83,4 @@ def read_many(data: Buffer) -> Columns:
     size = struct.calcsize("N")  # an item of the C library is a code, in eight bytes, and two numbers of this size
     codes, numbers = bytes_of_items.cast("q"), bytes_of_items.cast("q" if size == 8 else "i")
     first, step = 8 // size, 8 // size + 2
-    return Columns(codes[:: step // first], numbers[first::step], numbers[first + 1 :: step], taken, error)
+    return Columns(codes[:: step // first], numbers[first::step], numbers[first + 1 :: step], consumed, error)

@@ -49,7 +49,7 @@ class Reader(Generic[_Item]):
     def rest(self) -> bytes:
         """The bytes read so far of the next multihash or frame."""
     @property
-    def taken(self) -> int:
+    def consumed(self) -> int:
         """The number of bytes of the multihashes or frames returned so far."""
     @property
     def count(self) -> int:

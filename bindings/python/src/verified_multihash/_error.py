@@ -14,22 +14,22 @@ class MultihashError(ValueError):
     `status` is the kind of the error, a Status.
     `size` is the invalid size: the length of the digest or the number of trailing bytes, otherwise 0.
     `code` is the invalid code, otherwise 0.
-    `taken` is the number of bytes that were consumed.
+    `consumed` is the number of bytes that were consumed.
     """
 
     __module__ = "verified_multihash"  # where pickled values find it
-    __slots__ = ("status", "size", "taken")
+    __slots__ = ("status", "size", "consumed")
     code = 0  # no slot: pydantic 1 takes a `code` of the class for a text, unless it is false
 
-    def __init__(self, status: int, size: int = 0, code: int = 0, taken: int = 0, text: str = "") -> None:
+    def __init__(self, status: int, size: int = 0, code: int = 0, consumed: int = 0, text: str = "") -> None:
         self.status = Status(status)
         if self.status is Status.OK:
             raise ValueError("OK is the status of no error")
         self.size = size
-        self.taken = taken
+        self.consumed = consumed
         if code:
             self.code = code
-        super().__init__(self.status, size, code, taken, text)
+        super().__init__(self.status, size, code, consumed, text)
 
     @property
     def is_incomplete(self) -> bool:
@@ -38,8 +38,8 @@ class MultihashError(ValueError):
         return self.status in INCOMPLETE
 
     def __repr__(self) -> str:
-        size, code, taken = map(_shown, (self.size, self.code, self.taken))
-        return f"{type(self).__name__}({self.status!r}, {size}, {code}, {taken}, {str(self)!r})"
+        size, code, consumed = map(_shown, (self.size, self.code, self.consumed))
+        return f"{type(self).__name__}({self.status!r}, {size}, {code}, {consumed}, {str(self)!r})"
 
     def __str__(self) -> str:
         """Returns the text, or else that of the C library. If `args` was replaced, returns what a ValueError does."""

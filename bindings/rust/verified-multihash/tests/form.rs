@@ -168,27 +168,27 @@ fn check_prefixes<T: Form + PartialEq + Debug>(value: &T, bytes: &[u8]) {
 fn check_input<T: Form + PartialEq + Debug>(input: &[u8], before: &[u8], draw: &mut Draw) -> bool {
     let (mut rest, mut counted) = (input, Position::new(slow(input)));
     let (found, slowly) = (read::<T, _>(&mut rest), read::<T, _>(&mut counted));
-    let taken = counted.offset as usize;
-    assert_eq!((text(&found), counted.inner.0), (text(&slowly), &input[taken..]));
+    let consumed = counted.offset as usize;
+    assert_eq!((text(&found), counted.inner.0), (text(&slowly), &input[consumed..]));
     let error = match found {
         Ok(found) => {
-            assert_eq!(to_bytes(&found).expect("memory"), input[..taken]);
-            assert_eq!((&found, rest), (&slowly.expect("the same"), &input[taken..]));
+            assert_eq!(to_bytes(&found).expect("memory"), input[..consumed]);
+            assert_eq!((&found, rest), (&slowly.expect("the same"), &input[consumed..]));
             return false;
         }
         Err(error) => error,
     };
     let located = first_error::<T>(&[before, input].concat()).expect("an error");
-    assert_eq!((located.item, located.start, located.offset), (1, before.len(), before.len() + taken));
+    assert_eq!((located.item, located.start, located.offset), (1, before.len(), before.len() + consumed));
     assert_eq!(format!("{:?}", located.error), format!("{error:?}"));
     if error.is_incomplete() {
-        assert_eq!(taken, input.len());
+        assert_eq!(consumed, input.len());
         return false;
     }
-    assert!(taken > 0 && rest == &input[taken..]);
-    assert!(read::<T, _>(&mut slow(&input[..taken - 1])).expect_err("a prefix").is_incomplete());
+    assert!(consumed > 0 && rest == &input[consumed..]);
+    assert!(read::<T, _>(&mut slow(&input[..consumed - 1])).expect_err("a prefix").is_incomplete());
     for more in [vec![], draw.bytes(9)] {
-        let other = [&input[..taken], &more].concat();
+        let other = [&input[..consumed], &more].concat();
         let mut other = slow(&other);
         assert_eq!((text(&read::<T, _>(&mut other)), other.0), (format!("{error:?}"), &more[..]));
     }

@@ -51,9 +51,9 @@ impl Read for Slow<'_> {
     }
 }
 
-/// What is read and decoded from an input. A call consumes `taken` bytes, or all if more can change the result.
-fn check<const S: usize>(input: &[u8], [read, taken, whole, scale, scale_taken]: [&str; 5]) {
-    let count = taken.parse().unwrap_or(input.len());
+/// What is read and decoded from an input. A call consumes `consumed` bytes, or all if more can change the result.
+fn check<const S: usize>(input: &[u8], [read, consumed, whole, scale, scale_consumed]: [&str; 5]) {
+    let count = consumed.parse().unwrap_or(input.len());
     let (mut rest, mut slow) = (input, Slow(input));
     let found = Multihash::<S>::read(&mut rest);
     check_result(&found, read);
@@ -63,7 +63,7 @@ fn check<const S: usize>(input: &[u8], [read, taken, whole, scale, scale_taken]:
     assert!(rest.len() == slow.0.len() || read == "unexpected_eof");
     match &found {
         Ok(multihash) => check_found(multihash, &input[..count]),
-        Err(error) => assert_eq!(error.is_incomplete(), taken == "-"),
+        Err(error) => assert_eq!(error.is_incomplete(), consumed == "-"),
     }
     match Multihash::<S>::read_next(input).transpose() {
         Some(next) => check_result(&next, read),
@@ -76,7 +76,7 @@ fn check<const S: usize>(input: &[u8], [read, taken, whole, scale, scale_taken]:
     }
     let mut rest = input;
     check_result(&Multihash::<S>::scale_decode(&mut rest), scale);
-    assert!(scale_taken == "-" || scale_taken.parse() == Ok(input.len() - rest.len()));
+    assert!(scale_consumed == "-" || scale_consumed.parse() == Ok(input.len() - rest.len()));
 }
 
 /// The bytes are decoded, and converted, as their text is. The text of a value is that of its encoding.
@@ -230,8 +230,8 @@ fn check_line<const S: usize>(columns: &[&str]) {
             check_value::<S>(code.parse().expect("a code"), &bytes_of(digest), encoding, scale);
         }
         ["message", call, _, input, _, message] => check_message::<S>(call, &bytes_of(input), message),
-        [_, input, read, taken, whole, scale, scale_taken, ..] => {
-            check::<S>(&bytes_of(input), [read, taken, whole, scale, scale_taken]);
+        [_, input, read, consumed, whole, scale, scale_consumed, ..] => {
+            check::<S>(&bytes_of(input), [read, consumed, whole, scale, scale_consumed]);
         }
         _ => panic!("a column is missing"),
     }
