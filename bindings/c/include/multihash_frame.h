@@ -33,7 +33,7 @@ typedef struct multihash_frame {
  * Errors:  MULTIHASH_FRAME_END if the stream ends before the frame; MULTIHASH_INSUFFICIENT if it ends inside the varint;
  *          MULTIHASH_UNEXPECTED_EOF if it ends after the varint: then `out` has what was read; MULTIHASH_OVERFLOW,
  *          MULTIHASH_NOT_MINIMAL; MULTIHASH_NO_ROOM with the size that `out` needs in `length`. A stream that fails
- *          seems to end: ferror tells that of a file. */
+ *          seems to end: for a file, ferror distinguishes that. */
 static inline multihash_frame multihash_read_frame(multihash_stream_read *reader, void *stream, uint8_t *out,
                                                    size_t out_length)
 {
