@@ -9,12 +9,8 @@ library.
                                           README.md shows; of a new one only what they are computed from is needed
     crates/vectors/verdicts.py --draw SEED COUNT
                                           prints that many lines of stored inputs that are changed at random
-    crates/vectors/verdicts.py --more SEED COUNT
-                                          prints the stored lines, of values too, these, one of each first two
-                                          bytes, and as many pairs of multihashes, how they compare, and encodings
 
 No input is there twice with one capacity."""
-import itertools
 import random
 import re
 import sys
@@ -136,12 +132,6 @@ def drawn(stored: str, seed: int, count: int) -> Iterator[str]:
         yield RULES.line(int(size), made)
 
 
-def of_two_bytes() -> Iterator[str]:
-    """Makes a line of each first two bytes, which up to two others follow."""
-    for first, second in itertools.product(range(256), repeat=2):
-        yield RULES.line(LONGEST_DIGEST, bytes((first, second, first % 3, 7))[: 2 + (first + second) % 3])
-
-
 def varint(number: int) -> bytes:
     """Encodes a number."""
     return bytes([number]) if number < 128 else bytes([number % 128 + 128]) + varint(number // 128)
@@ -185,29 +175,6 @@ def values_of(stored: str) -> str:
     return "\n".join(["\t".join(VALUE_COLUMNS), *map(line_of, stored.splitlines()[1:]), ""])
 
 
-def pairs(stored: str, seed: int, count: int) -> Iterator[str]:
-    """Makes pairs of multihashes that are equal, or differ in a bit or in the length, and both encodings of one."""
-    sizes, draw = [int(size) for size, _ in inputs_of(stored)], random.Random(seed)
-    for _ in range(count):
-        code, length = draw.getrandbits(draw.randint(1, BITS)), draw.randint(1, draw.choice((64, LONGEST_DIGEST)))
-        number = draw.getrandbits(8 * length)
-        digest, other = (each.to_bytes(length, "big") for each in (number, number ^ 1 << draw.randrange(8 * length)))
-        for data in encodings(code, digest):
-            yield RULES.line(draw.choice(sizes), data + draw.choice((b"", other)))
-        others = (code, digest), (code ^ 1 << draw.randrange(BITS), digest), (code, other), (code, digest[1:])
-        left, right = draw.sample([(code, digest), draw.choice(others)], 2)
-        yield order(*left, *right)
-
-
-def more(stored: str, seed: int, count: int) -> Iterator[str]:
-    """Makes a list of the stored lines and of each other kind."""
-    yield from stored.splitlines()
-    yield from VALUES.read_text("utf-8").splitlines()[1:]
-    yield from itertools.islice(drawn(stored, seed, count), 1, None)
-    yield from of_two_bytes()
-    yield from pairs(stored, seed, count)
-
-
 def made_of(stored: str) -> str:
     """Makes the list of the stored inputs."""
     inputs = inputs_of(stored)
@@ -244,9 +211,8 @@ def main() -> int:
     match sys.argv[1:]:
         case [] | ["--write"] as words:
             return write_or_compare(lists, bool(words))
-        case ["--draw" | "--more" as word, seed, lines]:
-            make = drawn if word == "--draw" else more
-            sys.stdout.writelines(f"{line}\n" for line in make(STORED.read_text("utf-8"), int(seed), int(lines)))
+        case ["--draw", seed, lines]:
+            sys.stdout.writelines(f"{line}\n" for line in drawn(STORED.read_text("utf-8"), int(seed), int(lines)))
             return 0
     print(__doc__, file=sys.stderr)
     return 2
