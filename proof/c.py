@@ -43,7 +43,7 @@ class Run(Memory):
         return z3.BitVecVal(x, self.unit.width(kind))
 
     def extended(self, x: Value, kind: str) -> Any:
-        """A number of a type in so many bits that nothing overflows."""
+        """A number of a type, in enough bits that nothing overflows."""
         more = WIDE - self.unit.width(kind)
         return z3.SignExt(more, x) if self.unit.is_signed(kind) else z3.ZeroExt(more, x)
 

@@ -43,7 +43,7 @@ def type_of(node: Node) -> str:
 
 
 class Unit:
-    """The functions, structures and constants of a source file, for a machine with sizes of so many bits."""
+    """The functions, structures and constants of a source file, for a machine with sizes of that many bits."""
 
     def __init__(self, source: File, include: File, target: str, word: int):
         for file in (source, include / "multihash.h"):
