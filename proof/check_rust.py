@@ -125,7 +125,7 @@ def errors(package: Path) -> Iterator[str]:
 EDITS = (
     ("proved/varint", "if byte == 0 {", "if false {", "read_after"),
     ("proved/varint", "            return Err(Error::not_minimal());\n", "", "read_after"),
-    ("proved/varint/word", "!low & HIGH_BITS", "low & HIGH_BITS", "read_word"),
+    ("proved/varint/word", "!word & HIGH_BITS", "word & HIGH_BITS", "read_front"),
     ("proved/binary", "return Err(Error::from_size((digest.len() - len) as u64));", "", "from_bytes"),
     ("proved/binary", "write_in_range(self.code(), w)?", "write_in_range(u64::from(self.size()), w)?", "write"),
     ("proved/scale", "size > S", "size >= S", "scale_decode"),
@@ -133,9 +133,9 @@ EDITS = (
     ("form/block", "if len > MAX as u64", "#[cfg(any())]\n        if len > MAX as u64", "read"),
     (
         "proved/varint/word",
-        "if varint >>",
-        '#[cfg_attr(any(unix), cfg(any()), doc = "FORMATS")]\n    if varint >>',
-        "read_word",
+        "if last >=",
+        '#[cfg_attr(any(unix), cfg(any()), doc = "FORMATS")]\n    if last >=',
+        "read_front",
     ),
     ("form/counted", "for _ in 0..count {", "for _ in 0..=count {", "read_items"),
     (

@@ -9,7 +9,7 @@ pub use Rattle.multihash.specs.Fault.{Fault, IsOwnFault, IsUnexpectedEof, Other,
 pub use Rattle.multihash.specs.Multihash.{Fields, pair_of}
 pub use Rattle.multihash.specs.Outcome.{IsErrorOf, IsResultOf}
 pub use Rattle.multihash.specs.Pair.{Pair, FitsBuffer, digest_limit, IsPair}
-pub use Rattle.multihash.specs.Private.{byte_of_data, member_bytes, is_byte, IsFrontWord, BeginsWithContinuation}
+pub use Rattle.multihash.specs.Private.{byte_of_data, member_bytes, is_byte}
 unfoldable pub use Rattle.multihash.specs.Private.{digits_low}
 pub use Rattle.multihash.specs.Reading.{Consumes, ConsumesFewerThan, HasFewerThan, ReadLaws, ReadExactLaws, CountsReaderFailures}
 pub use Rattle.multihash.specs.Refusal.{Refusal, of_io, of_varint, IsIo, IsOutOfMemory, IsInvalidSize, IsFrontError, of_size, of_code, IsEof, IsReaderError, IsVarintError, IsAnyVarintError, IsInvalidCode}

@@ -1,28 +1,16 @@
--- What only contracts of private functions cite: of `word.rt`, the first bytes of an input as one number; of
+-- What only contracts of private functions cite: of `word.rt`, the digits in a word; of
 -- `json.rt`, the bytes that the members of a JSON array are.
-use Rattle.std.specs.Prelude.{◌≡◌, ℕ, zero, suc, ◌+◌, ◌*◌, ◌/◌, ◌%◌, ◌^◌, ◌<◌, ◌≤◌, min, List, take, length, All, [], ◌∷◌, ◌++◌, map}
+use Rattle.std.specs.Prelude.{◌≡◌, ℕ, zero, suc, ◌+◌, ◌*◌, ◌/◌, ◌%◌, ◌^◌, ◌<◌, List, [], ◌∷◌, ◌++◌, map}
 use Rattle.std.specs.Prelude.{Option, Some, None, Bool, nat_lt, is_some, if◌then◌else◌}
 use Rattle.std.proofs.Common.{sym, ap, ◌∙◌, append_assoc, append-nil}
 use Rattle.std.proofs.lemmas.List.{map-append}
 use Rattle.std.proofs.lemmas.List.Elements.{All-nil, All-append}
-use Rattle.multihash.specs.Bytes.{place_value, IsBytes}
-use Rattle.multihash.specs.Varint.{IsContinuation}
+use Rattle.multihash.specs.Bytes.{IsBytes}
 use Rattle.serde_json.specs.Data.{Num, unsigned, negative, float, Data, null, boolean, number, string, array, object}
 use Rattle.serde_json.specs.View.{view}
 use Rattle.serde_json.specs.declared.value.Value.{Value}
 
 -- ---- word.rt
-
--- The word is made of the first sixteen bytes, lowest first.
--- Zeros stand for the bytes that are missing, and that many are there.
-pub record IsFrontWord (bytes : List ℕ) (word present : ℕ) : Type 0 where
-  pub word_is : word ≡ place_value 256 (take 16 bytes)
-  pub present_is : present ≡ min 16 (length bytes)
-
--- at least that many bytes are at the front of the input, all of them continuation bytes
-pub record BeginsWithContinuation (count : ℕ) (bytes : List ℕ) : Type 0 where
-  pub enough : count ≤ length bytes
-  pub all_continuation : All IsContinuation (take count bytes)
 
 -- the low seven bits of each of the lowest n bytes, seven bits apart
 unfoldable pub digits_low : ℕ → ℕ → ℕ

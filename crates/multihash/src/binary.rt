@@ -93,11 +93,7 @@ impl<const S: usize> Multihash<S> {
         let size = len as u8;
         let mut digest = [0; S];
         Self::read_digest(r, size, &mut digest)?;
-        Ok(Multihash {
-            code,
-            digest,
-            size: usize::from(size),
-        })
+        Ok(Self::in_buffer(code, usize::from(size), digest))
     }
 
     /// Reads the multihash whose encoding is the whole of `bytes`: the varint of the code, the varint

@@ -61,10 +61,6 @@ pub fn len(n: u64) -> Result<usize, Error>
     ensures short { IfOk result (λ len. len ≤ max_continuation + 1) }
     ensures err { IfErr result (λ e. IsInvalidCode n e × (varint_limit ≤ n)) }
 {
-    // Most numbers have one byte, so this test comes first.
-    if n < 128 {
-        return Ok(len_in_range(n));
-    }
     if n > MAX {
         return Err(Error::from_code(n));
     }
@@ -110,10 +106,8 @@ pub fn read_front(bytes: &[u8]) -> Result<(u64, &[u8]), Error>
     ensures found { (n : ℕ) (varint rest : List ℕ) → IsVarint n varint → bytes.now ≡ varint ++ rest →
         IsOkAnd result (λ found. (found.0 ≡ n) × (found.1.now ≡ rest)) }
 {
-    match word::read_front(bytes) {
-        Ok((n, len)) => Ok((n, &bytes[len..])),
-        Err(error) => Err(error),
-    }
+    let (n, len) = word::read_front(bytes)?;
+    Ok((n, &bytes[len..]))
 }
 
 // The length of the varint of a number that is known to be in range.

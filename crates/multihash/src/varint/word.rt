@@ -1,22 +1,21 @@
 //! Reads the varint at the front of a slice from one word of 128 bits, with its first bytes.
-ghost use Rattle.std.specs.Prelude.{◌≡◌, ◌<◌, ◌≤◌, ◌+◌, ℕ, List, length, take, drop, Some, IfOk, IfErr};
-ghost use Rattle.multihash.specs.Bytes.{IsBytes, place_value};
-ghost use Rattle.multihash.specs.Varint.{IsVarint};
-ghost use Rattle.multihash.specs.Private.{IsFrontWord, BeginsWithContinuation, digits_low};
+ghost use Rattle.std.specs.Prelude.{◌≡◌, ◌≤◌, take, drop, length, Some, IfOk, IfErr};
+ghost use Rattle.multihash.specs.Bytes.{place_value};
+ghost use Rattle.multihash.specs.Private.{digits_low};
 ghost use Rattle.multihash.specs.Refusal.{IsFrontError};
 ghost use Rattle.multihash.specs.Consuming.{ConsumesVarint};
 
-use super::{LAST_BYTE_LIMIT, MAX_CONTINUATION, MAX_LEN};
+use super::MAX_CONTINUATION;
 use crate::Error;
 
 // The bytes of a word.
 const WORD_LEN: usize = 16;
 
-// The high bit of each byte of half a word.
-const HIGH_BITS: u64 = 0x8080_8080_8080_8080;
+// The high bit of each byte of a word.
+const HIGH_BITS: u128 = 0x8080_8080_8080_8080_8080_8080_8080_8080;
 
 // The bits of a byte that are its digit.
-const DIGIT: u64 = 0x7f;
+const DIGIT: u128 = 0x7f;
 
 // Reads the varint at the front of the bytes: its number and its length.
 #[inline(always)]
@@ -30,94 +29,48 @@ pub(crate) fn read_front(bytes: &[u8]) -> Result<(u64, usize), Error>
     if bytes.len() >= 1 && bytes[0] < 128 {
         return Ok((u64::from(bytes[0]), 1));
     }
-    // Two calls and not one, so that the compiler drops the tests of `present` where it is sixteen.
-    match bytes.first_chunk::<WORD_LEN>() {
-        Some(front) => read_word(u128::from_le_bytes(*front), WORD_LEN),
-        None => read_word(padded_word(bytes), bytes.len()),
+    let word = first_word(bytes);
+    // The index of the first byte that is no continuation byte, as the zero of a missing one is none.
+    let last = ((!word & HIGH_BITS).trailing_zeros() / 8) as usize;
+    if last > MAX_CONTINUATION {
+        return Err(Error::overflow());
     }
+    if last >= bytes.len() {
+        return Err(Error::insufficient());
+    }
+    if bytes[last] == 0 {
+        return Err(Error::not_minimal());
+    }
+    let len = last + 1;
+    Ok((join_digits(word & ((1 << (8 * len)) - 1)), len))
 }
 
-// The word of up to sixteen bytes, with zeros for those that are missing.
-#[cold]
-#[inline(never)]
-fn padded_word(bytes: &[u8]) -> u128
-    requires { length bytes.now ≤ 16 }
-    ensures { result ≡ place_value 256 bytes.now }
+// The first sixteen bytes, the lowest first, with zeros for those that are missing.
+#[inline(always)]
+fn first_word(bytes: &[u8]) -> u128
+    ensures { result ≡ place_value 256 (take 16 bytes.now) }
 {
+    if let Some(front) = bytes.first_chunk::<WORD_LEN>() {
+        return u128::from_le_bytes(*front);
+    }
     let mut front = [0; WORD_LEN];
     front[..bytes.len()].copy_from_slice(bytes);
     u128::from_le_bytes(front)
 }
 
-// Does what `read_front` does, of bytes whose first are in the word.
-#[inline(always)]
-fn read_word(word: u128, present: usize) -> Result<(u64, usize), Error>
-    ensures ok { IfOk result (λ found. (bytes : List ℕ) → IsBytes bytes →
-        IsFrontWord bytes word present →
-        IsVarint found.0 (take found.1 bytes)) }
-    ensures within { IfOk result (λ found. (0 < found.1) × (found.1 ≤ present)) }
-    ensures err { IfErr result (λ e. (bytes : List ℕ) → IsBytes bytes →
-        IsFrontWord bytes word present →
-        IsFrontError bytes e) }
-{
-    let low = (word & 0xffff_ffff_ffff_ffff) as u64;
-    // The highest bit of each byte that is no continuation byte.
-    let stops = !low & HIGH_BITS;
-    if stops == 0 {
-        return read_high(word, present);
-    }
-    // The bits below the first of them: above it `stops - 1` has only bits that `low` lacks.
-    let varint = low & stops.wrapping_sub(1);
-    let continuation_bytes = (stops.trailing_zeros() / 8) as usize;
-    if continuation_bytes >= present {
-        return Err(Error::insufficient());
-    }
-    // At most 56 bits are shifted out.
-    if varint >> (8 * continuation_bytes) == 0 && continuation_bytes > 0 {
-        return Err(Error::not_minimal());
-    }
-    // With the last byte they are at most eight.
-    Ok((join_digits(varint), continuation_bytes + 1))
-}
-
-// Does what `read_word` does, if all bytes of the low half are continuation bytes. That is rare, so it is out of
-// line.
-#[inline(never)]
-fn read_high(word: u128, present: usize) -> Result<(u64, usize), Error>
-    ensures ok { IfOk result (λ found. (bytes : List ℕ) → IsBytes bytes →
-        IsFrontWord bytes word present → BeginsWithContinuation 8 bytes →
-        IsVarint found.0 (take found.1 bytes)) }
-    ensures within { IfOk result (λ found. (0 < found.1) × (found.1 ≤ present)) }
-    ensures err { IfErr result (λ e. (bytes : List ℕ) → IsBytes bytes →
-        IsFrontWord bytes word present → BeginsWithContinuation 8 bytes →
-        IsFrontError bytes e) }
-{
-    let low = (word & 0xffff_ffff_ffff_ffff) as u64;
-    let last = (word >> 64) as u64 & 0xff;
-    if last >= LAST_BYTE_LIMIT as u64 {
-        return Err(Error::overflow());
-    }
-    if present <= MAX_CONTINUATION {
-        return Err(Error::insufficient());
-    }
-    if last == 0 {
-        return Err(Error::not_minimal());
-    }
-    Ok((join_digits(low) | last << (7 * MAX_CONTINUATION), MAX_LEN))
-}
-
-// The number of the low seven bits of each byte of half a word.
+// The number of the low seven bits of each byte of a varint.
 #[inline(always)]
 #[tactic(auto, using(crate::proofs::WordLemmas::digits_joined, std::proofs::lemmas::Nat::and_le_r))]
-fn join_digits(half: u64) -> u64
-    ensures { result ≡ digits_low 8 half }
+fn join_digits(varint: u128) -> u64
+    ensures { result ≡ digits_low 9 varint }
 {
-    (half & DIGIT)
-        + (((half >> 8) & DIGIT) << 7)
-        + (((half >> 16) & DIGIT) << 14)
-        + (((half >> 24) & DIGIT) << 21)
-        + (((half >> 32) & DIGIT) << 28)
-        + (((half >> 40) & DIGIT) << 35)
-        + (((half >> 48) & DIGIT) << 42)
-        + (((half >> 56) & DIGIT) << 49)
+    (varint & DIGIT) as u64
+        + ((((varint >> 8) & DIGIT) as u64) << 7)
+        + ((((varint >> 16) & DIGIT) as u64) << 14)
+        + ((((varint >> 24) & DIGIT) as u64) << 21)
+        + ((((varint >> 32) & DIGIT) as u64) << 28)
+        + ((((varint >> 40) & DIGIT) as u64) << 35)
+        + ((((varint >> 48) & DIGIT) as u64) << 42)
+        + ((((varint >> 56) & DIGIT) as u64) << 49)
+        + ((((varint >> 64) & DIGIT) as u64) << 56)
 }

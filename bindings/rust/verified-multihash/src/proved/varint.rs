@@ -46,10 +46,6 @@ fn encode(n: u64, buffer: &mut [u8; MAX_LEN]) -> &[u8] {
 ///
 /// [`Error::invalid_code`] with the number if it is 2^63 or more.
 pub fn len(n: u64) -> Result<usize, Error> {
-    // Most numbers have one byte, so this test comes first.
-    if n < 128 {
-        return Ok(len_in_range(n));
-    }
     if n > MAX {
         return Err(Error::from_code(n));
     }
@@ -81,10 +77,8 @@ pub fn write<W: Write>(n: u64, w: &mut W) -> Result<usize, Error> {
 /// - [`Error::is_overflow`] if the varint has more than nine bytes, as every number of 2^63 or more needs.
 /// - [`Error::is_not_minimal`] if a varint of more than one byte ends in a zero byte.
 pub fn read_front(bytes: &[u8]) -> Result<(u64, &[u8]), Error> {
-    match word::read_front(bytes) {
-        Ok((n, len)) => Ok((n, &bytes[len..])),
-        Err(error) => Err(error),
-    }
+    let (n, len) = word::read_front(bytes)?;
+    Ok((n, &bytes[len..]))
 }
 
 // The length of the varint of a number that is known to be in range.

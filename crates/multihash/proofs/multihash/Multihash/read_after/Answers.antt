@@ -37,16 +37,13 @@ module _ (S : ℕ) {n size : ℕ} {old : Option (List ℕ)} (one : Option (List 
       (consumed t.consumed t.consumes))
 
   -- the digest was read into the buffer
-  filled : {after : ℕ} (held : ℕ) (buffer : List ℕ) (inside : held ≤ digest_limit S) → held ≡ size → length buffer ≡ S
-      → Consumes two (take size buffer) new → after ≡ between
-      → ReadMeets S old new before after
-      (Ok (record { code = n; size = held; buffer = buffer; in_range = code.1.in_range; fits = inside }))
-  filled held buffer inside sized full last risen =
-      let made : Fields S = record { code = n; size = held; buffer = buffer; in_range = code.1.in_range; fits = inside } in
-      let digest : take held buffer ≡ take size buffer = ap (λ k. take k buffer) sized in
-      read_returned S new made (risen ∙ unrisen)
-      (encoding_of_parts (pair_of made) code.0 len.0 refl (sym (length-take-le held buffer (omega (arith, inside, full)) ∙ sized))
-      (sym digest) code.1 len.1)
+  filled : {after : ℕ} (m : Fields S) (buffer : List ℕ) → pair_of m ≡ record { code = n; digest = take size buffer } → length buffer ≡ S
+      → Consumes two (take size buffer) new → after ≡ between → ReadMeets S old new before after (Ok m)
+  filled m buffer is full last risen =
+      let digest : (pair_of m).digest ≡ take size buffer = ap (λ p. p.digest) is in
+      let long : length (take size buffer) ≡ size = length-take-le size buffer (omega (arith, fits, full)) in
+      read_returned S new m (risen ∙ unrisen)
+      (encoding_of_parts (pair_of m) code.0 len.0 (sym (ap (λ p. p.code) is)) (sym (ap length digest ∙ long)) (sym digest) code.1 len.1)
       (consumed (take size buffer) last)
 
 pub returns-in_err-read_digest : goal.returns-in_err-read_digest
@@ -62,5 +59,5 @@ returns g c a is =
     let len = c.in_ok-len.ensures in
     let digest = c.in_ok-read_digest.ensures in
     let fits = c.is_valid_size.ensures.fits c.if-not-is_valid_size.false in
-    filled g.row.S _ _ (a, is, refl) len.ok fits len.faults c.from.result c.read_digest.new.buffer
-    (omega (arith, c.from.ensures, fits)) c.from.ensures digest.full digest.ok digest.faults
+    filled g.row.S _ _ (a, is, refl) len.ok fits len.faults c.in_buffer.result c.read_digest.new.buffer
+    (rw c.from.ensures at c.in_buffer.ensures) digest.full digest.ok digest.faults
