@@ -3,7 +3,8 @@
 
 ghost use Rattle.std.specs.Prelude.{◌<◌, Some, None, if◌then◌else◌, ◌≡◌, ◌≤◌, ◌+◌, true, false, vec_len, vec_capacity};
 ghost use Rattle.multihash.specs.Fault.{IsOwnFault};
-ghost use Rattle.multihash.specs.Writing.{AppendsAtEnd, AppendsAtEnd-none, AppendsAtEnd-concatenated};
+ghost use Rattle.multihash.specs.Lemmas.{AppendsAtEnd-none, AppendsAtEnd-concatenated};
+ghost use Rattle.multihash.specs.Writing.{AppendsAtEnd};
 
 use multihash::no_std_io::{Error, Read, Write};
 use std::alloc::{AllocError, Global};

@@ -5,6 +5,7 @@ pub mod Encoding
 pub mod Fault
 pub mod Filling
 pub mod Json
+pub mod Lemmas
 pub mod Multihash
 pub mod Outcome
 pub mod Pair

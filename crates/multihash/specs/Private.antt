@@ -1,10 +1,7 @@
 -- What only contracts of private functions cite: of `word.rt`, the digits in a word; of
 -- `json.rt`, the bytes that the members of a JSON array are.
-use Rattle.std.specs.Prelude.{◌≡◌, ℕ, zero, suc, ◌+◌, ◌*◌, ◌/◌, ◌%◌, ◌^◌, ◌<◌, List, [], ◌∷◌, ◌++◌, map}
+use Rattle.std.specs.Prelude.{◌≡◌, ℕ, zero, suc, ◌+◌, ◌*◌, ◌/◌, ◌%◌, ◌^◌, List, [], ◌∷◌, ◌++◌, map}
 use Rattle.std.specs.Prelude.{Option, Some, None, Bool, nat_lt, is_some, if◌then◌else◌}
-use Rattle.std.proofs.Common.{sym, ap, ◌∙◌, append_assoc, append-nil}
-use Rattle.std.proofs.lemmas.List.{map-append}
-use Rattle.std.proofs.lemmas.List.Elements.{All-nil, All-append}
 use Rattle.multihash.specs.Bytes.{IsBytes}
 use Rattle.serde_json.specs.Data.{Num, unsigned, negative, float, Data, null, boolean, number, string, array, object}
 use Rattle.serde_json.specs.View.{view}
@@ -56,18 +53,3 @@ is_byte member = is_some (byte_of_data (view member))
 pub record AppendsMembers (old : List Value) (bytes : List ℕ) (new : List Value) : Type 0 where
   pub following : map view new ≡ map view old ++ map (λ n. number (unsigned n)) bytes
   pub are_bytes : IsBytes bytes
-
--- a list to which no members have been appended
-pub AppendsMembers-none : (a : List Value) → AppendsMembers a [] a
-AppendsMembers-none a =
-    record { following = sym (append-nil (map view a)); are_bytes = All-nil (λ byte. byte < 256) }
-
--- a list to which the members of two lists have been appended
-pub AppendsMembers-concatenated : (a b c : List Value) (x y : List ℕ)
-    → AppendsMembers a x b → AppendsMembers b y c → AppendsMembers a (x ++ y) c
-AppendsMembers-concatenated a b c x y first second = record {
-  following = second.following ∙ ap (λ l. l ++ map (λ n. number (unsigned n)) y) first.following
-      ∙ append_assoc (map view a) (map (λ n. number (unsigned n)) x) (map (λ n. number (unsigned n)) y)
-      ∙ ap (λ l. map view a ++ l) (sym (map-append (λ n. number (unsigned n)) x y));
-  are_bytes = All-append (λ byte. byte < 256) x y first.are_bytes second.are_bytes;
-}

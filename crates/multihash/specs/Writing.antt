@@ -1,11 +1,9 @@
 -- What a writer's call appended, how it failed, and the laws of both calls. The effect of appending: a
 -- shorter slice, or more items of a vector.
-use Rattle.std.specs.Prelude.{◌≡◌, ◌+◌, ◌<◌, ◌≤◌, ℕ, Bool, IsTrue, List, [], ◌⊎◌, length, take, Result, MatchResult, IfOk, OnOk, OnErr}
-use Rattle.std.specs.Prelude.{IsOk, ◌++◌, drop, refl}
+use Rattle.std.specs.Prelude.{◌≡◌, ◌<◌, ◌≤◌, ℕ, Bool, IsTrue, List, [], ◌⊎◌, length, take, Result, MatchResult, IfOk, OnOk, OnErr}
+use Rattle.std.specs.Prelude.{IsOk, ◌++◌, drop}
 use Rattle.multihash.specs.Fault.{Fault, IsWriteZero, IsOutOfMemoryFault, IsOwnFault}
 use Rattle.multihash.specs.Bytes.{IsStrictPrefix}
-use Rattle.std.proofs.Common.{sym, ap, ◌∙◌, arith, append_assoc, append-nil, length-append, length-drop}
-use Rattle.std.proofs.lemmas.List.{drop-drop}
 
 -- the writer counted failures, or it allocates, is out of memory and counted none
 pub record IsWriterFault (allocates : Bool) (before after : ℕ) (e : Fault) : Type 0 where
@@ -60,30 +58,6 @@ pub record AdvancesPast (old bytes new : List ℕ) : Type 0 where
   pub room : length bytes ≤ length old
   pub left : new ≡ drop (length bytes) old
 
--- a slice that has advanced past nothing
-pub AdvancesPast-none : (a : List ℕ) → AdvancesPast a [] a
-AdvancesPast-none a = record { room = omega arith; left = refl }
-
--- a slice that has advanced past two lists
-pub AdvancesPast-concatenated : (a b c x y : List ℕ)
-    → AdvancesPast a x b → AdvancesPast b y c → AdvancesPast a (x ++ y) c
-AdvancesPast-concatenated a b c x y first second =
-    let sum : length (x ++ y) ≡ length x + length y = length-append x y in
-    record {
-      room = omega (arith, sum, length-drop (length x) a, ap length first.left);
-      left = second.left ∙ ap (drop (length y)) first.left ∙ drop-drop (length y) (length x) a
-          ∙ ap (λ n. drop n a) (sym sum);
-    }
-
 -- `new` is `old` and then `bytes`
 abbrev pub AppendsAtEnd : List ℕ → List ℕ → List ℕ → Type 0
 AppendsAtEnd old bytes new = new ≡ old ++ bytes
-
--- a vector to which nothing has been appended
-pub AppendsAtEnd-none : (a : List ℕ) → AppendsAtEnd a [] a
-AppendsAtEnd-none a = sym (append-nil a)
-
--- a vector to which two lists have been appended
-pub AppendsAtEnd-concatenated : (a b c x y : List ℕ)
-    → AppendsAtEnd a x b → AppendsAtEnd b y c → AppendsAtEnd a (x ++ y) c
-AppendsAtEnd-concatenated a b c x y first second = second ∙ ap (λ l. l ++ y) first ∙ append_assoc a x y

@@ -2,7 +2,8 @@
 ghost use Rattle.std.specs.Prelude.{◌≡◌, ◌<◌, ◌≤◌, ◌+◌, vec_len, vec_capacity, Some, Ok, [], ◌++◌, min, length, take, drop, true, false, IfOk, IfErr, OnErr, IsOk, IsErr, ◌↔◌};
 ghost use Rattle.multihash.specs.Fault.{IsOutOfMemoryFault};
 ghost use Rattle.multihash.specs.Reading.{ReadLaws, ReadExactLaws};
-ghost use Rattle.multihash.specs.Writing.{WriteLaws, WriteAllLaws, AdvancesPast, AdvancesPast-none, AdvancesPast-concatenated, AppendsAtEnd, AppendsAtEnd-none, AppendsAtEnd-concatenated};
+ghost use Rattle.multihash.specs.Lemmas.{AdvancesPast-none, AdvancesPast-concatenated, AppendsAtEnd-none, AppendsAtEnd-concatenated};
+ghost use Rattle.multihash.specs.Writing.{WriteLaws, WriteAllLaws, AdvancesPast, AppendsAtEnd};
 
 use super::{Error, Read, Write};
 

@@ -31,7 +31,8 @@ impl<'a> SliceWriter<'a> {
 /// an error, [`Error::is_write_zero`].
 impl Write for SliceWriter<'_> {
     ghost use Rattle.multihash.specs.Writing.{WriteLaws, WriteAllLaws};
-    ghost use Rattle.multihash.specs.Filling.{Fills, IsFilled, Fills-none, Fills-concatenated};
+    ghost use Rattle.multihash.specs.Filling.{Fills, IsFilled};
+    ghost use Rattle.multihash.specs.Lemmas.{Fills-none, Fills-concatenated};
 
     const ALLOCATES: bool = false;
 
