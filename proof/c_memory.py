@@ -85,10 +85,8 @@ class Memory(Path):
             if x is None:
                 raise Rejected(f"uninitialized: {at.variable.name}{'.' + at.member if at.member else ''}")
             return x
-        if at.region.text and z3.is_bv_value(at.offset):
-            return z3.BitVecVal(at.region.text[at.offset.as_long()], 8)
         if at.region.is_output or at.region.text:
-            raise Rejected(f"reads {at.region.name}, or a text at an index that is not known")
+            raise Rejected(f"reads {at.region.name}")
         return self.byte(at.region, at.offset)
 
     def byte(self, region: Region, offset: Any) -> Any:
@@ -114,13 +112,9 @@ class Memory(Path):
             self.moved(pointer, count)
         if not to.region.is_output or source.region.is_output or not z3.is_bv_value(to.offset):
             raise Rejected("unknown: memcpy to an input, from out, or to an index that is not known")
-        if source.region.text and z3.is_bv_value(count):
-            for i in range(count.as_long()):
-                self.store(self.moved(to, i), self.load(self.moved(source, i)))
-        elif z3.is_bv_value(source.offset) and source.offset.as_long() == 0:
-            to.region.copied.append((to.offset.as_long(), source.region.name, count))
-        else:
-            raise Rejected("unknown: memcpy from an index")
+        if source.region.text or not z3.is_bv_value(source.offset) or source.offset.as_long() != 0:
+            raise Rejected("unknown: memcpy from a text or an index")
+        to.region.copied.append((to.offset.as_long(), source.region.name, count))
         return to
 
     def memcmp(self, left: Value, right: Value, count: Value) -> Value:

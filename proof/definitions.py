@@ -10,7 +10,8 @@ from typing import Any, NamedTuple
 import z3
 
 Value = Any  # a number, or a bit vector of z3
-HEADER = (Path(__file__).parents[1] / "bindings/c/include/multihash.h").read_text("utf-8")
+C = Path(__file__).parents[1] / "bindings/c"
+HEADER = (C / "include/multihash.h").read_text("utf-8")
 OK, INSUFFICIENT, OVERFLOW, NOT_MINIMAL, INVALID_SIZE, INVALID_CODE, UNEXPECTED_EOF, NO_ROOM = range(8)
 
 
@@ -245,24 +246,17 @@ def compare(left_code: Any, left_digest_length: Any, right_code: Any, right_dige
     ]
 
 
-# The header alone
+# About the library
 def version() -> Rows:
     return [(True, Result({"": int(re.findall(r"#define MULTIHASH_VERSION_NUMBER (\d+)", HEADER)[0])}))]
 
 
-def texts(status: Any, then: Callable[[bytes], Any]) -> Rows:
-    """The text of each status, which the header alone defines."""
-    found = re.findall(r'(?:case MULTIHASH_\w+|default):\s*return "(.*?)";', HEADER)
-    *rows, other = [then(text.encode()) for text in found]
-    return [*((status == i, row) for i, row in enumerate(rows)), (True, other)]
-
-
 def status_text(status: Any) -> Rows:
-    return texts(status, lambda text: Result({"": text}))
-
-
-def put_status_text(status: Any, out_length: Any) -> Rows:
-    return texts(status, lambda text: written(out_length, [z3.BitVecVal(byte, 8) for byte in text], 0))
+    """The texts are those of the source, in the order of the statuses; the last one is that of other numbers."""
+    source = (C / "src/multihash.c").read_text("utf-8")
+    *texts, other = re.findall(r'(?:case MULTIHASH_\w+|default):\s*return "(.*?)";', source)
+    known = [(status == i, Result({"": text.encode()})) for i, text in enumerate(texts)]
+    return [*known, (True, Result({"": other.encode()}))]
 
 
 def is_incomplete(status: Any) -> Rows:

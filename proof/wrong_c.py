@@ -85,7 +85,6 @@ EDITS = (
     ("compare", "    if (left_digest_length == 0) return 0;", "", "outside left_digest"),
     ("compare", "memcmp(left_digest, right_digest, ", "memcmp(right_digest, left_digest, ", "wrong result: "),
     ("is_incomplete", "status == MULTIHASH_INSUFFICIENT ||", "status == MULTIHASH_OVERFLOW ||", "wrong result: "),
-    ("put_status_text", "while (text[length] != 0)", "while (text[length] != 1)", "outside a text"),
     *(("read_varint", DECLARED, f"    {code}\n{DECLARED}", reason) for code, reason in INSERTED),
     # what another compiler or machine may take otherwise, in other places
     ("scale_decode", CODE, "    const uint64_t code = *(const uint64_t *)bytes;\n", "unknown: the cast BitCast"),

@@ -15,17 +15,18 @@ TOP = Path(__file__).resolve().parents[1]
 DATA = TOP / "crates/vectors/data"
 INCLUDE = TOP / "bindings/c/include"
 HEADER = (INCLUDE / "multihash.h").read_text("utf-8")
+SOURCE = (TOP / "bindings/c/src/multihash.c").read_text("utf-8")
 MESSAGES = (INCLUDE / "multihash_message.h").read_text("utf-8").replace('%" PRIu64 "', "%s").replace('%" PRIu64', '%s"')
 VERSION = re.findall(r'#define MULTIHASH_VERSION "(.*)"', HEADER)[0]
 # The name, the number and what it is the maximum of.
 LIMITS = re.findall(r"#define MULTIHASH_(\w+_MAX) (\d+) +/\* of (.*) \*/", HEADER)
-TEXTS = dict(re.findall(r'case MULTIHASH_(\w+):\s*return (".*");', HEADER))
+TEXTS = dict(re.findall(r'case MULTIHASH_(\w+):\s*return (".*");', SOURCE))
 # The name, the number, the name in lower case, the comment, whose lines begin with asterisks, and the text.
 STATUSES = [
     (name, number, name.lower(), " ".join(comment.replace("\n     *", "").split()), TEXTS[name])
     for comment, name, number in re.findall(r"/\*((?:(?!\*/).)*)\*/\s*MULTIHASH_(\w+) = (\d+)", HEADER, re.S)
 ]
-INCOMPLETE = re.findall(r"status == MULTIHASH_(\w+)", HEADER)
+INCOMPLETE = re.findall(r"status == MULTIHASH_(\w+)", SOURCE)
 # The name of a text, its parameters, the format, and the values for it, which a comma precedes. Each conversion is %s.
 TEXT = r'mh_text_(\w+)\(char \*text, size_t text_size(.*)\)\n{\s*return snprintf\(text, text_size, "([^"]*)"([^;]*)\);'
 LISTS = [line.split("\t") for name in ("hashes.tsv", "codes.tsv") for line in (DATA / name).open(encoding="utf-8")]

@@ -5,8 +5,13 @@
  * library has these functions. This file has no directives of the preprocessor, so PHP and LuaJIT read it as it is.
  *
  * multihash_ffi_X does what multihash_X does, with the same preconditions. It returns the status, and writes the other
- * fields of the result to `result`, in their order, each in eight bytes. multihash_compare and multihash_version return
- * numbers, so call them as they are. */
+ * fields of the result to `result`, in their order, each in eight bytes. The functions that return no struct are called
+ * by their own names. */
+int32_t multihash_compare(uint64_t left_code, const uint8_t *left_digest, size_t left_digest_length,
+                          uint64_t right_code, const uint8_t *right_digest, size_t right_digest_length);
+uint32_t multihash_version(void);
+const char *multihash_status_text(uint32_t status);
+int multihash_is_incomplete(uint32_t status);
 
 /* size, code, digest_offset, digest_length, consumed */
 uint32_t multihash_ffi_from_bytes(const uint8_t *bytes, size_t bytes_length, uint64_t *result);
@@ -48,12 +53,9 @@ uint32_t multihash_ffi_cid_text(const uint8_t *bytes, size_t bytes_length, char 
                                 uint64_t *result);
 
 /* Static strings; the name of an unknown code is a null pointer, and the code of an unknown name is 2^64 - 1. */
-const char *multihash_ffi_status_text(uint32_t status);
 const char *multihash_ffi_cid_status_text(uint32_t status);
 const char *multihash_ffi_name(uint64_t code);
 uint64_t multihash_ffi_code(const char *name);
-
-int multihash_ffi_is_incomplete(uint32_t status);
 
 /* The messages, of at most 128 bytes with the zero byte. `result` are the numbers that an encoder wrote. */
 int multihash_ffi_message(char *text, size_t text_size, const uint8_t *bytes, size_t bytes_length, size_t limit);

@@ -303,14 +303,33 @@ int32_t multihash_compare(uint64_t left_code, const uint8_t *left_digest, size_t
     return order < 0 ? -1 : 1;
 }
 
-multihash_encoded multihash_put_status_text(multihash_status status, uint8_t *out, size_t out_length)
+const char *multihash_status_text(multihash_status status)
 {
-    const char *text = multihash_status_text(status);
-    size_t length = 0;
-    while (text[length] != 0) length++;
-    if (length > out_length) return (multihash_encoded){.status = MULTIHASH_NO_ROOM, .length = length};
-    memcpy(out, text, length);
-    return (multihash_encoded){.status = MULTIHASH_OK, .length = length};
+    switch (status) {
+    case MULTIHASH_OK:
+        return "ok";
+    case MULTIHASH_INSUFFICIENT:
+        return "the input ends before or inside a varint";
+    case MULTIHASH_OVERFLOW:
+        return "a varint has more than nine bytes";
+    case MULTIHASH_NOT_MINIMAL:
+        return "a varint is not minimal: it ends in a zero byte";
+    case MULTIHASH_INVALID_SIZE:
+        return "the digest or the input is too long";
+    case MULTIHASH_INVALID_CODE:
+        return "the code is 2^63 or more";
+    case MULTIHASH_UNEXPECTED_EOF:
+        return "the input ends before the end of the digest";
+    case MULTIHASH_NO_ROOM:
+        return "the buffer is too small";
+    default:
+        return "unknown status";
+    }
+}
+
+int multihash_is_incomplete(multihash_status status)
+{
+    return status == MULTIHASH_INSUFFICIENT || status == MULTIHASH_UNEXPECTED_EOF;
 }
 
 uint32_t multihash_version(void)

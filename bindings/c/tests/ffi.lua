@@ -1,4 +1,4 @@
--- Calls each function of multihash_ffi.h, which do what those of the other headers do; of CIDs over the list cids.tsv.
+-- Calls each function of multihash_ffi.h, which does what that of another header does; for CIDs over the list cids.tsv.
 --
 --   luajit ffi.lua HEADER LIBRARY CIDS
 local ffi = require 'ffi'
@@ -43,8 +43,10 @@ check({0, 0, 12}, C.multihash_ffi_scale_encode(18, 'abc', 3, out, 300, result))
 same(ffi.string(out, 12), SCALE)
 check({7, 0, 12}, C.multihash_ffi_scale_encode(18, 'abc', 3, out, 11, result))
 
-for status = 0, 8 do same(C.multihash_ffi_is_incomplete(status), (status == 1 or status == 6) and 1 or 0) end
-same(ffi.string(C.multihash_ffi_status_text(4)), 'the digest or the input is too long')
+for status = 0, 8 do same(C.multihash_is_incomplete(status), (status == 1 or status == 6) and 1 or 0) end
+same(ffi.string(C.multihash_status_text(4)), 'the digest or the input is too long')
+same(C.multihash_compare(18, 'abc', 3, 18, 'abd', 3), -1)
+same(C.multihash_version(), 10000)
 same(ffi.string(text, C.multihash_ffi_message(text, 128, BINARY, 4, 255)), 'the input ends inside the digest (2 of 3 bytes)')
 same(ffi.string(text, C.multihash_ffi_scale_message(text, 128, SCALE, 11)), 'the input ends inside the digest (2 of 3 bytes)')
 C.multihash_ffi_encode_message(text, 128, C.multihash_ffi_encode(18, out, 300, out, 0, result), result, 18, 0)
