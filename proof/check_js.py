@@ -178,7 +178,7 @@ def functions() -> dict[str, Function]:
     end, rest = Number(at.x + length.x), Number(left.x - at.x)
     is_valid = is_code(bits("code"))
     has_room = z3.Or([z3.And(z3.UGE(bits("room"), i), z3.ULT(bits("code"), 1 << 7 * i)) for i in range(1, 10)])
-    head, read_limit, from_bytes = definitions.head, definitions.read_limit, definitions.from_bytes
+    head, read_limit, from_bytes = definitions.read_head, definitions.read_limit, definitions.from_bytes
     fitting = lambda code, size: definitions.fitting(code, size, Result({"status": OK}))
     scale = lambda code, size: definitions.scale_encode(code, size, 264)
     place = lambda: [code, Array("out", room, at, "output"), at]

@@ -130,7 +130,7 @@ def malformed(consumed: Any = None) -> Rows:
     ]
 
 
-def head(bytes_length: Any) -> TwoVarints:
+def read_head(bytes_length: Any) -> TwoVarints:
     both = Result({"status": OK, "code": CODE, "digest_length": SIZE, "consumed": END})
     return TwoVarints([*malformed(), (True, both)], "bytes", bytes_length)
 
@@ -207,7 +207,7 @@ def encode(code: Any, digest_length: Any, out_length: Any) -> Rows:
     return fitting(code, digest_length, pair)
 
 
-def encoded_len(code: Any, digest_length: Any) -> Rows:
+def encoded_length(code: Any, digest_length: Any) -> Rows:
     size = widened(digest_length)
     counted = encoding(code, size, lambda head: Result({"status": OK, "length": len(head) + size}))
     return fitting(code, digest_length, counted)

@@ -26,7 +26,7 @@ typedef enum stream_result {
 
 /* The number of further bytes that certainly belong to the multihash: an encoding has at least two, and until both varints
  * are complete one more is all that is known. */
-static size_t missing(const stream *from, multihash_head_result head)
+static size_t missing(const stream *from, multihash_head head)
 {
     if (head.status == MULTIHASH_OK) return head.consumed + (size_t)head.digest_length - from->have;
     return from->have == 0 ? 2 : 1;
@@ -39,7 +39,7 @@ static stream_result next_multihash(stream *from, multihash_decoded *found)
     if (from->is_whole) from->have = 0;
     from->is_whole = 0;
     for (;;) {
-        multihash_head_result head = multihash_head(from->bytes, from->have);
+        multihash_head head = multihash_read_head(from->bytes, from->have);
         int is_known = head.status != MULTIHASH_INSUFFICIENT;
         int is_rejected = is_known && (head.status != MULTIHASH_OK || head.digest_length > from->limit);
         if (is_rejected || missing(from, head) == 0) {

@@ -54,7 +54,7 @@ class value : private ordered<value> {
     /* Throws error if the code is 2^63 or more, or the digest too long. */
     value(std::uint64_t code, std::string_view digest) : code_(code)
     {
-        const multihash_encoded result = multihash_encoded_len(code, digest.size());
+        const multihash_encoded result = multihash_encoded_length(code, digest.size());
         if (result.status != MULTIHASH_OK) {
             char message[MULTIHASH_MESSAGE_SIZE];
             multihash_encode_message(message, sizeof message, result, code, 0);
@@ -92,10 +92,10 @@ class value : private ordered<value> {
     {
         char bytes[MULTIHASH_HEAD_MAX + MULTIHASH_DIGEST_MAX];
         std::size_t length = 0;
-        multihash_head_result head = multihash_head(nullptr, 0);
+        multihash_head head = multihash_read_head(nullptr, 0);
         while (head.status == MULTIHASH_INSUFFICIENT && from.get(bytes[length])) {
             length++;
-            head = multihash_head(bytes_of({bytes, length}), length);
+            head = multihash_read_head(bytes_of({bytes, length}), length);
         }
         if (length == 0) return std::nullopt;
         if (head.status == MULTIHASH_OK && head.digest_length <= limit && head.digest_length <= MULTIHASH_DIGEST_MAX) {

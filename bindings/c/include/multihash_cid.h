@@ -248,7 +248,7 @@ static inline multihash_encoded multihash_cid_encode(uint64_t version, uint64_t 
         return made;
     }
     size_t start = version == 0 ? 0 : 1 + varint.length;
-    made = multihash_encoded_len(code, digest_length);
+    made = multihash_encoded_length(code, digest_length);
     if (made.status != MULTIHASH_OK) return made;
     made.length += start;
     if (made.length > out_length) {

@@ -25,13 +25,13 @@ uint32_t multihash_ffi_read_many(const uint8_t *bytes, size_t bytes_length, void
                                  uint64_t *result);
 
 /* code, digest_length, consumed */
-uint32_t multihash_ffi_head(const uint8_t *bytes, size_t bytes_length, uint64_t *result);
+uint32_t multihash_ffi_read_head(const uint8_t *bytes, size_t bytes_length, uint64_t *result);
 
 /* value, length */
 uint32_t multihash_ffi_read_varint(const uint8_t *bytes, size_t bytes_length, uint64_t *result);
 
 /* size, length */
-uint32_t multihash_ffi_encoded_len(uint64_t code, size_t digest_length, uint64_t *result);
+uint32_t multihash_ffi_encoded_length(uint64_t code, size_t digest_length, uint64_t *result);
 uint32_t multihash_ffi_encode(uint64_t code, const uint8_t *digest, size_t digest_length, uint8_t *out,
                               size_t out_length, uint64_t *result);
 uint32_t multihash_ffi_scale_encode(uint64_t code, const uint8_t *digest, size_t digest_length, uint8_t *out,

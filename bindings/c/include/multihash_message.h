@@ -68,8 +68,8 @@ static inline int mh_text_trailing(char *text, size_t text_size, uint64_t count)
                     count == 1 ? "byte follows" : "bytes follow");
 }
 
-/* The message for a malformed varint: `head` is what multihash_head returns for `bytes`, which are not empty. */
-static inline int mh_message_malformed(char *text, size_t text_size, const uint8_t *bytes, multihash_head_result head)
+/* The message for a malformed varint: `head` is what multihash_read_head returns for `bytes`, which are not empty. */
+static inline int mh_message_malformed(char *text, size_t text_size, const uint8_t *bytes, multihash_head head)
 {
     size_t ended = 0; /* the number of varints that end in the bytes consumed: the malformed one, if it is not minimal */
     for (size_t i = 0; i < head.consumed; i++) ended += bytes[i] < 128;
@@ -83,7 +83,7 @@ static inline int mh_message_malformed(char *text, size_t text_size, const uint8
 }
 
 /* Writes why `bytes` is not exactly one multihash with a digest of at most `limit` bytes, after a call of
- * multihash_from_bytes, multihash_from_prefix, multihash_read, multihash_read_limit or multihash_head has failed.
+ * multihash_from_bytes, multihash_from_prefix, multihash_read, multihash_read_limit or multihash_read_head has failed.
  * `limit` is that of multihash_read_limit, and MULTIHASH_DIGEST_MAX for the others. After multihash_read_many has
  * failed, `bytes` is what follows the items.
  *
@@ -99,7 +99,7 @@ static inline int multihash_message(char *text, size_t text_size, const uint8_t 
                                     size_t limit)
 {
     size_t first = bytes_length < MULTIHASH_HEAD_MAX ? bytes_length : MULTIHASH_HEAD_MAX;
-    multihash_head_result head = multihash_head(bytes, first);
+    multihash_head head = multihash_read_head(bytes, first);
     uint64_t most = limit < MULTIHASH_DIGEST_MAX ? limit : MULTIHASH_DIGEST_MAX;
     uint64_t present = bytes_length - head.consumed, length = head.digest_length;
 
@@ -137,8 +137,8 @@ static inline int multihash_scale_message(char *text, size_t text_size, const ui
     return mh_text_truncated(text, text_size, "digest", bytes_length - 9, bytes[8]);
 }
 
-/* Writes why a call of multihash_encode, multihash_scale_encode or multihash_encoded_len has failed: `result` is what it
- * returned for that `code`, and `out_length` is the size of its `out`.
+/* Writes why a call of multihash_encode, multihash_scale_encode or multihash_encoded_length has failed: `result` is what
+ * it returned for that `code`, and `out_length` is the size of its `out`.
  *
  * Returns: the length of the message. */
 static inline int multihash_encode_message(char *text, size_t text_size, multihash_encoded result, uint64_t code,

@@ -82,9 +82,9 @@ multihash_encoded multihash_write_varint(uint64_t value, uint8_t *out, size_t ou
 
 /* ---- Decoding: the head of a multihash is two varints, the code and the digest's length. */
 
-static multihash_head_result get_long_head(const uint8_t *bytes, size_t length)
+static multihash_head get_long_head(const uint8_t *bytes, size_t length)
 {
-    multihash_head_result head = {0};
+    multihash_head head = {0};
     uint64_t code, digest_length;
     size_t consumed;
     head.status = get_varint(bytes, length, &code, &head.consumed);
@@ -98,13 +98,13 @@ static multihash_head_result get_long_head(const uint8_t *bytes, size_t length)
 }
 
 /* Reads the head at the start of the bytes. Most have two varints of one byte. */
-static inline multihash_head_result get_head(const uint8_t *bytes, size_t length)
+static inline multihash_head get_head(const uint8_t *bytes, size_t length)
 {
     if (length < 2 || bytes[0] >= 0x80 || bytes[1] >= 0x80) return get_long_head(bytes, length);
-    return (multihash_head_result){.status = MULTIHASH_OK, .code = bytes[0], .digest_length = bytes[1], .consumed = 2};
+    return (multihash_head){.status = MULTIHASH_OK, .code = bytes[0], .digest_length = bytes[1], .consumed = 2};
 }
 
-multihash_head_result multihash_head(const uint8_t *bytes, size_t bytes_length)
+multihash_head multihash_read_head(const uint8_t *bytes, size_t bytes_length)
 {
     return get_head(bytes, bytes_length);
 }
@@ -117,7 +117,7 @@ static inline multihash_decoded failed(multihash_status status, uint64_t size, s
 /* Decodes the multihash that is an input of `whole_length` bytes, of which the first `length` are there. */
 static inline multihash_decoded decode_whole(const uint8_t *bytes, size_t length, size_t whole_length)
 {
-    const multihash_head_result head = get_head(bytes, length);
+    const multihash_head head = get_head(bytes, length);
     if (head.status != MULTIHASH_OK) return failed(head.status, 0, whole_length);
     if (head.digest_length > MULTIHASH_DIGEST_MAX) {
         return failed(MULTIHASH_INVALID_SIZE, head.digest_length, whole_length);
@@ -145,7 +145,7 @@ multihash_decoded multihash_from_prefix(const uint8_t *prefix, size_t prefix_len
 /* Decodes the multihash at the start of the bytes, with a digest of at most `limit` bytes. */
 static inline multihash_decoded decode_start(const uint8_t *bytes, size_t length, size_t limit)
 {
-    const multihash_head_result head = get_head(bytes, length);
+    const multihash_head head = get_head(bytes, length);
     if (head.status != MULTIHASH_OK) return failed(head.status, 0, head.consumed);
     if (head.digest_length > limit || head.digest_length > MULTIHASH_DIGEST_MAX) {
         return failed(MULTIHASH_INVALID_SIZE, head.digest_length, head.consumed);
@@ -213,7 +213,7 @@ static inline void put_digest(uint8_t *out, const uint8_t *digest, size_t digest
     }
 }
 
-multihash_encoded multihash_encoded_len(uint64_t code, size_t digest_length)
+multihash_encoded multihash_encoded_length(uint64_t code, size_t digest_length)
 {
     return encoded_length(code, digest_length);
 }

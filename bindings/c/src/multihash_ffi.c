@@ -33,7 +33,7 @@ static uint32_t batch(multihash_batch from, uint64_t *result)
     return put(from.status, result, from.size, from.count);
 }
 
-static uint32_t head(multihash_head_result from, uint64_t *result)
+static uint32_t head(multihash_head from, uint64_t *result)
 {
     result[2] = from.consumed;
     return put(from.status, result, from.code, from.digest_length);
@@ -76,12 +76,12 @@ MH_FFI(uint32_t, scale_decode, (const uint8_t *bytes, size_t bytes_length, uint6
        decoded(multihash_scale_decode(bytes, bytes_length), result))
 MH_FFI(uint32_t, read_many, (const uint8_t *bytes, size_t bytes_length, void *out, size_t out_length, uint64_t *result),
        batch(multihash_read_many(bytes, bytes_length, out, out_length), result))
-MH_FFI(uint32_t, head, (const uint8_t *bytes, size_t bytes_length, uint64_t *result),
-       head(multihash_head(bytes, bytes_length), result))
+MH_FFI(uint32_t, read_head, (const uint8_t *bytes, size_t bytes_length, uint64_t *result),
+       head(multihash_read_head(bytes, bytes_length), result))
 MH_FFI(uint32_t, read_varint, (const uint8_t *bytes, size_t bytes_length, uint64_t *result),
        varint(multihash_read_varint(bytes, bytes_length), result))
-MH_FFI(uint32_t, encoded_len, (uint64_t code, size_t digest_length, uint64_t *result),
-       encoded(multihash_encoded_len(code, digest_length), result))
+MH_FFI(uint32_t, encoded_length, (uint64_t code, size_t digest_length, uint64_t *result),
+       encoded(multihash_encoded_length(code, digest_length), result))
 MH_FFI(uint32_t, encode,
        (uint64_t code, const uint8_t *digest, size_t digest_length, uint8_t *out, size_t out_length, uint64_t *result),
        encoded(multihash_encode(code, digest, digest_length, out, out_length), result))

@@ -128,7 +128,7 @@ static void check_messages(void)
     check_encode(multihash_encode(18, digest, 32, out, 10), 18, 10, "the buffer has 10 bytes, and 34 are needed");
     check_encode(multihash_scale_encode(18, digest, 32, out, 1), 18, 1, "the buffer has 1 byte, and 41 are needed");
     check_encode(multihash_encode(0, NULL, 0, NULL, 0), 0, 0, "the buffer has 0 bytes, and 2 are needed");
-    check_encode(multihash_encoded_len(0, 0), 0, 0, "ok");
+    check_encode(multihash_encoded_length(0, 0), 0, 0, "ok");
 
     check_message_is(multihash_message(message, sizeof message, digest, 1000, any), "998 bytes follow the multihash");
     CHECK(multihash_message(message, short_size, ok, 0, any) == 18 && strcmp(message, "the") == 0);

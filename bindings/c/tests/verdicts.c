@@ -63,7 +63,7 @@ static void check_encoding(encoder encode, uint64_t code, const uint8_t *digest,
 static void check_accepted(const uint8_t *input, size_t length, multihash_decoded result)
 {
     multihash_item item;
-    multihash_head_result head = multihash_head(input, length);
+    multihash_head head = multihash_read_head(input, length);
     multihash_varint code = multihash_read_varint(input, length);
     multihash_batch batch = multihash_read_many(input, length, &item, 1);
     const size_t start = result.digest_offset;
@@ -72,7 +72,7 @@ static void check_accepted(const uint8_t *input, size_t length, multihash_decode
     CHECK(code.status == MULTIHASH_OK && code.value == result.code && code.length < start);
     CHECK(batch.status == MULTIHASH_OK && batch.size == 0 && batch.count == 1 && batch.consumed == result.consumed);
     CHECK(item.code == result.code && item.digest_offset == start && item.digest_length == result.digest_length);
-    CHECK(multihash_encoded_len(result.code, result.digest_length).length == result.consumed);
+    CHECK(multihash_encoded_length(result.code, result.digest_length).length == result.consumed);
     check_encoding(multihash_encode, result.code, input + start, result.digest_length, input, result.consumed);
 }
 
@@ -124,7 +124,7 @@ static void check_encoded(encoder encode, uint64_t code, const uint8_t *digest, 
     CHECK(sscanf(column, "%31s %" SCNu64, word, &number) == 2);
     check_word(result.status, word);
     CHECK(number == (result.status == MULTIHASH_INVALID_SIZE ? result.size : code) && result.length == 0);
-    CHECK(multihash_encoded_len(code, length).status == result.status && out[0] == 0);
+    CHECK(multihash_encoded_length(code, length).status == result.status && out[0] == 0);
 }
 
 /* A limit, a code, a digest, and both encodings. The encoders have the limit 255: lines that only a smaller one rejects

@@ -143,7 +143,7 @@ static PyObject *head(PyObject *module, PyObject *data)
     input from;
     PyObject *result;
     if (get_input(data, "data", MULTIHASH_HEAD_MAX, &from) < 0) return NULL;
-    multihash_head_result found = multihash_head(from.bytes, from.length);
+    multihash_head found = multihash_read_head(from.bytes, from.length);
     if (found.status == MULTIHASH_OK) {
         unsigned long long code = found.code, length = found.digest_length;
         result = Py_BuildValue("KKn", code, length, (Py_ssize_t)found.consumed);
@@ -217,7 +217,7 @@ static PyObject *encoded(PyObject *module, encoder *function, const char *format
     if (get_pair(code, bytes, &number, &digest) < 0) return NULL;
     /* What is longer was not copied whole. */
     multihash_encoded made = digest.whole > MULTIHASH_DIGEST_MAX
-                                 ? multihash_encoded_len(number, digest.whole)
+                                 ? multihash_encoded_length(number, digest.whole)
                                  : function(number, digest.bytes, digest.whole, out, sizeof out);
     Py_DECREF(digest.owner);
     if (made.status == MULTIHASH_OK) return PyBytes_FromStringAndSize((const char *)out, (Py_ssize_t)made.length);
@@ -242,7 +242,7 @@ static PyObject *encoded_len(PyObject *module, PyObject *const *given, Py_ssize_
     size_t size;
     if (get_arguments(given, count, named, "OO:encoded_len", names, &code, &length) < 0) return NULL;
     if (get_number(code, "code", &number) < 0 || get_size(length, "digest_length", &size) < 0) return NULL;
-    multihash_encoded made = multihash_encoded_len(number, size);
+    multihash_encoded made = multihash_encoded_length(number, size);
     if (made.status == MULTIHASH_OK) return PyLong_FromSize_t(made.length);
     return encoding_error(PyModule_GetState(module), made.status, Py_NewRef(length), code);
 }

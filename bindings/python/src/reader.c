@@ -15,7 +15,7 @@ typedef struct reader_object {
     size_t kept;    /* and of its body */
     unsigned long long consumed; /* bytes of the items that were returned */
     unsigned long long count; /* of these items */
-    multihash_head_result head;     /* of `bytes`, as far as it is known; a frame has no code */
+    multihash_head head;      /* of `bytes`, as far as it is known; a frame has no code */
     int is_framed;            /* whether it reads frames */
     char has_lost;            /* whether the file may have lost bytes */
     uint8_t bytes[MULTIHASH_HEAD_MAX];
@@ -86,17 +86,17 @@ static void reader_dealloc(PyObject *self)
 static void read_head(reader_object *reader)
 {
     if (!reader->is_framed) {
-        reader->head = multihash_head(reader->bytes, reader->length);
+        reader->head = multihash_read_head(reader->bytes, reader->length);
     } else {
         multihash_varint varint = multihash_read_varint(reader->bytes, reader->length);
-        reader->head = (multihash_head_result){.status = varint.status, .digest_length = varint.value};
+        reader->head = (multihash_head){.status = varint.status, .digest_length = varint.value};
     }
 }
 
 /* The number of bytes that the file is asked for next, or 0 if the next item is there or rejected. */
 static size_t missing(reader_object *reader)
 {
-    multihash_head_result *head = &reader->head;
+    multihash_head *head = &reader->head;
     if (reader->length == 0) return reader->is_framed ? 1 : 2; /* no head is shorter */
     if (head->status == MULTIHASH_INSUFFICIENT) read_head(reader);
     if (head->status == MULTIHASH_INSUFFICIENT) return 1;
@@ -217,7 +217,7 @@ static PyObject *body_of(const reader_object *reader)
 /* The next item, which is dropped, or None if nothing of one was read. After an error it stays, for `rest`. */
 static PyObject *take(reader_object *reader)
 {
-    const multihash_head_result *head = &reader->head;
+    const multihash_head *head = &reader->head;
     if (reader->length == 0) Py_RETURN_NONE;
     if (head->status != MULTIHASH_OK || reader->kept < head->digest_length) {
         return reader->is_framed ? frame_error(reader) : multihash_error(reader);

@@ -28,7 +28,7 @@ static PyObject *multihash_new(PyTypeObject *type, PyObject *given, PyObject *na
     input digest;
     if (!PyArg_ParseTupleAndKeywords(given, named, "OO:Multihash", names, &code, &bytes)) return NULL;
     if (get_pair(code, bytes, &number, &digest) < 0) return NULL;
-    multihash_status status = multihash_encoded_len(number, digest.whole).status;
+    multihash_status status = multihash_encoded_length(number, digest.whole).status;
     if (status == MULTIHASH_OK) return new_multihash(type, number, digest.owner);
     Py_DECREF(digest.owner);
     return encoding_error(state_of(type), status, PyLong_FromSize_t(digest.whole), code);
