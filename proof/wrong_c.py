@@ -7,7 +7,7 @@ BEFORE = "multihash_varint multihash_read_varint(const uint8_t *bytes, size_t by
 VERSION = "uint32_t multihash_version(void)\n{\n    return MULTIHASH_VERSION_NUMBER;"
 CODE = "    const uint64_t code = get_u64(bytes);\n"  # in multihash_scale_decode
 PUT_CODE = "    put_u64(out, code);\n"  # in multihash_scale_encode
-PUT_DIGEST = "    put_digest(out + 9, digest, digest_length);\n"
+PUT_DIGEST = "    if (digest_length > 0) memcpy(out + 9, digest, digest_length);\n"
 ROOM = "    if (length > out_length) return (multihash_encoded){.status = MULTIHASH_NO_ROOM, .length = length};\n"
 ROOM_FOR_VARINT = ROOM + "    put_varint(out, value);\n"
 MANY = "    while (count < out_length && consumed < bytes_length) {\n"
@@ -81,7 +81,7 @@ EDITS = (
     ("scale_encode", PUT_CODE, PUT_CODE + PUT_CODE, "unknown: writes out twice"),
     ("scale_encode", PUT_CODE, "    if (out_length > 300) out[300] = 0;\n" + PUT_CODE, "wrong result: the indices"),
     ("scale_encode", PUT_DIGEST, "", "wrong result: number of digest bytes"),
-    ("encode", "else if (digest_length > 0) {", "else {", "outside digest"),
+    ("encode", "if (digest_length > 0) memcpy(out, digest", "memcpy(out, digest", "outside digest"),
     ("compare", "    if (left_digest_length == 0) return 0;", "", "outside left_digest"),
     ("compare", "memcmp(left_digest, right_digest, ", "memcmp(right_digest, left_digest, ", "wrong result: "),
     ("is_incomplete", "status == MULTIHASH_INSUFFICIENT ||", "status == MULTIHASH_OVERFLOW ||", "wrong result: "),

