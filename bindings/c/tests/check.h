@@ -32,9 +32,20 @@ static inline uint8_t *copy_of(const uint8_t *bytes, size_t length)
     return copy;
 }
 
+/* Checks that a status is that of a word of the lists in crates/vectors/data. Its number is part of the ABI. */
+static inline void check_word(multihash_status status, const char *word)
+{
+    static const char *const words[] = {"pair",         "insufficient", "overflow",      "not_minimal",
+                                        "invalid_size", "invalid_code", "unexpected_eof"};
+    static const char *const cid_words[] = {"unknown_base",  "invalid_digit", "too_long",
+                                            "trailing_bits", "wrong_prefix",  "unknown_version"};
+    CHECK(status < 7 || (status >= 16 && status < 22));
+    CHECK(strcmp(status < 7 ? words[status] : cid_words[status - 16], word) == 0);
+    CHECK(multihash_is_incomplete(status) == (status == 1 || status == 6));
+}
+
 /* verdicts.c */
 size_t parse_hex(const char *text, uint8_t *to, size_t places);
-void check_word(multihash_status status, const char *word);
 void check_line(char *line);
 
 /* cid.c */

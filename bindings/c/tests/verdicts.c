@@ -18,16 +18,6 @@ size_t parse_hex(const char *text, uint8_t *to, size_t places)
     return length;
 }
 
-/* Each word of the lists is that of one status, from the first line on that has it. */
-void check_word(multihash_status status, const char *word)
-{
-    static char words[32][32] = {"pair"};
-    CHECK(status < 32);
-    CHECK(multihash_is_incomplete(status) == (strcmp(word, "insufficient") == 0 || strcmp(word, "unexpected_eof") == 0));
-    if (words[status][0] == '\0') snprintf(words[status], sizeof words[status], "%s", word);
-    for (size_t i = 0; i < 32; i++) CHECK((strcmp(words[i], word) == 0) == (i == status));
-}
-
 /* Compares a result with its column: a word, a number and a digest. Where there is none the fields are 0. */
 static void check_result(multihash_decoded result, const uint8_t *input, const char *column, const char *consumed)
 {
