@@ -100,12 +100,14 @@ examples() {
 # Objects for machines without a C library, and for macOS and MSVC's mode of Clang without their headers. All that they
 # need are the functions that the page names, and what linkers make.
 freestanding() {
-  local target
+  local target file
   for target in arm64-apple-macos11 wasm32-unknown-unknown thumbv7em-none-eabi riscv32-unknown-elf \
     x86_64-pc-windows-msvc; do
-    clang --target=$target $strict -O2 -ffreestanding -nostdlibinc -I "$c/include" -c "$c/src/multihash.c" -o "$work/free.o"
-    llvm-nm --undefined-only -j "$work/free.o" | sed -E 's/^_*//; /^stack_(chk_fail|chk_guard|pointer)$/d' | sort |
-      comm -23 - <(printf "%s\n" aeabi_memclr8 memcmp memcpy memset) | diff /dev/null -
+    for file in multihash multihash_cid multihash_frame; do
+      clang --target=$target $strict -O2 -ffreestanding -nostdlibinc -I "$c/include" -c "$c/src/$file.c" -o "$work/free.o"
+      llvm-nm --undefined-only -j "$work/free.o" | sed -E 's/^_*//; /^(multihash_|stack_(chk_fail|chk_guard|pointer)$)/d' |
+        sort | comm -23 - <(printf "%s\n" aeabi_memclr8 memcmp memcpy memset) | diff /dev/null -
+    done
   done
 }
 

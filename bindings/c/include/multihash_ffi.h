@@ -11,6 +11,7 @@ int32_t multihash_compare(uint64_t left_code, const uint8_t *left_digest, size_t
                           uint64_t right_code, const uint8_t *right_digest, size_t right_digest_length);
 uint32_t multihash_version(void);
 const char *multihash_status_text(uint32_t status);
+const char *multihash_cid_status_text(uint32_t status);
 int multihash_is_incomplete(uint32_t status);
 
 /* size, code, digest_offset, digest_length, consumed */
@@ -53,7 +54,6 @@ uint32_t multihash_ffi_cid_text(const uint8_t *bytes, size_t bytes_length, char 
                                 uint64_t *result);
 
 /* Static strings; the name of an unknown code is a null pointer, and the code of an unknown name is 2^64 - 1. */
-const char *multihash_ffi_cid_status_text(uint32_t status);
 const char *multihash_ffi_name(uint64_t code);
 uint64_t multihash_ffi_code(const char *name);
 

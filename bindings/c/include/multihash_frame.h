@@ -2,7 +2,7 @@
  * Copyright (c) 2026 The Gilmekhus developers */
 
 /* Frames of a stream: a varint, and then as many bytes, such as a section of a CAR file or a message of libp2p. The
- * function is defined in the header, over multihash.h. It needs no C library, and allocates nothing. */
+ * function is in multihash_frame.c. It needs no C library, and allocates nothing. */
 #ifndef MULTIHASH_FRAME_H
 #define MULTIHASH_FRAME_H
 
@@ -34,30 +34,7 @@ typedef struct multihash_frame {
  *          MULTIHASH_UNEXPECTED_EOF if it ends after the varint: then `out` has what was read; MULTIHASH_OVERFLOW,
  *          MULTIHASH_NOT_MINIMAL; MULTIHASH_NO_ROOM with the size that `out` needs in `length`. A stream that fails
  *          seems to end: for a file, ferror distinguishes that. */
-static inline multihash_frame multihash_read_frame(multihash_stream_read *reader, void *stream, uint8_t *out,
-                                                   size_t out_length)
-{
-    uint8_t bytes[MULTIHASH_VARINT_LENGTH_MAX];
-    multihash_frame frame = {MULTIHASH_FRAME_END, 0, 0};
-
-    do {
-        if (reader(stream, bytes + frame.consumed, 1) == 0) return frame;
-        frame.consumed++;
-        multihash_varint varint = multihash_read_varint(bytes, frame.consumed);
-        frame.status = varint.status;
-        frame.length = varint.value;
-    } while (frame.status == MULTIHASH_INSUFFICIENT);
-    if (frame.status != MULTIHASH_OK) return frame;
-    if (frame.length > out_length) {
-        frame.status = MULTIHASH_NO_ROOM;
-        return frame;
-    }
-    size_t length = frame.length & SIZE_MAX; /* fits; a cast would be old-style in C++ */
-    size_t got = reader(stream, out, length);
-    frame.consumed += got;
-    if (got < length) frame.status = MULTIHASH_UNEXPECTED_EOF;
-    return frame;
-}
+multihash_frame multihash_read_frame(multihash_stream_read *reader, void *stream, uint8_t *out, size_t out_length);
 
 #ifdef __cplusplus
 }

@@ -106,7 +106,6 @@ MH_FFI(uint32_t, cid_text,
        (const uint8_t *bytes, size_t bytes_length, char base, char *out, size_t out_length, uint64_t *result),
        encoded(multihash_cid_text(bytes, bytes_length, base, out, out_length), result))
 
-MH_FFI(const char *, cid_status_text, (uint32_t status), multihash_cid_status_text(status))
 MH_FFI(const char *, name, (uint64_t code), multihash_name(code))
 MH_FFI(uint64_t, code, (const char *name), multihash_code(name))
 MH_FFI(int, message, (char *text, size_t text_size, const uint8_t *bytes, size_t bytes_length, size_t limit),

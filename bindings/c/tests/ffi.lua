@@ -94,6 +94,6 @@ for line in io.lines(cids) do
   end
 end
 same(found > 0, true)
-same(ffi.string(C.multihash_ffi_cid_status_text(21)), 'the version is unknown')
-same(ffi.string(C.multihash_ffi_cid_status_text(C.multihash_ffi_cid_parse('', 0, bytes, 276, result))),
+same(ffi.string(C.multihash_cid_status_text(21)), 'the version is unknown')
+same(ffi.string(C.multihash_cid_status_text(C.multihash_ffi_cid_parse('', 0, bytes, 276, result))),
   'the input is empty, or ends before or inside a varint')
