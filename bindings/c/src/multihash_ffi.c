@@ -1,16 +1,19 @@
 /* SPDX-License-Identifier: MIT
  * Copyright (c) 2026 The Gilmekhus developers */
 
-/* The functions of multihash_ffi.h: what the other headers define inline, and results through a pointer, as symbols of
- * the shared library. A program in C or C++ needs none of them. */
+/* The functions of multihash_ffi.h, for the shared library: those of the other headers that return a struct or are defined
+ * inline. A program in C or C++ needs none of them. */
 #include "multihash_cid.h"
 #include "multihash_message.h"
 #include "multihash_names.h"
 
 #include "multihash_ffi.h"
 
-/* Defines a function: its type, its name, its parameters, and what it returns. */
-#define MH_FFI(type, name, parameters, ...) type multihash_ffi_##name parameters { return __VA_ARGS__; }
+/* Defines the function multihash_ffi_NAME of a type, with these parameters, which returns that value. The functions differ
+ * in nothing else. */
+#define MH_FFI(type, name, parameters, value) type multihash_ffi_##name parameters { return value; }
+
+/* Each function put_X stores the fields of a struct of the type multihash_X, and returns its status. */
 
 static uint32_t put(uint32_t status, uint64_t *result, uint64_t first, uint64_t second)
 {
@@ -19,7 +22,7 @@ static uint32_t put(uint32_t status, uint64_t *result, uint64_t first, uint64_t 
     return status;
 }
 
-static uint32_t decoded(multihash_decoded from, uint64_t *result)
+static uint32_t put_decoded(multihash_decoded from, uint64_t *result)
 {
     result[2] = from.digest_offset;
     result[3] = from.digest_length;
@@ -27,24 +30,24 @@ static uint32_t decoded(multihash_decoded from, uint64_t *result)
     return put(from.status, result, from.size, from.code);
 }
 
-static uint32_t batch(multihash_batch from, uint64_t *result)
+static uint32_t put_batch(multihash_batch from, uint64_t *result)
 {
     result[2] = from.consumed;
     return put(from.status, result, from.size, from.count);
 }
 
-static uint32_t head(multihash_head from, uint64_t *result)
+static uint32_t put_head(multihash_head from, uint64_t *result)
 {
     result[2] = from.consumed;
     return put(from.status, result, from.code, from.digest_length);
 }
 
-static uint32_t varint(multihash_varint from, uint64_t *result)
+static uint32_t put_varint(multihash_varint from, uint64_t *result)
 {
     return put(from.status, result, from.value, from.length);
 }
 
-static uint32_t cid(multihash_cid from, uint64_t *result)
+static uint32_t put_cid(multihash_cid from, uint64_t *result)
 {
     result[2] = from.code;
     result[3] = from.multihash_offset;
@@ -54,7 +57,7 @@ static uint32_t cid(multihash_cid from, uint64_t *result)
     return put(from.status, result, from.version, from.codec);
 }
 
-static uint32_t encoded(multihash_encoded from, uint64_t *result)
+static uint32_t put_encoded(multihash_encoded from, uint64_t *result)
 {
     return put(from.status, result, from.size, from.length);
 }
@@ -65,46 +68,46 @@ static multihash_encoded encoded_of(uint32_t status, const uint64_t *result)
 }
 
 MH_FFI(uint32_t, from_bytes, (const uint8_t *bytes, size_t bytes_length, uint64_t *result),
-       decoded(multihash_from_bytes(bytes, bytes_length), result))
+       put_decoded(multihash_from_bytes(bytes, bytes_length), result))
 MH_FFI(uint32_t, from_prefix, (const uint8_t *prefix, size_t prefix_length, size_t whole_length, uint64_t *result),
-       decoded(multihash_from_prefix(prefix, prefix_length, whole_length), result))
+       put_decoded(multihash_from_prefix(prefix, prefix_length, whole_length), result))
 MH_FFI(uint32_t, read, (const uint8_t *bytes, size_t bytes_length, uint64_t *result),
-       decoded(multihash_read(bytes, bytes_length), result))
+       put_decoded(multihash_read(bytes, bytes_length), result))
 MH_FFI(uint32_t, read_limit, (const uint8_t *bytes, size_t bytes_length, size_t limit, uint64_t *result),
-       decoded(multihash_read_limit(bytes, bytes_length, limit), result))
+       put_decoded(multihash_read_limit(bytes, bytes_length, limit), result))
 MH_FFI(uint32_t, scale_decode, (const uint8_t *bytes, size_t bytes_length, uint64_t *result),
-       decoded(multihash_scale_decode(bytes, bytes_length), result))
+       put_decoded(multihash_scale_decode(bytes, bytes_length), result))
 MH_FFI(uint32_t, read_many, (const uint8_t *bytes, size_t bytes_length, void *out, size_t out_length, uint64_t *result),
-       batch(multihash_read_many(bytes, bytes_length, out, out_length), result))
+       put_batch(multihash_read_many(bytes, bytes_length, out, out_length), result))
 MH_FFI(uint32_t, read_head, (const uint8_t *bytes, size_t bytes_length, uint64_t *result),
-       head(multihash_read_head(bytes, bytes_length), result))
+       put_head(multihash_read_head(bytes, bytes_length), result))
 MH_FFI(uint32_t, read_varint, (const uint8_t *bytes, size_t bytes_length, uint64_t *result),
-       varint(multihash_read_varint(bytes, bytes_length), result))
+       put_varint(multihash_read_varint(bytes, bytes_length), result))
 MH_FFI(uint32_t, encoded_length, (uint64_t code, size_t digest_length, uint64_t *result),
-       encoded(multihash_encoded_length(code, digest_length), result))
+       put_encoded(multihash_encoded_length(code, digest_length), result))
 MH_FFI(uint32_t, encode,
        (uint64_t code, const uint8_t *digest, size_t digest_length, uint8_t *out, size_t out_length, uint64_t *result),
-       encoded(multihash_encode(code, digest, digest_length, out, out_length), result))
+       put_encoded(multihash_encode(code, digest, digest_length, out, out_length), result))
 MH_FFI(uint32_t, scale_encode,
        (uint64_t code, const uint8_t *digest, size_t digest_length, uint8_t *out, size_t out_length, uint64_t *result),
-       encoded(multihash_scale_encode(code, digest, digest_length, out, out_length), result))
+       put_encoded(multihash_scale_encode(code, digest, digest_length, out, out_length), result))
 MH_FFI(uint32_t, write_varint, (uint64_t value, uint8_t *out, size_t out_length, uint64_t *result),
-       encoded(multihash_write_varint(value, out, out_length), result))
+       put_encoded(multihash_write_varint(value, out, out_length), result))
 
 MH_FFI(uint32_t, cid_from_bytes, (const uint8_t *bytes, size_t bytes_length, uint64_t *result),
-       cid(multihash_cid_from_bytes(bytes, bytes_length), result))
+       put_cid(multihash_cid_from_bytes(bytes, bytes_length), result))
 MH_FFI(uint32_t, cid_read, (const uint8_t *bytes, size_t bytes_length, uint64_t *result),
-       cid(multihash_cid_read(bytes, bytes_length), result))
+       put_cid(multihash_cid_read(bytes, bytes_length), result))
 MH_FFI(uint32_t, cid_parse,
        (const char *text, size_t text_length, uint8_t *out, size_t out_length, uint64_t *result),
-       cid(multihash_cid_parse(text, text_length, out, out_length), result))
+       put_cid(multihash_cid_parse(text, text_length, out, out_length), result))
 MH_FFI(uint32_t, cid_encode,
        (uint64_t version, uint64_t codec, uint64_t code, const uint8_t *digest, size_t digest_length, uint8_t *out,
         size_t out_length, uint64_t *result),
-       encoded(multihash_cid_encode(version, codec, code, digest, digest_length, out, out_length), result))
+       put_encoded(multihash_cid_encode(version, codec, code, digest, digest_length, out, out_length), result))
 MH_FFI(uint32_t, cid_text,
        (const uint8_t *bytes, size_t bytes_length, char base, char *out, size_t out_length, uint64_t *result),
-       encoded(multihash_cid_text(bytes, bytes_length, base, out, out_length), result))
+       put_encoded(multihash_cid_text(bytes, bytes_length, base, out, out_length), result))
 
 MH_FFI(const char *, name, (uint64_t code), multihash_name(code))
 MH_FFI(uint64_t, code, (const char *name), multihash_code(name))
