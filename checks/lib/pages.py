@@ -28,7 +28,7 @@ DECLARED = (
     (f"{JS}/README.md", f"{JS}/hashes.d.ts", r"^export (?:function|const) (\w+)"),
     (FORMAT, "crates/multihash/src/error.rt", r"pub fn (\w+)\(&self\)"),
     ("docs/ARCHITECTURE.md", "crates.txt", r"^(\w+)[: ]"),
-    (MAN, "bindings/c/examples/mh_show.c", r"(?:return |fail\()\"([\w ]+)\""),
+    (MAN, "bindings/c/examples/mh_show.c", r"(?:= |fail\()\"([\w ]+)\""),
 )
 # pages, a text of them, in which {} is a version or a limit, and where that is from
 STATED = (

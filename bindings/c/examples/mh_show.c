@@ -51,22 +51,13 @@ static int print_multihash(multihash_decoded found, const uint8_t *digest)
     return fflush(stdout) == 0 && !ferror(stdout);
 }
 
-/* Returns the reason of a failed decoding, in the words of the Rust crate multihash if it has them, as in Rattle. */
-static const char *reason_of(multihash_status status)
-{
-    switch (status) {
-    case MULTIHASH_INSUFFICIENT:
-        return "not enough input bytes";
-    case MULTIHASH_OVERFLOW:
-        return "input bytes exceed maximum";
-    case MULTIHASH_NOT_MINIMAL:
-        return "encoding is not minimal";
-    case MULTIHASH_UNEXPECTED_EOF:
-        return "failed to fill whole buffer";
-    default:
-        return multihash_status_text(status);
-    }
-}
+/* Why a decoding failed, in the words of the Rust crate multihash, since mh_show in Rattle prints these. */
+static const char *const reasons[] = {
+    [MULTIHASH_INSUFFICIENT] = "not enough input bytes",
+    [MULTIHASH_OVERFLOW] = "input bytes exceed maximum",
+    [MULTIHASH_NOT_MINIMAL] = "encoding is not minimal",
+    [MULTIHASH_UNEXPECTED_EOF] = "failed to fill whole buffer",
+};
 
 /* Prints the reason of a failure to standard error. Returns the exit status. */
 static int fail(const char *reason)
@@ -92,6 +83,6 @@ int main(void)
         fprintf(stderr, "mh_show: Invalid multihash size %" PRIu64 ".\n", found.size);
         return 1;
     }
-    if (found.status != MULTIHASH_OK) return fail(reason_of(found.status));
+    if (found.status != MULTIHASH_OK) return fail(reasons[found.status]);
     return print_multihash(found, text + found.digest_offset) ? 0 : fail("output not written");
 }
