@@ -1,5 +1,5 @@
-/* Shows the multihashes of standard input. The reader reads no byte after a multihash, rejects a digest that is too long
- * before it reads it, and continues where a stream was truncated or had to wait. */
+/* Shows the multihashes of standard input. The reader reads no byte after a multihash, rejects a digest that is too
+ * long before it reads it, and continues where a stream was truncated or had to wait. */
 #define _POSIX_C_SOURCE 200809L
 #include "multihash_message.h"
 
@@ -24,8 +24,8 @@ typedef enum stream_result {
     STREAM_FAILED    /* a read failed or has to wait: see `errno` */
 } stream_result;
 
-/* The number of further bytes that certainly belong to the multihash: an encoding has at least two, and until both varints
- * are complete one more is all that is known. */
+/* The number of further bytes that certainly belong to the multihash: an encoding has at least two, and until both
+ * varints are complete one more is all that is known. */
 static size_t missing(const stream *from, multihash_head head)
 {
     if (head.status == MULTIHASH_OK) return head.consumed + (size_t)head.digest_length - from->have;

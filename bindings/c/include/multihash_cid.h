@@ -25,8 +25,8 @@ extern "C" {
 #define MULTIHASH_CID_DAG_JSON 0x129
 
 /* The maximum length of an encoding in bytes, and the size of a buffer for each text with its zero byte. A text has at
- * most MULTIHASH_CID_TEXT_SIZE - 1 characters, in base16. To decode base58 takes time that is quadratic in the length of
- * the text, so a longer text is not decoded. */
+ * most MULTIHASH_CID_TEXT_SIZE - 1 characters, in base16. To decode base58 takes time that is quadratic in the length
+ * of the text, so a longer text is not decoded. */
 #define MULTIHASH_CID_LENGTH_MAX 276
 #define MULTIHASH_CID_TEXT_SIZE 554
 
@@ -49,7 +49,7 @@ enum {
 };
 
 /* A CID in a buffer. At an error the fields but `status` are 0, except that `consumed` is the size that `out` needs at
- * MULTIHASH_NO_ROOM. Padding between the fields is not set. */
+ * MULTIHASH_NO_ROOM. */
 typedef struct multihash_cid {
     multihash_status status;
     uint64_t version;        /* 0 or 1 */
@@ -74,14 +74,14 @@ multihash_cid multihash_cid_from_bytes(const uint8_t *bytes, size_t bytes_length
  * Errors:  as multihash_cid_from_bytes, but of the multihash those of multihash_read. */
 multihash_cid multihash_cid_read(const uint8_t *bytes, size_t bytes_length);
 
-/* Decodes a text of `text_length` characters: b.. (base32), f.. (base16), z.. (base58btc), or Qm.. (version 0). It writes
- * the encoding of the CID to the start of `out`, which has `out_length` bytes: MULTIHASH_CID_LENGTH_MAX suffice.
+/* Decodes a text of `text_length` characters: b.. (base32), f.. (base16), z.. (base58btc), or Qm.. (version 0). It
+ * writes the encoding of the CID to the start of `out`, which has `out_length` bytes: MULTIHASH_CID_LENGTH_MAX suffice.
  *
  * Returns: the CID, whose offsets are in `out`. The rest of `out` is unchanged.
  * Errors:  MULTIHASH_INSUFFICIENT if the text is empty; MULTIHASH_CID_UNKNOWN_BASE, MULTIHASH_CID_INVALID_DIGIT,
  *          MULTIHASH_CID_TOO_LONG, MULTIHASH_CID_TRAILING_BITS, MULTIHASH_CID_WRONG_PREFIX; those of
- *          multihash_cid_from_bytes; MULTIHASH_NO_ROOM with the size that `out` needs in `consumed`. After an error `out`
- *          is unchanged. */
+ *          multihash_cid_from_bytes; MULTIHASH_NO_ROOM with the size that `out` needs in `consumed`. After an error
+ *          `out` is unchanged. */
 multihash_cid multihash_cid_parse(const char *text, size_t text_length, uint8_t *out, size_t out_length);
 
 /* Writes the encoding of a CID to the start of `out`, which has `out_length` bytes. Version 0 has the codec
@@ -94,13 +94,13 @@ multihash_cid multihash_cid_parse(const char *text, size_t text_length, uint8_t 
 multihash_encoded multihash_cid_encode(uint64_t version, uint64_t codec, uint64_t code, const uint8_t *digest,
                                        size_t digest_length, uint8_t *out, size_t out_length);
 
-/* Writes the text of a CID, which is the whole of `bytes`, and a zero byte to the start of `out`, which has `out_length`
- * bytes: MULTIHASH_CID_TEXT_SIZE suffice. `base` is the prefix of the text: 'b' is base32, 'f' base16 and 'z' base58btc.
- * Version 0 has the text Qm.. alone, and its base is 'z'.
+/* Writes the text of a CID, which is the whole of `bytes`, and a zero byte to the start of `out`, which has
+ * `out_length` bytes: MULTIHASH_CID_TEXT_SIZE suffice. `base` is the prefix of the text: 'b' is base32, 'f' base16 and
+ * 'z' base58btc. Version 0 has the text Qm.. alone, and its base is 'z'.
  *
  * Returns: `length`, the number of characters, without the zero byte. The rest of `out` is unchanged.
- * Errors:  MULTIHASH_CID_UNKNOWN_BASE for other bases; those of multihash_cid_from_bytes; MULTIHASH_NO_ROOM with the size
- *          that `out` needs in `length`. After an error `out` is unchanged. */
+ * Errors:  MULTIHASH_CID_UNKNOWN_BASE for other bases; those of multihash_cid_from_bytes; MULTIHASH_NO_ROOM with the
+ *          size that `out` needs in `length`. After an error `out` is unchanged. */
 multihash_encoded multihash_cid_text(const uint8_t *bytes, size_t bytes_length, char base, char *out,
                                      size_t out_length);
 

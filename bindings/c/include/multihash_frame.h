@@ -26,14 +26,14 @@ typedef struct multihash_frame {
     size_t consumed; /* always: the number of bytes read from the stream */
 } multihash_frame;
 
-/* Reads the next frame of a stream by `reader`, and no byte after it. Writes its bytes, without the varint, to the start
- * of `out`, which has `out_length` bytes: a longer frame is rejected before its bytes are read.
+/* Reads the next frame of a stream by `reader`, and no byte after it. Writes its bytes, without the varint, to the
+ * start of `out`, which has `out_length` bytes: a longer frame is rejected before its bytes are read.
  *
  * Returns: the frame's length.
- * Errors:  MULTIHASH_FRAME_END if the stream ends before the frame; MULTIHASH_INSUFFICIENT if it ends inside the varint;
- *          MULTIHASH_UNEXPECTED_EOF if it ends after the varint: then `out` has what was read; MULTIHASH_OVERFLOW,
- *          MULTIHASH_NOT_MINIMAL; MULTIHASH_NO_ROOM with the size that `out` needs in `length`. A stream that fails
- *          seems to end: for a file, ferror distinguishes that. */
+ * Errors:  MULTIHASH_FRAME_END if the stream ends before the frame; MULTIHASH_INSUFFICIENT if it ends inside the
+ *          varint; MULTIHASH_UNEXPECTED_EOF if it ends after the varint: then `out` has what was read;
+ *          MULTIHASH_OVERFLOW, MULTIHASH_NOT_MINIMAL; MULTIHASH_NO_ROOM with the size that `out` needs in `length`. A
+ *          stream that fails seems to end: for a file, ferror distinguishes that. */
 multihash_frame multihash_read_frame(multihash_stream_read *reader, void *stream, uint8_t *out, size_t out_length);
 
 #ifdef __cplusplus

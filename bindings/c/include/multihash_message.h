@@ -71,12 +71,10 @@ static inline int mh_text_trailing(char *text, size_t text_size, uint64_t count)
 /* The message for a malformed varint: `head` is what multihash_read_head returns for `bytes`, which are not empty. */
 static inline int mh_message_malformed(char *text, size_t text_size, const uint8_t *bytes, multihash_head head)
 {
-    size_t ended = 0; /* the number of varints that end in the bytes consumed: the malformed one, if it is not minimal */
-    for (size_t i = 0; i < head.consumed; i++) ended += bytes[i] < 128;
-    int is_minimal = head.status != MULTIHASH_NOT_MINIMAL, is_code = ended == (is_minimal ? 0 : 1);
+    int is_code = multihash_read_varint(bytes, head.consumed).status != MULTIHASH_OK;
     const char *varint = is_code ? "varint of the code" : "varint of the digest's length";
 
-    if (!is_minimal) return mh_text_not_minimal(text, text_size, varint);
+    if (head.status == MULTIHASH_NOT_MINIMAL) return mh_text_not_minimal(text, text_size, varint);
     if (head.status == MULTIHASH_OVERFLOW) return mh_text_overflow(text, text_size, varint);
     const char *place = bytes[head.consumed - 1] < 128 ? "before" : "inside";
     return mh_text_ends(text, text_size, place, is_code ? "code" : "digest's length");
@@ -91,8 +89,8 @@ static inline int mh_message_malformed(char *text, size_t text_size, const uint8
  * multihash_from_prefix may pass the length of the whole input, but then `bytes` has to contain the first
  * MULTIHASH_HEAD_MAX bytes of it, or all of it if it is shorter, even if multihash_from_prefix needed fewer.
  *
- * Call it only after an error: if `bytes` starts with a multihash and more bytes follow, the message reports these, even
- * if multihash_read accepted them.
+ * Call it only after an error: if `bytes` starts with a multihash and more bytes follow, the message reports these,
+ * even if multihash_read accepted them.
  *
  * Returns: the length of the message. */
 static inline int multihash_message(char *text, size_t text_size, const uint8_t *bytes, size_t bytes_length,
@@ -137,8 +135,8 @@ static inline int multihash_scale_message(char *text, size_t text_size, const ui
     return mh_text_truncated(text, text_size, "digest", bytes_length - 9, bytes[8]);
 }
 
-/* Writes why a call of multihash_encode, multihash_scale_encode or multihash_encoded_length has failed: `result` is what
- * it returned for that `code`, and `out_length` is the size of its `out`.
+/* Writes why a call of multihash_encode, multihash_scale_encode or multihash_encoded_length has failed: `result` is
+ * what it returned for that `code`, and `out_length` is the size of its `out`.
  *
  * Returns: the length of the message. */
 static inline int multihash_encode_message(char *text, size_t text_size, multihash_encoded result, uint64_t code,

@@ -23,8 +23,8 @@ int memcmp(const void *, const void *, size_t);
 
 /* ---- Varints: seven bits in each byte, least significant first. All bytes but the last have the bit 0x80. */
 
-/* Reads the varint at the start of the bytes. Its number is valid at MULTIHASH_OK. `consumed` is always set: to the bytes
- * up to and including the one that determines the status, or to all if they end before or inside the varint. */
+/* Reads the varint at the start of the bytes. Its number is valid at MULTIHASH_OK. `consumed` is always set: to the
+ * bytes up to and including the one that determines the status, or to all if they end before or inside the varint. */
 static inline multihash_status get_varint(const uint8_t *bytes, size_t length, uint64_t *number, size_t *consumed)
 {
     *consumed = 0;

@@ -1,16 +1,16 @@
 /* SPDX-License-Identifier: MIT
  * Copyright (c) 2026 The Gilmekhus developers */
 
-/* The functions of multihash_ffi.h, for the shared library: those of the other headers that return a struct or are defined
- * inline. A program in C or C++ needs none of them. */
+/* The functions of multihash_ffi.h, for the shared library: those of the other headers that return a struct or are
+ * defined inline. A program in C or C++ needs none of them. */
 #include "multihash_cid.h"
 #include "multihash_message.h"
 #include "multihash_names.h"
 
 #include "multihash_ffi.h"
 
-/* Defines the function multihash_ffi_NAME of a type, with these parameters, which returns that value. The functions differ
- * in nothing else. */
+/* Defines the function multihash_ffi_NAME of a type, with these parameters, which returns that value. The functions
+ * differ in nothing else. */
 #define MH_FFI(type, name, parameters, value) type multihash_ffi_##name parameters { return value; }
 
 /* Each function put_X stores the fields of a struct of the type multihash_X, and returns its status. */

@@ -1,5 +1,5 @@
-/* Content identifiers: the texts of cids.tsv of crates/vectors, each from and to bytes, into buffers of each size; and what
- * has no encoding. */
+/* Content identifiers: the texts of cids.tsv of crates/vectors, each from and to bytes, into buffers of each size; and
+ * what has no encoding. */
 #include "check.h"
 #include "multihash_cid.h"
 

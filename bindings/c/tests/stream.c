@@ -1,5 +1,5 @@
-/* Calls the reader of the example stream.c over pipes that pause and end at each byte, and continue. C11 on POSIX. Exits
- * with status 1 at the first error. */
+/* Calls the reader of the example stream.c over pipes that pause and end at each byte, and continue. C11 on POSIX.
+ * Exits with status 1 at the first error. */
 int example_main(void);
 #define main example_main /* the example's own main, which is not called */
 #include <stream.c>
@@ -11,7 +11,7 @@ int example_main(void);
 
 /* A stream of multihashes, and where each ends: the last one has a digest of 128 bytes. */
 enum { ITEMS = 4 };
-static uint8_t whole[149] = "\x12\3abc" "\0\0" "\xff\xff\xff\xff\xff\xff\xff\xff\x7f\1z" "\x13\x80\1";
+static uint8_t whole[149] = "\x12\3abc\0\0\xff\xff\xff\xff\xff\xff\xff\xff\x7f\1z\x13\x80\1";
 static const size_t ends[ITEMS + 1] = {0, 5, 7, 18, sizeof whole};
 
 /* Lets a stream read bytes from a pipe, and then wait. Returns the end for writing. */

@@ -1,5 +1,6 @@
 /* The tests of the library: test vectors, varints, names, messages and frames. They are for what compilers make of
- * multihash.c, which `proof` checks for all inputs, and for the other headers. C11. Exits with status 1 at the first error.
+ * multihash.c, which `proof` checks for all inputs, and for the other headers. C11. Exits with status 1 at the first
+ * error.
  *
  *   test LIST..     LIST is a list of crates/vectors/data; one of CIDs has cids in its name */
 #include "check.h"
@@ -67,7 +68,7 @@ static void check_cut_frames(void)
             CHECK(memcmp(out, bytes + from.at - frame.length, (size_t)frame.length) == 0);
         }
         CHECK((count == 3 || cut < ends[count + 1]) && frame.consumed == cut - ends[count]);
-        multihash_status inside = cut == 6 ? MULTIHASH_INSUFFICIENT : MULTIHASH_UNEXPECTED_EOF; /* 5 and 6 are a varint */
+        multihash_status inside = cut == 6 ? MULTIHASH_INSUFFICIENT : MULTIHASH_UNEXPECTED_EOF; /* in the last varint */
         CHECK(frame.status == (cut == ends[count] ? MULTIHASH_FRAME_END : inside));
     }
 }
@@ -114,8 +115,8 @@ static void check_encode(multihash_encoded result, uint64_t code, size_t out_len
     check_message_is(multihash_encode_message(message, sizeof message, result, code, out_length), wanted);
 }
 
-/* Messages that messages.tsv of crates/vectors does not have: of encodings, of a prefix of a longer input, truncated ones,
- * and of what is no error. */
+/* Messages that messages.tsv of crates/vectors does not have: of encodings, of a prefix of a longer input, truncated
+ * ones, and of what is no error. */
 static void check_messages(void)
 {
     static const uint8_t digest[300] = {0}, ok[] = {0, 1, 7};

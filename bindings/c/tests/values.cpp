@@ -1,5 +1,5 @@
-/* The tests of multihash.hpp: values and CIDs of each row of the test vectors. C++17 and C++20. Exits with status 1 at the
- * first error.
+/* The tests of multihash.hpp: values and CIDs of each row of the test vectors. C++17 and C++20. Exits with status 1 at
+ * the first error.
  *
  *   values FOLDER     crates/vectors/data */
 #include "check.h"
