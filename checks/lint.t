@@ -1,6 +1,6 @@
 #!/usr/bin/env bash
-# Checks the scripts of the repository with shellcheck, black, pyflakes, mypy and tsc, and compares the generated files
-# with what tools/generate makes.
+# Checks the scripts of the repository with shellcheck, black, pyflakes, mypy and tsc, and the library for C with
+# clang-format, and compares the generated files with what tools/generate makes.
 # shellcheck source=checks/lib/tap.sh
 . "$(dirname "$0")/lib/tap.sh"
 
@@ -12,6 +12,8 @@ shell=$(scripts '^(#! ?/.*\b(ba)?sh|# shellcheck shell=bash)$')
 python=$({ listed '*.py'; scripts '^#!.*python'; } | sort -u)
 # All but the tests of the package for Python have types.
 typed=$(grep -v '^bindings/python/tests/' <<< "$python")
+
+c=$(listed bindings/c | grep -E '\.([ch]|[ch]pp)$' | grep -v _names) # the names are generated
 
 # Errors of syntax, of names that are unknown or not used, and of code that is not reached: JavaScript states no types.
 names() {
@@ -27,6 +29,7 @@ export MYPY_CACHE_DIR=$work/mypy
   needs=black try black black --check --line-length 120 $python
   needs=pyflakes3 try pyflakes3 pyflakes3 $python
   needs=mypy try mypy mypy --strict --warn-unreachable --scripts-are-modules --ignore-missing-imports $typed
+  needs=clang-format try clang-format clang-format --dry-run -Werror $c
   needs=tsc try names names $(listed '*.js' '*.ts')
 }
 for what in rust contracts vectors tables chart; do try "tools/generate $what" tools/generate "$what" --check; done

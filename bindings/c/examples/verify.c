@@ -27,8 +27,7 @@ static unsigned hash_stream(FILE *from, const EVP_MD *function, uint8_t *digest)
     unsigned length = 0;
     EVP_MD_CTX *context = EVP_MD_CTX_new();
     int is_good = context != NULL && EVP_DigestInit_ex2(context, function, NULL);
-    while (is_good && (got = fread(part, 1, sizeof part, from)) > 0)
-        is_good = EVP_DigestUpdate(context, part, got);
+    while (is_good && (got = fread(part, 1, sizeof part, from)) > 0) is_good = EVP_DigestUpdate(context, part, got);
     is_good = is_good && !ferror(from) && EVP_DigestFinal_ex(context, digest, &length);
     EVP_MD_CTX_free(context);
     return is_good ? length : 0;

@@ -150,8 +150,8 @@ static inline int multihash_encode_message(char *text, size_t text_size, multiha
     case MULTIHASH_INVALID_CODE:
         return mh_text_too_large(text, text_size, "code", code);
     case MULTIHASH_NO_ROOM:
-        return snprintf(text, text_size, "the buffer has %" PRIu64 " byte%s, and %" PRIu64 " are needed",
-                        present, present == 1 ? "" : "s", needed);
+        return snprintf(text, text_size, "the buffer has %" PRIu64 " byte%s, and %" PRIu64 " are needed", present,
+                        present == 1 ? "" : "s", needed);
     default:
         return snprintf(text, text_size, "%s", multihash_status_text(result.status));
     }

@@ -11,7 +11,11 @@
 
 /* Defines the function multihash_ffi_NAME of a type, with these parameters, which returns that value. The functions
  * differ in nothing else. */
-#define MH_FFI(type, name, parameters, value) type multihash_ffi_##name parameters { return value; }
+#define MH_FFI(type, name, parameters, value) \
+    type multihash_ffi_##name parameters      \
+    {                                         \
+        return value;                         \
+    }
 
 /* Each function put_X stores the fields of a struct of the type multihash_X, and returns its status. */
 
@@ -98,8 +102,7 @@ MH_FFI(uint32_t, cid_from_bytes, (const uint8_t *bytes, size_t bytes_length, uin
        put_cid(multihash_cid_from_bytes(bytes, bytes_length), result))
 MH_FFI(uint32_t, cid_read, (const uint8_t *bytes, size_t bytes_length, uint64_t *result),
        put_cid(multihash_cid_read(bytes, bytes_length), result))
-MH_FFI(uint32_t, cid_parse,
-       (const char *text, size_t text_length, uint8_t *out, size_t out_length, uint64_t *result),
+MH_FFI(uint32_t, cid_parse, (const char *text, size_t text_length, uint8_t *out, size_t out_length, uint64_t *result),
        put_cid(multihash_cid_parse(text, text_length, out, out_length), result))
 MH_FFI(uint32_t, cid_encode,
        (uint64_t version, uint64_t codec, uint64_t code, const uint8_t *digest, size_t digest_length, uint8_t *out,

@@ -9,12 +9,12 @@
 #include <string.h>
 
 /* Ends the program if the condition is false. */
-#define CHECK(fact)                                                             \
-    do {                                                                        \
-        if (!(fact)) {                                                          \
-            fprintf(stderr, "%s:%d: not so: %s\n", __FILE__, __LINE__, #fact);  \
-            exit(1);                                                            \
-        }                                                                       \
+#define CHECK(fact)                                                            \
+    do {                                                                       \
+        if (!(fact)) {                                                         \
+            fprintf(stderr, "%s:%d: not so: %s\n", __FILE__, __LINE__, #fact); \
+            exit(1);                                                           \
+        }                                                                      \
     } while (0)
 
 /* Returns zeros in a block of exactly that length, so that sanitizers see an access after its end; null for none. */

@@ -33,7 +33,8 @@ static void check_varints(void)
         multihash_varint found = multihash_read_varint((const uint8_t *)rows[i].bytes, rows[i].length);
         CHECK(found.status == MULTIHASH_OK && found.value == rows[i].value && found.length == rows[i].length);
         multihash_encoded made = multihash_write_varint(rows[i].value, out, sizeof out);
-        CHECK(made.status == MULTIHASH_OK && made.length == rows[i].length && memcmp(out, rows[i].bytes, made.length) == 0);
+        CHECK(made.status == MULTIHASH_OK && made.length == rows[i].length &&
+              memcmp(out, rows[i].bytes, made.length) == 0);
     }
     CHECK(multihash_write_varint((uint64_t)1 << 63, out, sizeof out).status == MULTIHASH_OVERFLOW);
 }
@@ -125,7 +126,8 @@ static void check_messages(void)
     volatile size_t short_size = 4; /* GCC warns of a constant that truncates */
     uint8_t out[10];
     check_encode(multihash_encode(18, digest, 300, out, 10), 18, 10, "the digest has 300 bytes, and the limit is 255");
-    check_encode(multihash_encode(large, digest, 32, out, 10), large, 10, "the code 9223372036854775808 is 2^63 or more");
+    check_encode(multihash_encode(large, digest, 32, out, 10), large, 10,
+                 "the code 9223372036854775808 is 2^63 or more");
     check_encode(multihash_encode(18, digest, 32, out, 10), 18, 10, "the buffer has 10 bytes, and 34 are needed");
     check_encode(multihash_scale_encode(18, digest, 32, out, 1), 18, 1, "the buffer has 1 byte, and 41 are needed");
     check_encode(multihash_encode(0, NULL, 0, NULL, 0), 0, 0, "the buffer has 0 bytes, and 2 are needed");

@@ -46,7 +46,8 @@ static std::string shown(const value &pair, std::string word = "pair ")
 
 static std::string shown(const cid &found)
 {
-    return shown(found.multihash(), "cid " + std::to_string(found.version()) + " " + std::to_string(found.codec()) + " ");
+    return shown(found.multihash(),
+                 "cid " + std::to_string(found.version()) + " " + std::to_string(found.codec()) + " ");
 }
 
 static void check_error(const multihash::error &error, const std::string &column)
