@@ -130,7 +130,6 @@ ONLY='' try "installing" installs
 needs=mandoc try "man pages" mandoc -T lint "$prefix"/share/man/man{3/multihash.3,1/mh_show.1}
 try "projects of CMake" in_projects
 needs="c++ go" try "the page's programs in C++ and Go" page_programs
-needs=luajit try "other languages" luajit "$c/tests/ffi.lua" "$c/include/multihash_ffi.h" \
-  "$work/cc/libmultihash_c.so" crates/vectors/data/cids.tsv
+needs=luajit try "other languages" luajit "$c"/{tests/ffi.lua,include/multihash_ffi.h} "$work/cc/libmultihash_c.so"
 needs=/usr/include/openssl/evp.h try "the examples" examples
 finish

@@ -1,8 +1,8 @@
--- Calls each function of multihash_ffi.h, which does what that of another header does; for CIDs over the list cids.tsv.
+-- Calls each function of multihash_ffi.h, which does what that of another header does.
 --
---   luajit ffi.lua HEADER LIBRARY CIDS
+--   luajit ffi.lua HEADER LIBRARY
 local ffi = require 'ffi'
-local header, library, cids = ...
+local header, library = ...
 ffi.cdef(assert(io.open(header)):read('*a'))
 local C = ffi.load(library)
 local result, text, out = ffi.new('uint64_t[7]'), ffi.new('char[554]'), ffi.new('uint8_t[300]')
@@ -60,40 +60,20 @@ same(C.multihash_ffi_name(1), nil)
 same(C.multihash_ffi_code('sha2-256'), 18ULL)
 same(C.multihash_ffi_code('none'), -1ULL)
 
--- CIDs: each row that has one, from its text and its bytes to the other.
-local function unhex(digits)
-  return (digits:gsub('^-$', ''):gsub('%x%x', function(pair) return string.char(tonumber(pair, 16)) end))
-end
-local bytes, made, found = ffi.new('uint8_t[276]'), ffi.new('uint64_t[2]'), 0
-for line in io.lines(cids) do
-  local of_cid, fields, digest, encoding = line:match('^(%w+)\tcid (%d+ %d+ %d+) (%S+)\t(%x+)$')
-  if of_cid then
-    digest, encoding, found = unhex(digest), unhex(encoding), found + 1
-    local function same_cid(status)
-      same(status, 0)
-      local version, codec, code = tostring(result[0]), tostring(result[1]), tostring(result[2])
-      same((version .. ' ' .. codec .. ' ' .. code):gsub('ULL', ''), fields)
-      same(encoding:sub(tonumber(result[4]) + 1, tonumber(result[4] + result[5])), digest)
-      C.multihash_ffi_encoded_length(result[2], #digest, made)
-      same(tonumber(result[3] + made[1]), #encoding)
-      same(tonumber(result[6]), #encoding)
-    end
-    same_cid(C.multihash_ffi_cid_parse(of_cid, #of_cid, bytes, 276, result))
-    same(ffi.string(bytes, result[6]), encoding)
-    same_cid(C.multihash_ffi_cid_from_bytes(encoding, #encoding, result))
-    same_cid(C.multihash_ffi_cid_read(encoding .. 'd', #encoding + 1, result))
-    local version, codec, code = result[0], result[1], result[2]
-    check({0, 0, #encoding}, C.multihash_ffi_cid_encode(version, codec, code, digest, #digest, bytes, 276, result))
-    same(ffi.string(bytes, #encoding), encoding)
-    local base = version == 0 and 'z' or of_cid:sub(1, 1)
-    check({0, 0, #of_cid}, C.multihash_ffi_cid_text(encoding, #encoding, base:byte(), text, 554, result))
-    same(ffi.string(text), of_cid)
-    same(C.multihash_ffi_cid_parse(of_cid, #of_cid, bytes, 1, result), 7) -- and too little room
-    check({7, 0, #encoding}, C.multihash_ffi_cid_encode(version, codec, code, digest, #digest, bytes, 1, result))
-    check({7, 0, #of_cid + 1}, C.multihash_ffi_cid_text(encoding, #encoding, base:byte(), text, 1, result))
-  end
-end
-same(found > 0, true)
+local CID, TEXT = '\1\85' .. BINARY, 'f01551203616263'
+check({0, 1, 85, 18, 2, 4, 3, 7}, C.multihash_ffi_cid_from_bytes(CID, 7, result))
+check({4}, C.multihash_ffi_cid_from_bytes(CID .. 'd', 8, result))
+check({0, 1, 85, 18, 2, 4, 3, 7}, C.multihash_ffi_cid_read(CID .. 'd', 8, result))
+check({0, 0, 7}, C.multihash_ffi_cid_encode(1, 85, 18, 'abc', 3, out, 7, result))
+same(ffi.string(out, 7), CID)
+check({7, 0, 7}, C.multihash_ffi_cid_encode(1, 85, 18, 'abc', 3, out, 6, result))
+out[0] = 0
+check({0, 1, 85, 18, 2, 4, 3, 7}, C.multihash_ffi_cid_parse(TEXT, #TEXT, out, 7, result))
+same(ffi.string(out, 7), CID)
+check({7, 0, 0, 0, 0, 0, 0, 7}, C.multihash_ffi_cid_parse(TEXT, #TEXT, out, 6, result))
+check({0, 0, #TEXT}, C.multihash_ffi_cid_text(CID, 7, ('f'):byte(), text, #TEXT + 1, result))
+same(ffi.string(text), TEXT)
+check({7, 0, #TEXT + 1}, C.multihash_ffi_cid_text(CID, 7, ('f'):byte(), text, #TEXT, result))
 same(ffi.string(C.multihash_cid_status_text(21)), 'the version is unknown')
-same(ffi.string(C.multihash_cid_status_text(C.multihash_ffi_cid_parse('', 0, bytes, 276, result))),
+same(ffi.string(C.multihash_cid_status_text(C.multihash_ffi_cid_parse('', 0, out, 300, result))),
   'the input is empty, or ends before or inside a varint')
