@@ -10,6 +10,7 @@
 #include "multihash_message.h"
 #include "multihash_names.h"
 
+#include <charconv>
 #include <functional>
 #include <istream>
 #include <optional>
@@ -109,10 +110,14 @@ class value : private ordered<value> {
     /* Decodes a text of hexadecimal digits. Throws error, and std::invalid_argument if the text has anything else. */
     static value from_hex(std::string_view text)
     {
-        std::string bytes;
         if (text.size() % 2 != 0) throw std::invalid_argument("the text has an odd number of digits");
-        for (std::size_t i = 0; i < text.size(); i += 2) {
-            bytes += static_cast<char>(digit_of(text[i]) << 4 | digit_of(text[i + 1]));
+        std::string bytes;
+        for (const char *at = text.data(), *end = at + text.size(); at != end; at += 2) {
+            unsigned byte = 0;
+            if (std::from_chars(at, at + 2, byte, 16).ptr != at + 2) {
+                throw std::invalid_argument("the text has a character that is no digit");
+            }
+            bytes += static_cast<char>(byte);
         }
         return decode(bytes);
     }
@@ -139,10 +144,11 @@ class value : private ordered<value> {
     /* Returns the encoding in hexadecimal. */
     std::string hex() const
     {
+        const char *const digits = "0123456789abcdef";
         std::string text;
         for (const char byte : bytes()) {
-            text += DIGITS[static_cast<unsigned char>(byte) >> 4];
-            text += DIGITS[byte & 15];
+            text += digits[byte >> 4 & 15];
+            text += digits[byte & 15];
         }
         return text;
     }
@@ -157,8 +163,6 @@ class value : private ordered<value> {
   private:
     friend class cid;
 
-    static constexpr std::string_view DIGITS = "0123456789abcdef";
-
     static const std::uint8_t *bytes_of(std::string_view chars) noexcept
     {
         return reinterpret_cast<const std::uint8_t *>(chars.data());
@@ -167,14 +171,6 @@ class value : private ordered<value> {
     static std::string_view chars_of(const std::uint8_t *bytes, std::size_t length) noexcept
     {
         return {reinterpret_cast<const char *>(bytes), length};
-    }
-
-    static unsigned digit_of(char digit)
-    {
-        const bool is_capital = digit >= 'A' && digit <= 'F';
-        const std::size_t number = DIGITS.find(is_capital ? static_cast<char>(digit - 'A' + 'a') : digit);
-        if (number == std::string_view::npos) throw std::invalid_argument("the text has a character that is no digit");
-        return static_cast<unsigned>(number);
     }
 
     [[noreturn]] static void fail(multihash_status status, std::string_view bytes, std::size_t limit)
