@@ -201,24 +201,16 @@ multihash_encoded multihash_cid_text(const uint8_t *bytes, size_t bytes_length, 
 
 const char *multihash_cid_status_text(multihash_status status)
 {
-    switch (status) {
-    case MULTIHASH_INSUFFICIENT:
-        return "the input is empty, or ends before or inside a varint";
-    case MULTIHASH_CID_UNKNOWN_BASE:
-        return "the text must start with b, f, z or Qm";
-    case MULTIHASH_CID_INVALID_DIGIT:
-        return "a character is no digit of the base";
-    case MULTIHASH_CID_TOO_LONG:
-        return "the text is too long";
-    case MULTIHASH_CID_TRAILING_BITS:
-        return "the last digit has bits of no byte";
-    case MULTIHASH_CID_WRONG_PREFIX:
-        return "a CID of version 0 has the text Qm.., and no other has";
-    case MULTIHASH_CID_UNKNOWN_VERSION:
-        return "the version is unknown";
-    case MULTIHASH_CID_NOT_VERSION_0:
-        return "version 0 has the codec 0x70 and a multihash of SHA2-256 with 32 bytes";
-    default:
-        return multihash_status_text(status);
-    }
+    static const char *const texts[] = {
+        [MULTIHASH_INSUFFICIENT] = "the input is empty, or ends before or inside a varint",
+        [MULTIHASH_CID_UNKNOWN_BASE] = "the text must start with b, f, z or Qm",
+        [MULTIHASH_CID_INVALID_DIGIT] = "a character is no digit of the base",
+        [MULTIHASH_CID_TOO_LONG] = "the text is too long",
+        [MULTIHASH_CID_TRAILING_BITS] = "the last digit has bits of no byte",
+        [MULTIHASH_CID_WRONG_PREFIX] = "a CID of version 0 has the text Qm.., and no other has",
+        [MULTIHASH_CID_UNKNOWN_VERSION] = "the version is unknown",
+        [MULTIHASH_CID_NOT_VERSION_0] = "version 0 has the codec 0x70 and a multihash of SHA2-256 with 32 bytes",
+    };
+    const char *text = status < sizeof texts / sizeof texts[0] ? texts[status] : NULL;
+    return text != NULL ? text : multihash_status_text(status);
 }

@@ -8,34 +8,28 @@
 #include "multihash_message.h"
 #include "multihash_names.h"
 
+/* A number, and the bytes of its varint. */
+static void check_varint(uint64_t value, const char *bytes, size_t length)
+{
+    uint8_t out[MULTIHASH_VARINT_LENGTH_MAX];
+    const multihash_varint found = multihash_read_varint((const uint8_t *)bytes, length);
+    CHECK(found.status == MULTIHASH_OK && found.value == value && found.length == length);
+    const multihash_encoded made = multihash_write_varint(value, out, sizeof out);
+    CHECK(made.status == MULTIHASH_OK && made.length == length && memcmp(out, bytes, length) == 0);
+    CHECK(multihash_write_varint(value, out, length - 1).status == MULTIHASH_NO_ROOM);
+}
+
 /* Numbers where a varint gets longer. */
 static void check_varints(void)
 {
-    static const struct {
-        uint64_t value;
-        size_t length;
-        const char *bytes;
-    } rows[] = {
-        {0, 1, "\0"},
-        {127, 1, "\x7f"},
-        {128, 2, "\x80\1"},
-        {255, 2, "\xff\1"},
-        {300, 2, "\xac\2"},
-        {16383, 2, "\xff\x7f"},
-        {16384, 3, "\x80\x80\1"},
-        {2097151, 3, "\xff\xff\x7f"},
-        {2097152, 4, "\x80\x80\x80\1"},
-        {(uint64_t)1 << 56, 9, "\x80\x80\x80\x80\x80\x80\x80\x80\1"},
-        {INT64_MAX, 9, "\xff\xff\xff\xff\xff\xff\xff\xff\x7f"},
-    };
     uint8_t out[MULTIHASH_VARINT_LENGTH_MAX];
-    for (size_t i = 0; i < sizeof rows / sizeof rows[0]; i++) {
-        multihash_varint found = multihash_read_varint((const uint8_t *)rows[i].bytes, rows[i].length);
-        CHECK(found.status == MULTIHASH_OK && found.value == rows[i].value && found.length == rows[i].length);
-        multihash_encoded made = multihash_write_varint(rows[i].value, out, sizeof out);
-        CHECK(made.status == MULTIHASH_OK && made.length == rows[i].length &&
-              memcmp(out, rows[i].bytes, made.length) == 0);
-    }
+    check_varint(0, "\0", 1);
+    check_varint(127, "\x7f", 1);
+    check_varint(128, "\x80\1", 2);
+    check_varint(16383, "\xff\x7f", 2);
+    check_varint(16384, "\x80\x80\1", 3);
+    check_varint((uint64_t)1 << 56, "\x80\x80\x80\x80\x80\x80\x80\x80\1", 9);
+    check_varint(INT64_MAX, "\xff\xff\xff\xff\xff\xff\xff\xff\x7f", 9);
     CHECK(multihash_write_varint((uint64_t)1 << 63, out, sizeof out).status == MULTIHASH_OVERFLOW);
 }
 
