@@ -19,56 +19,56 @@
 
 /* Each function put_X stores the fields of a struct of the type multihash_X, and returns its status. */
 
-static uint32_t put(uint32_t status, uint64_t *result, uint64_t first, uint64_t second)
-{
-    result[0] = first;
-    result[1] = second;
-    return status;
-}
-
 static uint32_t put_decoded(multihash_decoded from, uint64_t *result)
 {
+    result[0] = from.size;
+    result[1] = from.code;
     result[2] = from.digest_offset;
     result[3] = from.digest_length;
     result[4] = from.consumed;
-    return put(from.status, result, from.size, from.code);
+    return from.status;
 }
 
 static uint32_t put_batch(multihash_batch from, uint64_t *result)
 {
+    result[0] = from.size;
+    result[1] = from.count;
     result[2] = from.consumed;
-    return put(from.status, result, from.size, from.count);
+    return from.status;
 }
 
 static uint32_t put_head(multihash_head from, uint64_t *result)
 {
+    result[0] = from.code;
+    result[1] = from.digest_length;
     result[2] = from.consumed;
-    return put(from.status, result, from.code, from.digest_length);
+    return from.status;
 }
 
 static uint32_t put_varint(multihash_varint from, uint64_t *result)
 {
-    return put(from.status, result, from.value, from.length);
+    result[0] = from.value;
+    result[1] = from.length;
+    return from.status;
 }
 
 static uint32_t put_cid(multihash_cid from, uint64_t *result)
 {
+    result[0] = from.version;
+    result[1] = from.codec;
     result[2] = from.code;
     result[3] = from.multihash_offset;
     result[4] = from.digest_offset;
     result[5] = from.digest_length;
     result[6] = from.consumed;
-    return put(from.status, result, from.version, from.codec);
+    return from.status;
 }
 
 static uint32_t put_encoded(multihash_encoded from, uint64_t *result)
 {
-    return put(from.status, result, from.size, from.length);
-}
-
-static multihash_encoded encoded_of(uint32_t status, const uint64_t *result)
-{
-    return (multihash_encoded){.status = status, .size = result[0], .length = (size_t)result[1]};
+    result[0] = from.size;
+    result[1] = from.length;
+    return from.status;
 }
 
 MH_FFI(uint32_t, from_bytes, (const uint8_t *bytes, size_t bytes_length, uint64_t *result),
@@ -118,6 +118,10 @@ MH_FFI(int, message, (char *text, size_t text_size, const uint8_t *bytes, size_t
        multihash_message(text, text_size, bytes, bytes_length, limit))
 MH_FFI(int, scale_message, (char *text, size_t text_size, const uint8_t *bytes, size_t bytes_length),
        multihash_scale_message(text, text_size, bytes, bytes_length))
-MH_FFI(int, encode_message,
-       (char *text, size_t text_size, uint32_t status, const uint64_t *result, uint64_t code, size_t out_length),
-       multihash_encode_message(text, text_size, encoded_of(status, result), code, out_length))
+
+int multihash_ffi_encode_message(char *text, size_t text_size, uint32_t status, const uint64_t *result, uint64_t code,
+                                 size_t out_length)
+{
+    const multihash_encoded failed = {.status = status, .size = result[0], .length = (size_t)result[1]};
+    return multihash_encode_message(text, text_size, failed, code, out_length);
+}
