@@ -84,16 +84,10 @@ multihash_encoded multihash_cid_encode(uint64_t version, uint64_t codec, uint64_
 /* Returns the digits of a base, by the prefix of a text, or a null pointer. */
 static const char *digits_of(char base)
 {
-    switch (base) {
-    case 'b':
-        return "abcdefghijklmnopqrstuvwxyz234567";
-    case 'f':
-        return "0123456789abcdef";
-    case 'z':
-        return "123456789ABCDEFGHJKLMNPQRSTUVWXYZabcdefghijkmnopqrstuvwxyz";
-    default:
-        return NULL;
-    }
+    if (base == 'b') return "abcdefghijklmnopqrstuvwxyz234567";
+    if (base == 'f') return "0123456789abcdef";
+    if (base == 'z') return "123456789ABCDEFGHJKLMNPQRSTUVWXYZabcdefghijkmnopqrstuvwxyz";
+    return NULL;
 }
 
 /* Returns the value of a digit, or -1 if the base does not have it. */
