@@ -13,7 +13,8 @@ int main(void)
 {
     static uint8_t bytes[1 << 16];
     static multihash_item items[256];
-    for (size_t kept = 0, more = 1; more > 0;) {
+    size_t kept = 0, more;
+    do {
         more = fread(bytes + kept, 1, sizeof bytes - kept, stdin);
         size_t length = kept + more, at = 0;
         multihash_batch batch;
@@ -31,5 +32,6 @@ int main(void)
         }
         kept = length - at;
         memmove(bytes, bytes + at, kept);
-    }
+    } while (more > 0);
+    return 0;
 }

@@ -138,9 +138,10 @@ static void check_messages(void)
 static void replay(const char *name)
 {
     static char line[8192];
+    void (*check)(char *) = strstr(name, "cids") != NULL ? check_cid_line : check_line;
     FILE *list = fopen(name, "r");
     CHECK(list != NULL && fgets(line, sizeof line, list) != NULL);
-    while (fgets(line, sizeof line, list) != NULL) (strstr(name, "cids") != NULL ? check_cid_line : check_line)(line);
+    while (fgets(line, sizeof line, list) != NULL) check(line);
     CHECK(fclose(list) == 0);
 }
 

@@ -171,7 +171,11 @@ int main(int argc, char **argv)
     const std::string folder = argv[1];
     for (const row &columns : rows_of(folder + "/verdicts.tsv")) check_verdict(columns);
     for (const row &columns : rows_of(folder + "/values.tsv")) {
-        (columns[0] == "order" ? check_order : check_value)(columns);
+        if (columns[0] == "order") {
+            check_order(columns);
+        } else {
+            check_value(columns);
+        }
     }
     for (const row &columns : rows_of(folder + "/cids.tsv")) check_cid(columns);
     check_texts();

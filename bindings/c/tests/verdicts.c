@@ -157,21 +157,20 @@ static void check_name(const char *const *column)
     CHECK(multihash_code(column[1]) == code);
 }
 
-/* The first column of a line, or its first characters, say what the columns are. */
-void check_line(char *text)
+/* The first column of a line says what the others are: of verdicts it is a limit, and of names a code. */
+void check_line(char *line)
 {
-    static const struct {
-        const char *first;
-        int count;
-        void (*check)(const char *const *column);
-    } kinds[] = {
-        {"order\t", 6, check_order}, {"value\t", 6, check_value}, {"message\t", 6, check_message},
-        {"0x", 2, check_name},       {"", 7, check_verdict},
-    };
     const char *column[7];
-    size_t kind = 0;
-    while (strncmp(text, kinds[kind].first, strlen(kinds[kind].first)) != 0) kind++;
-    for (int i = 0; i < kinds[kind].count; i++) column[i] = strtok(i == 0 ? text : NULL, "\t\n");
-    CHECK(column[kinds[kind].count - 1] != NULL);
-    kinds[kind].check(kind < 3 ? column + 1 : column);
+    for (int i = 0; i < 7; i++) column[i] = strtok(i == 0 ? line : NULL, "\t\n");
+    if (strcmp(column[0], "order") == 0) {
+        check_order(column + 1);
+    } else if (strcmp(column[0], "value") == 0) {
+        check_value(column + 1);
+    } else if (strcmp(column[0], "message") == 0) {
+        check_message(column + 1);
+    } else if (strncmp(column[0], "0x", 2) == 0) {
+        check_name(column);
+    } else {
+        check_verdict(column);
+    }
 }
