@@ -20,7 +20,7 @@ from pathlib import Path
 
 HOME = Path(__file__).resolve().parent
 sys.path.append(str(HOME.parents[1] / "crates/vectors"))
-from verdicts import RULES, Rejected, varint
+from verdicts import Rejected, read, varint
 
 COUNT, SEED = 10_000, 7
 CODES = 0, 0x11, 0x12, 0x13, 0x14, 0x1B, 0x80, 0xB220, 0xB240, 0x300000, 1 << 62, (1 << 63) - 1, 1 << 63, (1 << 64) - 1
@@ -48,7 +48,7 @@ def drawn(draw: random.Random) -> bytes:
 def reason_of(data: bytes) -> str:
     """Returns why the input is no canonical encoding, or an empty string."""
     try:
-        *_, end = RULES.read(255, data)
+        *_, end = read(255, data)
         return "trailing bytes" if end < len(data) else ""
     except Rejected as rejected:
         name = str(rejected.args[0]).partition(" ")[0]

@@ -120,7 +120,7 @@ def source_errors() -> Iterator[str]:
 def byte_errors() -> Iterator[str]:
     """Computes the results of the bytes in the tables of FORMAT.md by the rules of verdicts.py."""
     for head, table in re.findall(r"^(\|.*\| Consumed \|)\n\|[-:|]+\n((?:\|.*\n)+)", read(FORMAT), re.M):
-        call = verdicts.RULES.read if "Verdict" in head else verdicts.RULES.scale_decode
+        call = verdicts.read if "Verdict" in head else verdicts.scale_decode
         size = int(re.findall(r"`S` = (\d+)", head)[0])
         for row in table.splitlines():
             _, _, result, *_, inputs, consumed, _ = (cell.strip() for cell in row.split("|"))

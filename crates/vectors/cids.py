@@ -14,7 +14,7 @@ import sys
 from collections.abc import Iterator
 from pathlib import Path
 
-from verdicts import LONGEST_DIGEST, RULES, Rejected, changed, varint, write_or_compare
+from verdicts import LONGEST_DIGEST, Rejected, changed, read, read_varint, varint, write_or_compare
 
 STORED = Path(__file__).with_name("data") / "cids.tsv"
 COLUMNS = ("text", "result", "bytes")
@@ -61,11 +61,11 @@ def decoded(data: bytes) -> str:
     try:
         version, codec, start = 0, 0x70, 0
         if data[:2] != VERSION_0:
-            version, start = RULES.varint(data, 0)
+            version, start = read_varint(data, 0)
             if version != 1:
                 return "unknown_version"
-            codec, start = RULES.varint(data, start)
-        code, digest, end = RULES.read(LONGEST_DIGEST, data[start:])
+            codec, start = read_varint(data, start)
+        code, digest, end = read(LONGEST_DIGEST, data[start:])
         return "invalid_size" if start + end < len(data) else f"cid {version} {codec} {code} {digest.hex() or '-'}"
     except Rejected as rejected:
         return str(rejected.args[0].split()[0])

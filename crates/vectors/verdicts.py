@@ -25,61 +25,31 @@ VALUE_COLUMNS = ("kind", "limit", "code", "digest", "encoding", "scale")
 VALUES, PAGE = STORED.with_name("values.tsv"), STORED.with_name("README.md")
 
 LONGEST_DIGEST, SCALE_CODE, SCALE_HEAD = 255, 8, 9
+# Numbers are below 2^BITS.
+[BITS] = map(int, re.findall(r"(?m)^varint_limit = 2 \^ (\d+)$", DEFINITIONS))
+MAX_CONTINUATION = (BITS - 1) // 7
+LAST_BYTE_LIMIT = 1 << (BITS - 7 * MAX_CONTINUATION)
 
 
 class Rejected(Exception):
     """An error, and the number of bytes that determine it, 0 if more bytes can change it."""
 
 
-class Rules:
-    """The rules for numbers below 2^bits.
-
-    To read is to return a code, a digest and where it ends.
-    """
-
-    def __init__(self, bits: int) -> None:
-        self.limit = 1 << bits
-        self.max_continuation = (bits - 1) // 7
-        self.last_byte_limit = 1 << (bits - 7 * self.max_continuation)
-
-    def varint(self, data: bytes, start: int) -> tuple[int, int]:
-        """Returns the number of the varint at an index, and where it ends."""
-        number = 0
-        for at, byte in enumerate(data[start:]):
-            if at == self.max_continuation and byte >= self.last_byte_limit:
-                raise Rejected("overflow", start + at + 1)
-            if byte == 0 and at > 0:
-                raise Rejected("not_minimal", start + at + 1)
-            number += (byte & 127) << (7 * at)
-            if byte < 128:
-                return number, start + at + 1
-        raise Rejected("insufficient", 0)
-
-    def read(self, size: int, data: bytes) -> tuple[int, bytes, int]:
-        code, start = self.varint(data, 0)
-        length, start = self.varint(data, start)
-        return code, *digest(size, data, start, length)
-
-    def scale_decode(self, size: int, data: bytes) -> tuple[int, bytes, int]:
-        code = int.from_bytes(data[:SCALE_CODE], "little")
-        if code >= self.limit:
-            raise Rejected(f"invalid_code {code}", SCALE_CODE)
-        if len(data) < SCALE_HEAD:
-            raise Rejected("unexpected_eof", 0)
-        return code, *digest(size, data, SCALE_HEAD, data[SCALE_CODE])
-
-    def line(self, size: int, data: bytes) -> str:
-        (read, consumed), (scale, scale_consumed) = (
-            result(call, size, data) for call in (self.read, self.scale_decode)
-        )
-        is_longer = read.startswith("pair") and len(data) > consumed
-        whole = f"invalid_size {len(data) - consumed}" if is_longer else read
-        return "\t".join(
-            map(str, (size, data.hex() or "-", read, consumed or "-", whole, scale, scale_consumed or "-"))
-        )
+def read_varint(data: bytes, start: int) -> tuple[int, int]:
+    """Returns the number of the varint at an index, and where it ends."""
+    number = 0
+    for at, byte in enumerate(data[start:]):
+        if at == MAX_CONTINUATION and byte >= LAST_BYTE_LIMIT:
+            raise Rejected("overflow", start + at + 1)
+        if byte == 0 and at > 0:
+            raise Rejected("not_minimal", start + at + 1)
+        number += (byte & 127) << (7 * at)
+        if byte < 128:
+            return number, start + at + 1
+    raise Rejected("insufficient", 0)
 
 
-def digest(size: int, data: bytes, start: int, length: int) -> tuple[bytes, int]:
+def read_digest(size: int, data: bytes, start: int, length: int) -> tuple[bytes, int]:
     if length > min(size, LONGEST_DIGEST):
         raise Rejected(f"invalid_size {length}", start)
     if len(data) < start + length:
@@ -87,7 +57,25 @@ def digest(size: int, data: bytes, start: int, length: int) -> tuple[bytes, int]
     return data[start : start + length], start + length
 
 
+def read(size: int, data: bytes) -> tuple[int, bytes, int]:
+    """Returns the code and the digest of the multihash at the front, and where it ends."""
+    code, start = read_varint(data, 0)
+    length, start = read_varint(data, start)
+    return code, *read_digest(size, data, start, length)
+
+
+def scale_decode(size: int, data: bytes) -> tuple[int, bytes, int]:
+    """Does the same for SCALE."""
+    code = int.from_bytes(data[:SCALE_CODE], "little")
+    if code >= 1 << BITS:
+        raise Rejected(f"invalid_code {code}", SCALE_CODE)
+    if len(data) < SCALE_HEAD:
+        raise Rejected("unexpected_eof", 0)
+    return code, *read_digest(size, data, SCALE_HEAD, data[SCALE_CODE])
+
+
 def result(call: Callable[[int, bytes], tuple[int, bytes, int]], size: int, data: bytes) -> tuple[str, int]:
+    """Returns the result of a call as a column has it, and the number of bytes that determine it."""
     try:
         code, found, end = call(size, data)
         return f"pair {code} {found.hex() or '-'}", end
@@ -96,9 +84,13 @@ def result(call: Callable[[int, bytes], tuple[int, bytes, int]], size: int, data
         return error, consumed
 
 
-# the rules for the bound on numbers that the definitions state
-[BITS] = map(int, re.findall(r"(?m)^varint_limit = 2 \^ (\d+)$", DEFINITIONS))
-RULES = Rules(BITS)
+def verdict(size: int, data: bytes) -> str:
+    """Makes a line of an input."""
+    found, consumed = result(read, size, data)
+    scale, scale_consumed = result(scale_decode, size, data)
+    has_trailing = found.startswith("pair") and len(data) > consumed
+    whole = f"invalid_size {len(data) - consumed}" if has_trailing else found
+    return "\t".join(map(str, (size, data.hex() or "-", found, consumed or "-", whole, scale, scale_consumed or "-")))
 
 
 def bytes_of(digits: str) -> bytes:
@@ -129,7 +121,7 @@ def drawn(stored: str, seed: int, count: int) -> Iterator[str]:
         made, other_made = bytes_of(data), bytes_of(other)
         for _ in range(draw.randint(1, 4)):
             made = changed(made, other_made, draw)
-        yield RULES.line(int(size), made)
+        yield verdict(int(size), made)
 
 
 def varint(number: int) -> bytes:
@@ -148,7 +140,7 @@ def value(limit: int, code: int, digest: bytes) -> str:
     columns = [f"invalid_size {len(digest)}"] * 2
     if len(digest) <= min(limit, LONGEST_DIGEST):
         columns = [f"invalid_code {code}"] * 2
-        if code < RULES.limit:
+        if code < 1 << BITS:
             columns = [form.hex() for form in encodings(code, digest)]
     return "\t".join(["value", str(limit), str(code), digest.hex() or "-", *columns])
 
@@ -161,7 +153,7 @@ def order(code: int, digest: bytes, other_code: int, other: bytes) -> str:
 
 
 def line_of(stored: str) -> str:
-    """Makes a line of the value or of the order that it states."""
+    """Makes a line of values.tsv of its first columns."""
     match stored.split("\t"):
         case ["value", limit, code, digest, *_]:
             return value(int(limit), int(code), bytes_of(digest))
@@ -180,7 +172,7 @@ def made_of(stored: str) -> str:
     inputs = inputs_of(stored)
     if len({*inputs}) < len(inputs):
         raise SystemExit("an input is there twice with one capacity")
-    lines = (RULES.line(int(size), bytes_of(data)) for size, data in inputs)
+    lines = (verdict(int(size), bytes_of(data)) for size, data in inputs)
     return "\n".join(["\t".join(COLUMNS), *lines, ""])
 
 
@@ -189,7 +181,7 @@ def page_of(stored: str) -> str:
     page = re.sub(r"(?m)^S\t.*", "\t".join(COLUMNS), stored)
     page = re.sub(r"(?m)^kind\t.*", "\t".join(VALUE_COLUMNS), page)
     page = re.sub(r"(?m)^(?:value|order)\t.*", lambda line: line_of(line[0]), page)
-    return re.sub(r"(?m)^(\d+)\t([0-9a-f]+)\t.*", lambda line: RULES.line(int(line[1]), bytes_of(line[2])), page)
+    return re.sub(r"(?m)^(\d+)\t([0-9a-f]+)\t.*", lambda line: verdict(int(line[1]), bytes_of(line[2])), page)
 
 
 def write_or_compare(lists: Mapping[Path, Callable[[str], str]], write: bool) -> int:
