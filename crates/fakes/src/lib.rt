@@ -1,4 +1,5 @@
-//! Readers and writers for tests: they are short, fail or fill up once, count their calls, or have unknown input.
+//! Readers and writers for tests: they move few bytes per call, are full, fail once, count their calls, or have unknown
+//! input.
 #![tactic(auto)]
 
 ghost use Rattle.std.specs.Prelude.{◌<◌, Some, None, if◌then◌else◌, ◌≡◌, ◌≤◌, ◌+◌, true, false, vec_len, vec_capacity};
@@ -9,10 +10,10 @@ ghost use Rattle.multihash.specs.Writing.{AppendsAtEnd};
 use multihash::no_std_io::{Error, Read, Write};
 use std::alloc::{AllocError, Global};
 
-/// The text of a reader's error for memory; any other is the text of an error of its own.
+/// The text of an out-of-memory error. An error with any other text is of the kind `other`.
 pub const OUT_OF_MEMORY: &str = "out of memory";
 
-fn own_error(text: &'static str) -> Error
+fn error_of(text: &'static str) -> Error
     ensures { IsOwnFault result }
 {
     if text == OUT_OF_MEMORY {
@@ -22,24 +23,24 @@ fn own_error(text: &'static str) -> Error
     }
 }
 
-/// A reader of a slice with known input, which returns at most `most` bytes per call.
+/// A reader of a slice, which returns at most `most` bytes per call. Its input is known.
 #[derive(Drop)]
-pub struct Cuts<'a> {
+pub struct SlowReader<'a> {
     pub left: &'a [u8],
     most: usize,
     ghost gives_some: { 0 < most },
 }
 
-impl<'a> Cuts<'a> {
+impl<'a> SlowReader<'a> {
     pub fn new(left: &'a [u8], most: usize) -> Self
         requires { 0 < most }
     {
-        Cuts { left, most }
+        SlowReader { left, most }
     }
 }
 
-impl Read for Cuts<'_> {
-    ghost rest = { λ c. Some c.left.now };
+impl Read for SlowReader<'_> {
+    ghost rest = { λ r. Some r.left.now };
 
     ghost failures = { λ _. 0 };
 
@@ -52,52 +53,50 @@ impl Read for Cuts<'_> {
     }
 }
 
-/// Like `Cuts`, but it fails once, after `calls` successful calls, with an error of its own that
-/// prints this text.
+/// A slow reader whose call after the first `successes` calls fails, and no other, with an error of this text.
 #[derive(Drop)]
-pub struct FailAt<'a> {
-    pub cuts: Cuts<'a>,
+pub struct FailingReader<'a> {
+    pub inner: SlowReader<'a>,
     /// The number of calls.
-    pub asked: usize,
-    calls: usize,
-    why: &'static str,
+    pub calls: usize,
+    successes: usize,
+    text: &'static str,
     failed: bool,
 }
 
-impl<'a> FailAt<'a> {
-    pub fn new(cuts: Cuts<'a>, calls: usize, why: &'static str) -> Self {
-        FailAt {
-            cuts,
-            asked: 0,
-            calls,
-            why,
+impl<'a> FailingReader<'a> {
+    pub fn new(inner: SlowReader<'a>, successes: usize, text: &'static str) -> Self {
+        FailingReader {
+            inner,
+            calls: 0,
+            successes,
+            text,
             failed: false,
         }
     }
 }
 
-impl Read for FailAt<'_> {
-    ghost rest = { λ f. Some f.cuts.left.now };
+impl Read for FailingReader<'_> {
+    ghost rest = { λ r. Some r.inner.left.now };
 
-    ghost failures = { λ f. (if f.failed then 1 else 0) };
+    ghost failures = { λ r. (if r.failed then 1 else 0) };
 
     fn read(&mut self, buf: &mut [u8]) -> Result<usize, Error> {
-        self.asked = self.asked.saturating_add(1);
-        if self.calls > 0 {
-            self.calls -= 1;
-        } else if !self.failed {
+        let fails = self.calls == self.successes && !self.failed;
+        self.calls = self.calls.saturating_add(1);
+        if fails {
             self.failed = true;
-            return Err(own_error(self.why));
+            return Err(error_of(self.text));
         }
-        self.cuts.read(buf)
+        self.inner.read(buf)
     }
 }
 
-/// A reader whose input is not known.
+/// A reader of a slice, whose input is not known.
 #[derive(Drop)]
-pub struct Silent<'a>(pub &'a [u8]);
+pub struct UnknownReader<'a>(pub &'a [u8]);
 
-impl Read for Silent<'_> {
+impl Read for UnknownReader<'_> {
     ghost rest = { λ _. None };
 
     ghost failures = { λ _. 0 };
@@ -107,197 +106,180 @@ impl Read for Silent<'_> {
     }
 }
 
-/// A reader of a slice with known input, which counts its calls.
+/// A reader of a slice, which counts its calls. Its input is known.
 #[derive(Drop)]
-pub struct Counts<'a> {
+pub struct CountingReader<'a> {
     pub left: &'a [u8],
-    /// The calls of `read` for one byte.
-    pub single: usize,
-    /// The other calls of `read`.
-    pub others: usize,
-    /// The calls of `read_exact`.
-    pub whole: usize,
+    /// The calls of `read` for one byte, those for more or none, and those of `read_exact`.
+    pub calls: (usize, usize, usize),
 }
 
-impl<'a> Counts<'a> {
+impl<'a> CountingReader<'a> {
     pub fn new(left: &'a [u8]) -> Self {
-        Counts {
+        CountingReader {
             left,
-            single: 0,
-            others: 0,
-            whole: 0,
+            calls: (0, 0, 0),
         }
     }
-
-    /// The calls of `read` for one byte, those for more or none, and those of `read_exact`.
-    pub fn asked(&self) -> (usize, usize, usize) {
-        (self.single, self.others, self.whole)
-    }
 }
 
-impl Read for Counts<'_> {
-    ghost rest = { λ c. Some c.left.now };
+impl Read for CountingReader<'_> {
+    ghost rest = { λ r. Some r.left.now };
 
     ghost failures = { λ _. 0 };
 
     fn read(&mut self, buf: &mut [u8]) -> Result<usize, Error> {
         if buf.len() == 1 {
-            self.single = self.single.saturating_add(1);
+            self.calls.0 = self.calls.0.saturating_add(1);
         } else {
-            self.others = self.others.saturating_add(1);
+            self.calls.1 = self.calls.1.saturating_add(1);
         }
         self.left.read(buf)
     }
 
     fn read_exact(&mut self, buf: &mut [u8]) -> Result<(), Error> {
-        self.whole = self.whole.saturating_add(1);
+        self.calls.2 = self.calls.2.saturating_add(1);
         self.left.read_exact(buf)
     }
 }
 
-/// A writer with a remaining capacity of `room` bytes, reserved before, which accepts at most `most` bytes
-/// per call.
+/// A writer that accepts at most `most` bytes per call, and is full after `capacity` bytes, which it has allocated.
 #[derive(Drop)]
-pub struct Drip {
-    pub held: Vec<u8>,
-    room: usize,
+pub struct SlowWriter {
+    pub written: Vec<u8>,
+    capacity: usize,
     most: usize,
-    ghost reserved: { vec_len held + room ≤ vec_capacity held },
+    ghost reserved: { vec_len written + capacity ≤ vec_capacity written },
     ghost takes_some: { 0 < most },
 }
 
-impl Drip {
-    pub fn new(alloc: Global, room: usize, most: usize) -> Result<Self, AllocError>
+impl SlowWriter {
+    pub fn new(alloc: Global, capacity: usize, most: usize) -> Result<Self, AllocError>
         requires { 0 < most }
     {
-        Ok(Drip {
-            held: Vec::with_capacity(alloc, room)?,
-            room,
+        Ok(SlowWriter {
+            written: Vec::with_capacity(alloc, capacity)?,
+            capacity,
             most,
         })
     }
 }
 
-impl Write for Drip {
+impl Write for SlowWriter {
     const ALLOCATES: bool = false;
 
     ghost allocates = { false };
 
-    ghost appended = { λ old bytes new. AppendsAtEnd old.held.items bytes new.held.items };
+    ghost appended = { λ old bytes new. AppendsAtEnd old.written.items bytes new.written.items };
 
-    ghost full = { λ d. d.room ≡ 0 };
+    ghost full = { λ w. w.capacity ≡ 0 };
 
     ghost failures = { λ _. 0 };
 
-    ghost appends_nothing = { λ w. AppendsAtEnd-none w.held.items };
+    ghost appends_nothing = { λ w. AppendsAtEnd-none w.written.items };
 
     ghost appends_concatenated = { λ a b c x y first second.
-        AppendsAtEnd-concatenated a.held.items b.held.items c.held.items x y first second };
+        AppendsAtEnd-concatenated a.written.items b.written.items c.written.items x y first second };
 
     fn write(&mut self, buf: &[u8]) -> Result<usize, Error> {
-        let n = buf.len().min(self.most).min(self.room);
-        self.held.extend_from_slice(&buf[..n]).unwrap();
-        self.room -= n;
+        let n = buf.len().min(self.most).min(self.capacity);
+        self.written.extend_from_slice(&buf[..n]).unwrap();
+        self.capacity -= n;
         Ok(n)
     }
 }
 
-/// Like `Drip`, but it fails once, after `calls` successful calls, with an error of its own that
-/// prints this text; `A` is its `ALLOCATES`, which the library asks for.
+/// A slow writer whose call after the first `successes` calls fails, and no other, with an error of this text.
 #[derive(Drop)]
-pub struct FailWrite<const A: bool> {
-    pub drip: Drip,
+pub struct FailingWriter {
+    pub inner: SlowWriter,
     /// The number of calls.
-    pub asked: usize,
-    calls: usize,
-    why: &'static str,
+    pub calls: usize,
+    successes: usize,
+    text: &'static str,
     failed: bool,
 }
 
-impl<const A: bool> FailWrite<A> {
-    pub fn new(drip: Drip, calls: usize, why: &'static str) -> Self {
-        FailWrite {
-            drip,
-            asked: 0,
-            calls,
-            why,
+impl FailingWriter {
+    pub fn new(inner: SlowWriter, successes: usize, text: &'static str) -> Self {
+        FailingWriter {
+            inner,
+            calls: 0,
+            successes,
+            text,
             failed: false,
         }
     }
 }
 
-impl<const A: bool> Write for FailWrite<A> {
-    const ALLOCATES: bool = A;
+impl Write for FailingWriter {
+    const ALLOCATES: bool = false;
 
-    ghost allocates = { A };
+    ghost allocates = { false };
 
     ghost appended = { λ old bytes new.
-        AppendsAtEnd old.drip.held.items bytes new.drip.held.items };
+        AppendsAtEnd old.inner.written.items bytes new.inner.written.items };
 
-    ghost full = { λ f. f.drip.room ≡ 0 };
+    ghost full = { λ w. w.inner.capacity ≡ 0 };
 
-    ghost failures = { λ f. (if f.failed then 1 else 0) };
+    ghost failures = { λ w. (if w.failed then 1 else 0) };
 
-    ghost appends_nothing = { λ w. AppendsAtEnd-none w.drip.held.items };
+    ghost appends_nothing = { λ w. AppendsAtEnd-none w.inner.written.items };
 
     ghost appends_concatenated = { λ a b c x y first second. AppendsAtEnd-concatenated
-        a.drip.held.items b.drip.held.items c.drip.held.items x y first second };
+        a.inner.written.items b.inner.written.items c.inner.written.items x y first second };
 
     fn write(&mut self, buf: &[u8]) -> Result<usize, Error> {
-        self.asked = self.asked.saturating_add(1);
-        if self.calls > 0 {
-            self.calls -= 1;
-        } else if !self.failed {
+        let fails = self.calls == self.successes && !self.failed;
+        self.calls = self.calls.saturating_add(1);
+        if fails {
             self.failed = true;
-            return Err(own_error(self.why));
+            return Err(error_of(self.text));
         }
-        self.drip.write(buf)
+        self.inner.write(buf)
     }
 }
 
 /// A vector as a writer that counts its calls.
 #[derive(Drop)]
-pub struct CountsWrites {
-    pub held: Vec<u8>,
-    /// The calls of `write`.
-    pub parts: usize,
-    /// The calls of `write_all`.
-    pub whole: usize,
+pub struct CountingWriter {
+    pub written: Vec<u8>,
+    /// The calls of `write`, and those of `write_all`.
+    pub calls: (usize, usize),
 }
 
-impl CountsWrites {
+impl CountingWriter {
     pub fn new(alloc: Global) -> Self {
-        CountsWrites {
-            held: Vec::new(alloc),
-            parts: 0,
-            whole: 0,
+        CountingWriter {
+            written: Vec::new(alloc),
+            calls: (0, 0),
         }
     }
 }
 
-impl Write for CountsWrites {
+impl Write for CountingWriter {
     const ALLOCATES: bool = true;
 
     ghost allocates = { true };
 
-    ghost appended = { λ old bytes new. AppendsAtEnd old.held.items bytes new.held.items };
+    ghost appended = { λ old bytes new. AppendsAtEnd old.written.items bytes new.written.items };
 
     ghost full = { λ _. ⊥ };
 
     ghost failures = { λ _. 0 };
 
-    ghost appends_nothing = { λ w. AppendsAtEnd-none w.held.items };
+    ghost appends_nothing = { λ w. AppendsAtEnd-none w.written.items };
 
     ghost appends_concatenated = { λ a b c x y first second.
-        AppendsAtEnd-concatenated a.held.items b.held.items c.held.items x y first second };
+        AppendsAtEnd-concatenated a.written.items b.written.items c.written.items x y first second };
 
     fn write(&mut self, buf: &[u8]) -> Result<usize, Error> {
-        self.parts = self.parts.saturating_add(1);
-        self.held.write(buf)
+        self.calls.0 = self.calls.0.saturating_add(1);
+        self.written.write(buf)
     }
 
     fn write_all(&mut self, buf: &[u8]) -> Result<(), Error> {
-        self.whole = self.whole.saturating_add(1);
-        self.held.write_all(buf)
+        self.calls.1 = self.calls.1.saturating_add(1);
+        self.written.write_all(buf)
     }
 }

@@ -5,16 +5,15 @@ use crate::expect::{check, check_eq, expect_ok};
 use examples::content::{UnknownCode, is_damaged, verify};
 use examples::std_reader::StdReader;
 use examples::{loops, parts};
-use fakes::{Cuts, FailAt};
+use fakes::{FailingReader, SlowReader};
 use form::{
-    Bytes, Case, FormError, LocatedError, Number, Stream, all_from_bytes, first_error, from_bytes,
-    to_bytes, write_items,
+    Bytes, Case, FormError, Number, Stream, all_from_bytes, first_error, from_bytes, to_bytes,
+    write_items,
 };
 use multihash::no_std_io::{self, Read};
 use multihash::{Head, Multihash, MultihashGeneric};
 use std::alloc::Global;
 use std::error::Error;
-use std::fmt::Debug;
 use std::process::Abort;
 
 // The identifier (CID) of `aaaa` as raw bytes, with its SHA-256 from another implementation.
@@ -24,11 +23,11 @@ const IDENTIFIER: [u8; 36] = [
     0x7b, 0x9a, 0xf0, 0xb4,
 ];
 
-// A failure of the other is an interruption.
+// A reader of `std`, whose call is interrupted if that of the other one fails.
 #[derive(Drop)]
-struct Std<'a>(FailAt<'a>);
+struct InterruptedReader<'a>(FailingReader<'a>);
 
-impl std::io::Read for Std<'_> {
+impl std::io::Read for InterruptedReader<'_> {
     fn read(&mut self, buf: &mut [u8]) -> std::io::Result<usize> {
         match self.0.read(buf) {
             Ok(n) => Ok(n),
@@ -38,11 +37,11 @@ impl std::io::Read for Std<'_> {
 }
 
 // No contract states what is read. A call fails once, and nothing is lost.
-fn expect_std(rt: &impl Abort, bytes: &[u8], most: usize, at: usize)
+fn expect_read(rt: &impl Abort, bytes: &[u8], most: usize, at: usize)
     requires { 0 < most }
 {
-    let inner = FailAt::new(Cuts::new(bytes, most), at, "");
-    let mut reader = StdReader::new(Std(inner));
+    let inner = FailingReader::new(SlowReader::new(bytes, most), at, "");
+    let mut reader = StdReader::new(InterruptedReader(inner));
     let mut buffer = [0u8; 200];
     let mut filled = 0usize;
     let mut failed = 0usize;
@@ -64,8 +63,8 @@ fn expect_std(rt: &impl Abort, bytes: &[u8], most: usize, at: usize)
 #[test]
 fn a_reader_of_std_is_read(rt: HostRuntime) {
     for most in [1, 64, 200] {
-        expect_std(&rt, &LOG, most, 0);
-        expect_std(&rt, &LOG, most, 1);
+        expect_read(&rt, &LOG, most, 0);
+        expect_read(&rt, &LOG, most, 1);
     }
 }
 
@@ -110,22 +109,14 @@ fn expect_identifier(rt: &impl Abort, alloc: Global, bytes: &[u8], at: usize) {
         Case::Other(others) => others.case.value.second.bytes.as_slice(),
     };
     check_eq!(rt; digest, bytes.get(at..).unwrap_or(&[]));
-    check_eq!(rt; expect_ok!(rt; form::to_bytes(alloc, &id)).as_slice(), bytes);
-    check_eq!(rt; form::encoded_len(&id), bytes.len() as u64);
-    for len in 0..bytes.len() {
-        let outcome = parts::read_identifier(alloc, bytes.get(..len).unwrap_or(&[]));
-        check!(rt; outcome.is_err_and(|e| e.is_incomplete()), len);
-    }
+    check_eq!(rt; expect_ok!(rt; to_bytes(alloc, &id)).as_slice(), bytes);
 }
 
 #[test]
 fn known_identifiers_are_read(rt: HostRuntime) {
-    let alloc = rt.alloc();
-    expect_identifier(&rt, alloc, &IDENTIFIER, 4);
-    expect_identifier(&rt, alloc, &LOG[..34], 2);
-    let outcome = parts::read_identifier(alloc, &LOG);
-    check!(&rt; matches!(outcome, Err(FormError::Trailing(39))));
-    let outcome = parts::read_identifier(alloc, &[2]);
+    expect_identifier(&rt, rt.alloc(), &IDENTIFIER, 4);
+    expect_identifier(&rt, rt.alloc(), &LOG[..34], 2);
+    let outcome = parts::read_identifier(rt.alloc(), &[2]);
     check!(&rt; matches!(outcome, Err(FormError::OtherTag(2))));
 }
 
@@ -161,43 +152,19 @@ fn a_known_multiaddr_is_read(rt: HostRuntime) {
     check!(&rt; matches!(outcome, Err(FormError::OtherTag(5))));
 }
 
-fn is_at(e: &LocatedError, item: usize, start: usize, offset: usize) -> bool {
-    e.item == item && e.start == start && e.offset == offset
-}
-
-// Where the parts of the known multiaddr start was counted by hand.
+// After a port of TCP: a tag of no part, a name of 254 bytes, and a name that is truncated.
 #[test]
 fn the_first_error_is_located(rt: HostRuntime) {
-    let alloc = rt.alloc();
-    for (item, start, end) in [(0, 0, 5), (1, 5, 8), (2, 8, 11), (3, 11, 15), (4, 15, 20)] {
-        let mut bytes = ADDRESS;
-        if let Some(tag) = bytes.get_mut(start) {
-            *tag = 5;
-        }
-        let found = first_error::<parts::AddressPart>(alloc, &bytes);
-        check!(&rt; found.is_some_and(|e| matches!(e.error, FormError::OtherTag(5)) && is_at(&e, item, start, start.saturating_add(1))), item);
-        for len in start.saturating_add(1)..end {
-            let part = ADDRESS.get(..len).unwrap_or(&[]);
-            let found = first_error::<parts::AddressPart>(alloc, part);
-            check!(&rt; found.is_some_and(|e| e.error.is_incomplete() && is_at(&e, item, start, len)), len);
-        }
-        let whole = ADDRESS.get(..end).unwrap_or(&[]);
-        check!(&rt; first_error::<parts::AddressPart>(alloc, whole).is_none(), end);
+    let rows: [(&[u8], usize); 3] = [
+        (&[6, 1, 2, 5, 7], 4),
+        (&[6, 1, 2, 53, 0xfe, 1, 7, 7], 6),
+        (&[6, 1, 2, 53, 2, 7], 6),
+    ];
+    for (bytes, offset) in rows {
+        let found = first_error::<parts::AddressPart>(rt.alloc(), bytes);
+        check!(&rt; found.is_some_and(|e| e.item == 1 && e.start == 3 && e.offset == offset), offset);
     }
-}
-
-// A block of 254 bytes, two blocks in place of one at most, a digest of 65 bytes, and a number of two bytes for 0.
-#[test]
-fn errors_within_values_are_located(rt: HostRuntime) {
-    let alloc = rt.alloc();
-    let found = first_error::<parts::AddressPart>(alloc, &[6, 1, 2, 53, 0xfe, 1, 7, 7]);
-    check!(&rt; found.is_some_and(|e| matches!(e.error, FormError::TooLong(254)) && is_at(&e, 1, 3, 6)));
-    let found = first_error::<parts::PeerRecord>(alloc, &[0, 0, 0, 0, 0, 2, 7, 7]);
-    check!(&rt; found.is_some_and(|e| matches!(e.error, FormError::TooMany(2)) && is_at(&e, 1, 3, 6)));
-    let found = first_error::<parts::LogEntry>(alloc, &[0xac, 2, 0x12, 65, 7, 7]);
-    check!(&rt; found.is_some_and(|e| !e.error.is_incomplete() && is_at(&e, 0, 0, 4)));
-    let found = first_error::<parts::LogEntry>(alloc, &[0x80, 0, 7]);
-    check!(&rt; found.is_some_and(|e| !e.error.is_incomplete() && is_at(&e, 0, 0, 2)));
+    check!(&rt; first_error::<parts::AddressPart>(rt.alloc(), &ADDRESS).is_none());
 }
 
 // The data is at 0x33, and 0x0102 bytes; there is no index.
@@ -212,37 +179,22 @@ fn a_known_car_header_is_read(rt: HostRuntime) {
     check_eq!(&rt; expect_ok!(&rt; to_bytes(alloc, &header)).as_slice(), bytes.as_slice());
 }
 
-fn expect_shown<D: Debug>(rt: &impl Abort, alloc: Global, shown: &D, wanted: &str) {
-    let found = expect_ok!(rt; format!(in alloc; "{shown:?}"));
-    check_eq!(rt; found.as_str(), wanted);
-}
+// Fails to compile unless the types have these traits.
+fn expect_traits<A: Error, B: Error, C: Error, D: Copy + Eq, E: Copy, F: Copy>() {}
 
-fn have<A: Error, B: Error, C: Error, D: Copy + Eq, E: Copy, F: Copy>() {}
-
-// The bytes that `truncate` left in the buffer are not shown.
+// The bytes that `truncate` left in the buffer are not shown. The aliases name these types.
 #[test]
 fn known_values_are_shown(rt: HostRuntime) {
-    let alloc = rt.alloc();
-    let rt = &rt;
-    // The aliases name these types.
     let wrapped: multihash::Result<MultihashGeneric<9>> = Multihash::<9>::wrap(18, b"foobar");
-    let cut = expect_ok!(rt; wrapped).truncate(3);
+    let m = expect_ok!(&rt; wrapped).truncate(3);
+    let shown = expect_ok!(&rt; format!(in rt.alloc(); "{m:?}"));
     let wanted = "Multihash { code: 18, size: 3, digest: [102, 111, 111] }";
-    expect_shown(rt, alloc, &cut, wanted);
-    let lines = expect_ok!(rt; format!(in alloc; "{:#?}", cut.truncate(1)));
-    let wanted = "Multihash {\n    code: 18,\n    size: 1,\n    digest: [\n        102,\n    ],\n}";
-    check_eq!(rt; lines.as_str(), wanted);
-    have::<no_std_io::Error, multihash::Error, FormError, Head, Number, Bytes<1>>();
-    let long = expect_ok!(rt; Multihash::<64>::wrap(18, &[65; 64]));
-    let digest = expect_ok!(rt; format!(in alloc; "size: 64, digest: {:?} }}", [65; 64]));
-    let shown = expect_ok!(rt; format!(in alloc; "{long:?}"));
-    check!(rt; shown.ends_with(digest.as_str()));
-    let head = expect_ok!(rt; Head::read_front(&[18, 3, 7]));
-    let wanted = "Head { code: 18, digest_len: 3, digest_offset: 2 }";
-    expect_shown(rt, alloc, &head, wanted);
+    check_eq!(&rt; shown.as_str(), wanted);
+    expect_traits::<no_std_io::Error, multihash::Error, FormError, Head, Number, Bytes<1>>();
+    let head = expect_ok!(&rt; Head::read_front(&[18, 3, 7]));
     let other = Head {
         digest_offset: 1,
         ..head
     };
-    check!(rt; head == head && other != head);
+    check!(&rt; head == head && other != head);
 }

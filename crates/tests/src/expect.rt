@@ -65,13 +65,18 @@ pub fn equal<T: PartialEq + Debug + Drop, N: Debug + Drop>(
     })
 }
 
+/// Whether this is the error of a reader or a writer that prints this text.
+pub fn has_text(e: &Error, text: &str) -> bool {
+    e.io().is_some_and(|io| {
+        io.text() == text && io.is_out_of_memory() == (text == OUT_OF_MEMORY)
+    })
+}
+
 /// Whether a call passed on the reader's or the writer's error that prints this text.
 pub fn is_passed_on<T>(outcome: &Result<T, Error>, text: &str) -> bool {
     match outcome {
         Ok(_) => false,
-        Err(e) => e.io().is_some_and(|io| {
-            io.text() == text && io.is_out_of_memory() == (text == OUT_OF_MEMORY)
-        }),
+        Err(e) => has_text(e, text),
     }
 }
 

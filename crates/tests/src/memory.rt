@@ -55,10 +55,8 @@ fn unless_failed(succeeded: bool) -> Result<(), Fail> {
 fn makes_encodings<const S: usize>(rt: &impl Abort, alloc: Global, code: u64) -> bool
     requires { S < 2 ^ 16 }
 {
-    let bytes = [65; 255];
-    // Sizes about powers of two, the longest, and those of usual digests.
-    for len in [0, 1, 20, 31, 32, 33, 48, 64, 127, 128, 200, 255] {
-        let digest = bytes.get(..S.min(len)).unwrap_or(&[]);
+    for len in [0, 1, 32, 64, 127, 128, 255] {
+        let digest = [65; 255].get(..S.min(len)).unwrap_or(&[]);
         let m = expect_ok!(rt; Multihash::<S>::wrap(code, digest));
         if !succeeded(rt, &m.to_bytes(alloc)) || !succeeded(rt, &m.to_value(alloc)) {
             return false;
@@ -68,34 +66,25 @@ fn makes_encodings<const S: usize>(rt: &impl Abort, alloc: Global, code: u64) ->
 }
 
 #[test]
-fn allocating_encodings_at_each_size(rt: HostRuntime) -> Result<(), Fail> {
-    unless_failed(makes_encodings::<64>(&rt, rt.alloc(), 1 << 20))?;
-    unless_failed(makes_encodings::<255>(&rt, rt.alloc(), 300))
+fn allocating_encodings(rt: HostRuntime) -> Result<(), Fail> {
+    unless_failed(
+        makes_encodings::<64>(&rt, rt.alloc(), 1 << 20)
+            && makes_encodings::<255>(&rt, rt.alloc(), 300),
+    )
 }
 
-// The capacity is the one allocation: the input ends after one pair. If it fails, nothing was read.
-fn reserves_lists<const S: usize>(rt: &impl Abort, alloc: Global, counts: &[usize]) -> bool
-    requires { S < 2 ^ 16 }
-{
-    for count in counts {
-        let input = [0u8; 2];
-        let mut left = input.as_slice();
-        let outcome = read_list::<S, _>(alloc, &mut left, *count);
-        let is_read = matches!(&outcome, Err(e) if e.is_insufficient());
-        if !is_read && !succeeded(rt, &outcome) {
-            check_eq!(rt; left.len(), 2);
-            return false;
-        }
-    }
-    true
-}
-
+// The capacity is the one allocation. If it fails, nothing was read.
 #[test]
 fn allocating_read_of_lists(rt: HostRuntime) -> Result<(), Fail> {
-    unless_failed(
-        reserves_lists::<64>(&rt, rt.alloc(), &[1, 2, 3, 4, 5, 6, 32, 33, 300, 301])
-            && reserves_lists::<0>(&rt, rt.alloc(), &[255, 4096, 65536, 70001]),
-    )
+    for count in [1, 6, 300] {
+        let mut left = [0u8; 600].as_slice();
+        let outcome = read_list::<64, _>(rt.alloc(), &mut left, count);
+        if !succeeded(&rt, &outcome) {
+            check_eq!(&rt; left.len(), 600);
+            return unless_failed(false);
+        }
+    }
+    Ok(())
 }
 
 #[test]
@@ -126,21 +115,6 @@ fn allocating_write_of_a_vector(rt: HostRuntime) -> Result<(), Fail> {
     unless_failed(is_written && is_whole)
 }
 
-// So is one after a push, and what was not pushed is freed.
-#[test]
-fn allocating_push(rt: HostRuntime) -> Result<(), Fail> {
-    let m = Multihash::<4>::default();
-    let mut held = Vec::new(rt.alloc());
-    let outcome = keep(&mut held, m.to_bytes(rt.alloc()));
-    check_eq!(&rt; held.len(), usize::from(outcome.is_ok()));
-    unless_failed(succeeded(&rt, &outcome))
-}
-
-fn keep(held: &mut Vec<Vec<u8>>, bytes: Result<Vec<u8>, Error>) -> Result<(), Error> {
-    held.push(bytes?)?;
-    Ok(())
-}
-
 fn of_form<T: Drop>(outcome: Result<T, FormError>) -> Result<(), Error> {
     match outcome {
         Ok(_value) => Ok(()),
@@ -157,13 +131,9 @@ fn allocating_blocks(rt: HostRuntime) -> Result<(), Fail> {
     entry[3..5].copy_from_slice(&[0x90, 0x4e]);
     let (mut block, mut log) = (&entry[3..], entry.as_slice());
     let read = of_form(form::read::<Block<10000>, &[u8]>(alloc, &mut block));
-    unless_failed(
-        succeeded(&rt, &read)
-            && succeeded(
-                &rt,
-                &of_form(form::read::<LogEntry, &[u8]>(alloc, &mut log)),
-            ),
-    )
+    unless_failed(succeeded(&rt, &read))?;
+    let read = of_form(form::read::<LogEntry, &[u8]>(alloc, &mut log));
+    unless_failed(succeeded(&rt, &read))
 }
 
 // A head that claims 2^62 bytes, of which 10000 arrive: memory grows as it does for a block of that length.
@@ -176,9 +146,16 @@ fn allocating_claimed_length(rt: HostRuntime) -> Result<(), Fail> {
     unless_failed(is_passed_on(&outcome, "failed to fill whole buffer") || succeeded(&rt, &outcome))
 }
 
-fn up_to_the_end(alloc: Global, input: &[u8]) -> Result<(), Error> {
+#[test]
+fn allocating_forms(rt: HostRuntime) -> Result<(), Fail> {
+    let alloc = rt.alloc();
     let mut list: Vec<Multihash<4>> = Vec::new(alloc);
-    of_form(Stream::new(input).read_up_to(alloc, usize::MAX, &mut list))
+    let read = Stream::new([0u8; 18].as_slice()).read_up_to(alloc, usize::MAX, &mut list);
+    unless_failed(succeeded(&rt, &of_form(read)))?;
+    let mut counted = [0u8; 19];
+    counted[0] = 9;
+    let read = form::read::<Counted<Multihash<4>, 9>, &[u8]>(alloc, &mut counted.as_slice());
+    unless_failed(succeeded(&rt, &of_form(read)))
 }
 
 #[test]
@@ -187,27 +164,17 @@ fn allocating_examples(rt: HostRuntime) -> Result<(), Fail> {
     let rt = &rt;
     let (m, nine) = (hash_of::<32>(b"a"), [Multihash::<4>::default(); 9]);
     let (input, mut out) = ([0u8; 18], [0u8; 36]);
-    let mut counted = [0u8; 19];
-    counted[0] = 9;
-    let (mut list, mut links) = (input.as_slice(), counted.as_slice());
-    let mut room = out.as_mut_slice();
+    let (mut left, mut room) = (input.as_slice(), out.as_mut_slice());
+    let list = list_through::<4, 4, _, _>(alloc, &nine, &mut room, &mut left);
     unless_failed(
-        succeeded(rt, &up_to_the_end(alloc, &input))
-            && succeeded(
-                rt,
-                &list_through::<4, 4, _, _>(alloc, &nine, &mut room, &mut list),
-            )
-            && succeeded(
-                rt,
-                &of_form(form::read::<Counted<Multihash<4>, 9>, &[u8]>(alloc, &mut links)),
-            )
+        succeeded(rt, &list)
             && succeeded(rt, &there_and_back(alloc, m.digest()))
             && succeeded(rt, &scale(alloc, &m))
             && succeeded(rt, &json(alloc, &m)),
     )
 }
 
-fn read_without_memory<const S: usize>(
+fn expect_read<const S: usize>(
     rt: &impl Abort,
     alloc: Global,
     m: &Multihash<S>,
@@ -224,15 +191,6 @@ fn read_without_memory<const S: usize>(
     check!(rt; expect_ok!(rt; read_list::<S, _>(alloc, &mut left, 0)).is_empty());
 }
 
-fn use_without_memory<const S: usize>(rt: &impl Abort, m: &Multihash<S>, code: u64)
-    requires { S < 2 ^ 16 }
-{
-    check!(rt; expect_ok!(rt; m.resize::<32>()).truncate(4) < m.resize::<32>().unwrap_or_default());
-    check!(rt; m.code() == code && m.size() == 32 && m.digest().len() == 32);
-    check!(rt; *m != Multihash::default() && m.into_inner().2 == 32);
-    m.hash(&mut DefaultHasher::new());
-}
-
 // Calls over slices that no contract gives an allocator.
 fn expect_without_memory<const S: usize>(rt: &impl Abort, alloc: Global, code: u64)
     requires { S < 2 ^ 16 }
@@ -243,8 +201,11 @@ fn expect_without_memory<const S: usize>(rt: &impl Abort, alloc: Global, code: u
     check!(rt; m.write(&mut room).is_ok());
     check!(rt; write_list(&[m], &mut room).is_ok());
     check!(rt; m.scale_encode(&mut scale.as_mut_slice()).is_ok());
-    read_without_memory(rt, alloc, &m, &bytes, &scale);
-    use_without_memory(rt, &m, code);
+    expect_read(rt, alloc, &m, &bytes, &scale);
+    check!(rt; expect_ok!(rt; m.resize::<32>()).truncate(4) < m.resize::<32>().unwrap_or_default());
+    check!(rt; m.code() == code && m.size() == 32 && m.digest().len() == 32);
+    check!(rt; m != Multihash::default() && m.into_inner().2 == 32);
+    m.hash(&mut DefaultHasher::new());
 }
 
 #[test]

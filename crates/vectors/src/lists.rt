@@ -1,15 +1,15 @@
-//! The lists of test vectors: each line is made anew from its first columns. The same result has to come from input in
-//! parts and from JSON, and the same multihash after it was encoded and decoded, in each two encodings. A result that
-//! differs is printed after the others.
+//! The lists of test vectors: each line is made again from its first columns. The same result has to come from few bytes
+//! per call and from JSON, and the same multihash after it was encoded and decoded by each two encodings.
 ghost use Rattle.std.specs.Prelude.{◌<◌, ◌^◌};
 
 use crate::page::Page;
 use crate::values::compared;
-use fakes::Cuts;
+use fakes::SlowReader;
 use multihash::no_std_io::Read;
-use multihash::{Error, Head, Multihash};
+use multihash::{Error, Multihash};
 use serde_json::Value;
 use std::alloc::{AllocError, Global};
+use std::fmt::{self, Display};
 
 #[derive(Clone, Copy)]
 enum Encoding {
@@ -31,20 +31,7 @@ impl Encoding {
         }
     }
 
-    // The number of bytes consumed of a slice that ends too early: a part that is too short is left.
-    fn truncated_len(self, input: &[u8]) -> usize {
-        match (self, Head::read_front(input)) {
-            (Encoding::Scale, _) => match input.len() {
-                0..=7 => 0,
-                8 => 8,
-                _ => 9,
-            },
-            (_, Ok(head)) => head.digest_offset,
-            (_, Err(_)) => input.len(),
-        }
-    }
-
-    // Made in this encoding, and read by another capacity.
+    // Encodes a multihash, and decodes it with another capacity.
     fn through<const S: usize, const T: usize>(
         self,
         alloc: Global,
@@ -64,93 +51,90 @@ impl Encoding {
     }
 }
 
-fn put_hex(page: &mut Page, bytes: &[u8]) {
-    page.put(if bytes.is_empty() { "-" } else { "" });
-    for byte in bytes {
-        page.put(format_args!("{byte:02x}"));
+// Bytes as a column has them.
+#[derive(Clone, Copy)]
+struct Hex<'a>(&'a [u8]);
+
+impl Display for Hex<'_> {
+    fn fmt<W: fmt::Write>(&self, f: &mut fmt::Formatter<W>) -> fmt::Result {
+        if self.0.is_empty() {
+            return f.write_str("-");
+        }
+        for byte in self.0 {
+            write!(f, "{byte:02x}")?;
+        }
+        Ok(())
     }
 }
 
-// The name of the kind of an error that an input has.
-fn kind_of(e: &Error) -> &'static str {
-    if e.is_insufficient() {
-        "insufficient"
-    } else if e.is_overflow() {
-        "overflow"
-    } else if e.is_not_minimal() {
-        "not_minimal"
-    } else if e.invalid_code().is_some() {
-        "invalid_code"
-    } else if e.invalid_size().is_some() {
-        "invalid_size"
-    } else if e.io().is_some_and(|io| io.is_unexpected_eof()) {
-        "unexpected_eof"
-    } else {
-        "another error"
+// The result of a call as a column has it.
+#[derive(Clone, Copy)]
+struct Verdict<'a, const S: usize>(&'a Result<Multihash<S>, Error>);
+
+impl<const S: usize> Display for Verdict<'_, S> {
+    fn fmt<W: fmt::Write>(&self, f: &mut fmt::Formatter<W>) -> fmt::Result {
+        let e = match self.0 {
+            Ok(m) => return write!(f, "pair {} {}", m.code(), Hex(m.digest())),
+            Err(e) => e,
+        };
+        if let Some(size) = e.invalid_size() {
+            write!(f, "invalid_size {size}")
+        } else if let Some(code) = e.invalid_code() {
+            write!(f, "invalid_code {code}")
+        } else if e.is_insufficient() {
+            f.write_str("insufficient")
+        } else if e.is_overflow() {
+            f.write_str("overflow")
+        } else if e.is_not_minimal() {
+            f.write_str("not_minimal")
+        } else if e.io().is_some_and(|io| io.is_unexpected_eof()) {
+            f.write_str("unexpected_eof")
+        } else {
+            f.write_str("another error")
+        }
     }
 }
 
-fn put_error(page: &mut Page, e: &Error) {
-    page.put(kind_of(e));
-    if let Some(number) = e.invalid_size().or(e.invalid_code()) {
-        page.put(format_args!(" {number}"));
-    }
-}
-
-fn put_verdict<const S: usize>(page: &mut Page, found: &Result<Multihash<S>, Error>) {
-    match found {
-        Ok(m) => put_pair(page, m.code(), m.digest()),
-        Err(e) => put_error(page, e),
-    }
-}
-
-fn put_pair(page: &mut Page, code: u64, digest: &[u8]) {
-    page.put(format_args!("pair {code} "));
-    put_hex(page, digest);
-}
-
-fn is_incomplete<const S: usize>(found: &Result<Multihash<S>, Error>) -> bool {
-    matches!(found, Err(e) if e.is_incomplete())
-}
-
-// With the number of bytes that were consumed. The lists have none if more input can change the result: then it depends on
-// the reader, which consumes that many of a truncated input.
-fn put_reading<const S: usize>(
-    page: &mut Page,
-    found: &Result<Multihash<S>, Error>,
+// The result of a call that reads, and the number of bytes that it consumed, as two columns.
+#[derive(Drop)]
+struct Reading<const S: usize> {
+    found: Result<Multihash<S>, Error>,
     consumed: usize,
-    truncated_len: usize,
-) {
-    put_verdict(page, found);
-    if is_incomplete(found) && consumed == truncated_len {
-        page.put("\t-");
-    } else {
-        page.put(format_args!("\t{consumed}"));
+}
+
+impl<const S: usize> Reading<S> {
+    fn of_slice(encoding: Encoding, input: &[u8]) -> Self
+        requires { S < 2 ^ 16 }
+    {
+        let mut left = input;
+        let found = encoding.read(&mut left);
+        let consumed = input.len().saturating_sub(left.len());
+        Reading { found, consumed }
+    }
+
+    fn of_slow(encoding: Encoding, input: &[u8], most: usize) -> Self
+        requires capacity { S < 2 ^ 16 }
+        requires some { 0 < most }
+    {
+        let mut slow = SlowReader::new(input, most);
+        let found = encoding.read(&mut slow);
+        let consumed = input.len().saturating_sub(slow.left.len());
+        Reading { found, consumed }
+    }
+
+    fn is_incomplete(&self) -> bool {
+        matches!(&self.found, Err(e) if e.is_incomplete())
     }
 }
 
-// Of a slice and of few bytes per call.
-fn put_readings<const S: usize>(page: &mut Page, encoding: Encoding, input: &[u8])
-    requires { S < 2 ^ 16 }
-{
-    let mut left = input;
-    let found = encoding.read::<S, _>(&mut left);
-    let consumed = input.len().saturating_sub(left.len());
-    put_reading(page, &found, consumed, encoding.truncated_len(input));
-    page.result("");
-    for most in 1..8 {
-        let mut cuts = Cuts::new(input, most);
-        let found = encoding.read::<S, _>(&mut cuts);
-        put_reading(
-            page,
-            &found,
-            input.len().saturating_sub(cuts.left.len()),
-            input.len(),
-        );
-        page.result(format_args!(" or by {most} bytes "));
-    }
-    if !is_incomplete(&found) {
-        put_determined::<S>(page, encoding, input.get(..consumed).unwrap_or(&[]));
+// How much of a truncated input is consumed depends on the reader, so the column is a dash.
+impl<const S: usize> Display for Reading<S> {
+    fn fmt<W: fmt::Write>(&self, f: &mut fmt::Formatter<W>) -> fmt::Result {
+        write!(f, "{}\t", Verdict(&self.found))?;
+        if self.is_incomplete() {
+            return f.write_str("-");
+        }
+        write!(f, "{}", self.consumed)
     }
 }
 
@@ -162,23 +146,37 @@ fn joined(alloc: Global, front: &[u8], more: &[u8]) -> Result<Vec<u8>, AllocErro
 
 const MORE: [&[u8]; 3] = [&[0], &[255], &[128, 128]];
 
-// These bytes determine the result, and fewer do not.
-fn put_determined<const S: usize>(page: &mut Page, encoding: Encoding, front: &[u8])
+// Few bytes per call have the result of the slice. The bytes that were consumed determine it, and fewer do not.
+fn check_reading<const S: usize>(page: &mut Page, line: &str, encoding: Encoding, input: &[u8])
     requires { S < 2 ^ 16 }
 {
+    let reading = Reading::<S>::of_slice(encoding, input);
+    let wanted = page.text_of(&reading);
+    for most in 1..8 {
+        let slow = Reading::<S>::of_slow(encoding, input, most);
+        page.check(line, "by few bytes per call", slow, &wanted);
+    }
+    if reading.is_incomplete() {
+        return;
+    }
+    let front = input.get(..reading.consumed).unwrap_or(&[]);
     for more in &MORE {
-        if let Ok(bytes) = joined(page.alloc, front, more) {
-            let mut left = bytes.as_slice();
-            let found = encoding.read::<S, _>(&mut left);
-            put_reading(page, &found, bytes.len().saturating_sub(left.len()), 0);
-        }
-        page.result(" or with more ");
+        let bytes = joined(page.alloc, front, more).unwrap_or(Vec::new(page.alloc));
+        page.check(
+            line,
+            "and more",
+            Reading::<S>::of_slice(encoding, &bytes),
+            &wanted,
+        );
     }
     if let Some((_, fewer)) = front.split_last() {
-        if !is_incomplete(&encoding.read::<S, _>(&mut { fewer })) {
-            page.put("the same");
-            page.result(" or with fewer ");
-        }
+        let fewer = Reading::<S>::of_slice(encoding, fewer);
+        page.check(
+            line,
+            "and fewer is incomplete",
+            fewer.is_incomplete(),
+            "true",
+        );
     }
 }
 
@@ -190,171 +188,114 @@ fn json_of(alloc: Global, bytes: &[u8]) -> Result<Value, AllocError> {
     Ok(Value::Array(members))
 }
 
-fn put_results<const S: usize>(page: &mut Page, input: &[u8])
+fn check_input<const S: usize>(page: &mut Page, line: &str, input: &[u8])
     requires { S < 2 ^ 16 }
 {
-    put_readings::<S>(page, Encoding::Binary, input);
-    page.column();
-    put_verdict(page, &Multihash::<S>::from_bytes(input));
-    page.result("");
-    if let Ok(value) = json_of(page.alloc, input) {
-        put_verdict(page, &Multihash::<S>::from_value(&value));
-    }
-    page.result(" or from JSON ");
-    page.column();
-    put_readings::<S>(page, Encoding::Scale, input);
+    let read = Reading::<S>::of_slice(Encoding::Binary, input);
+    let scale = Reading::<S>::of_slice(Encoding::Scale, input);
+    let whole = Multihash::<S>::from_bytes(input);
+    let made = format_args!("{S}\t{}\t{read}\t{}\t{scale}", Hex(input), Verdict(&whole));
+    page.check(line, "is made", made, line);
+    check_reading::<S>(page, line, Encoding::Binary, input);
+    check_reading::<S>(page, line, Encoding::Scale, input);
+    let wanted = page.text_of(Verdict(&whole));
+    let json = json_of(page.alloc, input).unwrap_or(Value::Null);
+    let found = Multihash::<S>::from_value(&json);
+    page.check(line, "from JSON", Verdict(&found), &wanted);
 }
 
 fn bytes_of(alloc: Global, digits: &str) -> Vec<u8> {
     hex::decode(alloc, if digits == "-" { "" } else { digits }).unwrap_or(Vec::new(alloc))
 }
 
-/// A call of the capacity that a column states, of those that the lists have.
+/// Calls a function for the capacity in a column, which is one of those that the lists have.
 macro_rules! with_capacity {
-    ($page:expr, $column:expr, $call:ident $arguments:tt) => {
-        with_capacity!($page, $column, $call $arguments; 0 1 2 4 16 32 64 128 200 255 256 300)
+    ($page:expr, $line:expr, $column:expr, $call:ident $arguments:tt) => {
+        with_capacity!($page, $line, $column, $call $arguments; 0 1 2 4 16 32 64 128 200 255 256 300)
     };
-    ($page:expr, $column:expr, $call:ident $arguments:tt; $($capacity:literal)+) => {
+    ($page:expr, $line:expr, $column:expr, $call:ident $arguments:tt; $($capacity:literal)+) => {
         match $column.parse::<u16>() {
             $(Ok($capacity) => $call::<$capacity> $arguments,)+
-            _ => $page.put("no such capacity"),
+            _ => $page.row($line, "no such capacity"),
         }
     };
 }
 
-fn print_verdict(page: &mut Page, line: &str) {
+fn check_verdict(page: &mut Page, line: &str) {
     let mut columns = line.split('\t');
     let size = columns.next().unwrap_or("");
-    let input = columns.next().unwrap_or("");
-    let bytes = bytes_of(page.alloc, input);
-    page.put(format_args!("{size}\t{input}"));
-    page.column();
-    with_capacity!(page, size, put_results(page, &bytes));
-    page.end_if_other(line);
+    let input = bytes_of(page.alloc, columns.next().unwrap_or(""));
+    with_capacity!(page, line, size, check_input(page, line, &input));
 }
 
-// Through each two encodings, read last by this capacity.
-fn put_through<const S: usize, const T: usize>(page: &mut Page, m: &Multihash<S>)
+// By each two encodings, the second of which is decoded with this capacity.
+fn check_through<const S: usize, const T: usize>(page: &mut Page, line: &str, m: &Multihash<S>)
     requires source { S < 2 ^ 16 }
     requires last { T < 2 ^ 16 }
 {
-    for encoding in &ENCODINGS {
-        for last in &ENCODINGS {
-            match encoding.through::<S, S>(page.alloc, m) {
-                Ok(again) => put_verdict(page, &last.through::<S, T>(page.alloc, &again)),
-                Err(e) => page.put(e),
-            }
-            page.result(" or by two encodings ");
+    let wanted = page.text_of(Verdict(&Ok(*m)));
+    for first in &ENCODINGS {
+        for second in &ENCODINGS {
+            let found = match first.through::<S, S>(page.alloc, m) {
+                Ok(again) => second.through::<S, T>(page.alloc, &again),
+                Err(e) => Err(e),
+            };
+            page.check(line, "by two encodings", Verdict(&found), &wanted);
         }
     }
 }
 
-fn put_sized(page: &mut Page, bytes: &[u8], len: usize) {
-    put_hex(page, bytes);
-    page.put(if bytes.len() == len {
-        ""
-    } else {
-        " of another length"
-    });
-}
-
-fn put_forms<const S: usize>(page: &mut Page, m: &Multihash<S>) {
-    if let Ok(bytes) = m.to_bytes(page.alloc) {
-        put_sized(page, &bytes, m.encoded_len());
-    }
-    page.column();
-    let mut bytes = Vec::new(page.alloc);
-    let len = m.scale_encode(&mut bytes).unwrap_or(0);
-    put_sized(page, &bytes, len);
-}
-
-fn put_value<const S: usize>(page: &mut Page, code: u64, digest: &[u8])
+fn check_value<const S: usize>(page: &mut Page, line: &str, code: u64, digest: &[u8])
     requires { S < 2 ^ 16 }
 {
-    match Multihash::<S>::wrap(code, digest) {
-        Ok(m) => {
-            put_forms(page, &m);
-            page.result("");
-            if digest.len() > 128 {
-                page.put(format_args!("invalid_size {}", digest.len()));
-            } else {
-                put_pair(page, code, digest);
-            }
-            page.expect();
-            put_through::<S, 128>(page, &m);
-            put_pair(page, code, digest);
-            page.expect();
-            put_through::<S, 255>(page, &m);
-        }
-        Err(e) => {
-            put_error(page, &e);
-            page.column();
-            put_error(page, &e);
-        }
+    let (digits, outcome) = (Hex(digest), Multihash::<S>::wrap(code, digest));
+    let Ok(m) = &outcome else {
+        let e = Verdict(&outcome);
+        let made = format_args!("value\t{S}\t{code}\t{digits}\t{e}\t{e}");
+        return page.check(line, "is made", made, line);
+    };
+    let mut scale = Vec::new(page.alloc);
+    let _count = m.scale_encode(&mut scale);
+    let bytes = m.to_bytes(page.alloc).unwrap_or(Vec::new(page.alloc));
+    let (bytes, scale) = (Hex(&bytes), Hex(&scale));
+    let made = format_args!("value\t{S}\t{code}\t{digits}\t{bytes}\t{scale}");
+    page.check(line, "is made", made, line);
+    check_through::<S, 255>(page, line, m);
+    if digest.len() <= 128 {
+        check_through::<S, 128>(page, line, m);
     }
 }
 
-fn put_value_of(page: &mut Page, limit: &str, code: &str, digest: &str) {
-    page.put(format_args!("value\t{limit}\t{code}\t{digest}"));
-    page.column();
-    let bytes = bytes_of(page.alloc, digest);
-    let code = code.parse().unwrap_or(0);
-    with_capacity!(page, limit, put_value(page, code, &bytes));
-}
-
-fn value_of<const S: usize>(alloc: Global, code: &str, digest: &str) -> Multihash<S>
-    requires { S < 2 ^ 16 }
-{
+fn multihash_of(alloc: Global, code: &str, digest: &str) -> Multihash<255> {
     Multihash::wrap(code.parse().unwrap_or(0), &bytes_of(alloc, digest)).unwrap_or_default()
 }
 
-fn put_compared<const S: usize>(page: &mut Page, left: (&str, &str), right: (&str, &str))
-    requires { S < 2 ^ 16 }
-{
-    let left = value_of::<S>(page.alloc, left.0, left.1);
-    let right = value_of(page.alloc, right.0, right.1);
-    page.put(match compared(left, right) {
-        "Less" => "-1",
-        "Greater" => "1",
-        "Equal, ==, same hash" => "0",
-        other => other,
-    });
-}
-
-// Other code compares values of a small capacity.
-fn put_order(page: &mut Page, left: (&str, &str), right: (&str, &str)) {
-    page.put(format_args!("order\t{}\t{}\t{}\t{}", left.0, left.1, right.0, right.1));
-    page.column();
-    put_compared::<255>(page, left, right);
-    page.result("");
-    if left.1.len() < 9 && right.1.len() < 9 {
-        put_compared::<4>(page, left, right);
-        page.result(" or of capacity 4 ");
-        put_compared::<12>(page, left, right);
-        page.result(" or of capacity 12 ");
-    }
-}
-
-fn print_line(page: &mut Page, line: &str) {
+fn check_values(page: &mut Page, line: &str) {
     let mut columns = line.split('\t');
-    let kind = columns.next().unwrap_or("");
-    let first = columns.next().unwrap_or("");
-    let second = columns.next().unwrap_or("");
-    let third = columns.next().unwrap_or("");
-    if kind == "order" {
-        put_order(page, (first, second), (third, columns.next().unwrap_or("")));
-    } else {
-        put_value_of(page, first, second, third);
+    let mut next = || columns.next().unwrap_or("");
+    let (kind, first, second, third, fourth) = (next(), next(), next(), next(), next());
+    if kind == "value" {
+        let (code, digest) = (second.parse().unwrap_or(0), bytes_of(page.alloc, third));
+        with_capacity!(page, line, first, check_value(page, line, code, &digest));
+        return;
     }
-    page.end_if_other(line);
+    let left = multihash_of(page.alloc, first, second);
+    let right = multihash_of(page.alloc, third, fourth);
+    let wanted = match next() {
+        "-1" => "Less",
+        "0" => "Equal, ==, same hash",
+        _ => "Greater",
+    };
+    page.check(line, "compares", compared(left, right), wanted);
 }
 
-pub fn print_lines(page: &mut Page, verdicts: &str, values: &str) {
+/// Prints what differs.
+pub fn check_lines(page: &mut Page, verdicts: &str, values: &str) {
     page.heading("Lines of test vectors with other results");
     for line in verdicts.lines().skip(1) {
-        print_verdict(page, line);
+        check_verdict(page, line);
     }
     for line in values.lines().skip(1) {
-        print_line(page, line);
+        check_values(page, line);
     }
 }

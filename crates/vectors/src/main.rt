@@ -28,6 +28,6 @@ fn main(rt: HostRuntime) -> Result<()> {
     streams::print_readers(&mut page);
     streams::print_writers(&mut page);
     streams::print_errors(&mut page);
-    lists::print_lines(&mut page, &verdicts, &values);
+    lists::check_lines(&mut page, &verdicts, &values);
     print!(rt; "{}", page.finish()?)
 }

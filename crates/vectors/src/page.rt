@@ -110,19 +110,13 @@ impl Display for Bytes<'_> {
     }
 }
 
-/// Rows of calls and their results, each of which is put together of parts.
+/// Rows of calls and their results.
 ///
 /// No method returns an error, so that no proof has a case for one. Instead `finish` does.
 #[derive(Drop)]
 pub struct Page {
     pub alloc: Global,
     text: String,
-    // The row at hand.
-    line: String,
-    // The parts of the call or the result at hand.
-    parts: String,
-    // The last result of the row.
-    last: String,
     failed: bool,
 }
 
@@ -131,9 +125,6 @@ impl Page {
         Page {
             alloc,
             text: String::new(alloc),
-            line: String::new(alloc),
-            parts: String::new(alloc),
-            last: String::new(alloc),
             failed: false,
         }
     }
@@ -146,66 +137,38 @@ impl Page {
         Ok(self.text)
     }
 
-    pub fn put(&mut self, part: impl Display + Drop) {
-        self.failed |= write!(self.parts, "{part}").is_err();
-    }
-
     pub fn heading(&mut self, heading: &str) {
         let start = if self.text.is_empty() { "" } else { "\n" };
         self.failed |= write!(self.text, "{start}# {heading}\n\n").is_err();
     }
 
-    /// The call of a row.
-    pub fn call(&mut self, call: impl Display + Drop) {
-        self.put(call);
-        self.failed |= write!(self.line, "{:56}  ", self.parts).is_err();
-        self.parts.clear();
-    }
-
-    /// The parts are a result. If it differs from the one before, it is printed after the way in which that call
-    /// was made.
-    pub fn result(&mut self, way: impl Display + Drop) {
-        if self.parts != self.last {
-            if !self.last.is_empty() {
-                self.failed |= write!(self.line, "{way}").is_err();
+    /// The text of a value.
+    pub fn text_of(&mut self, value: impl Display + Drop) -> String {
+        match format!(in self.alloc; "{value}") {
+            Ok(text) => text,
+            Err(_) => {
+                self.failed = true;
+                String::new(self.alloc)
             }
-            self.failed |= self.line.push_str(&self.parts).is_err();
-            self.expect();
         }
-        self.parts.clear();
     }
 
-    /// The parts are the result that is expected next.
-    pub fn expect(&mut self) {
-        std::mem::swap(&mut self.parts, &mut self.last);
-        self.parts.clear();
+    pub fn row(&mut self, call: impl Display + Drop, found: impl Display + Drop) {
+        let call = self.text_of(call);
+        self.failed |= write!(self.text, "{call:56}  {found}\n").is_err();
     }
 
-    /// The parts are the last result of a column.
-    pub fn column(&mut self) {
-        self.result("");
-        self.failed |= self.line.push_str("\t").is_err();
-        self.last.clear();
-    }
-
-    /// The parts are the last result of a row.
-    pub fn end(&mut self) {
-        self.end_if_other("");
-    }
-
-    /// The same; the row is printed only if it differs from this one.
-    pub fn end_if_other(&mut self, row: &str) {
-        self.result("");
-        if self.line.as_str() != row {
-            self.failed |= write!(self.text, "{}\n", self.line).is_err();
+    /// Prints a row if what was found for a call, made in this way, is not what is wanted.
+    pub fn check(
+        &mut self,
+        call: impl Display + Drop,
+        way: &str,
+        found: impl Display + Drop,
+        wanted: &str,
+    ) {
+        let found = self.text_of(found);
+        if found.as_str() != wanted {
+            self.row(format_args!("{call}, {way}"), found);
         }
-        self.line.clear();
-        self.last.clear();
-    }
-
-    pub fn row(&mut self, call: impl Display + Drop, outcome: impl Display + Drop) {
-        self.call(call);
-        self.put(outcome);
-        self.end();
     }
 }

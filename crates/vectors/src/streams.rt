@@ -3,7 +3,7 @@ ghost use Rattle.std.specs.Prelude.{◌<◌, ◌^◌};
 
 use crate::page::{Bytes, Found, Left, Outcome, Page, Pair, rows};
 use crate::values::value;
-use fakes::{Cuts, Drip, FailAt, OUT_OF_MEMORY};
+use fakes::{FailingReader, OUT_OF_MEMORY, SlowReader, SlowWriter};
 use multihash::list::{read_list, write_list};
 use multihash::no_std_io::{self, Read, Write};
 use multihash::{Error, Multihash};
@@ -34,20 +34,25 @@ impl<const S: usize> Display for List<'_, S> {
     }
 }
 
-// From a slice, and by few bytes a call.
+// From a slice, and, if the result differs, by few bytes per call.
 fn print_list(page: &mut Page, input: &[u8], count: usize) {
-    page.call(format_args!("read_list::<4>({}, {count})", Bytes(input)));
     let mut left = input;
     let outcome = read_list::<4, _>(page.alloc, &mut left, count);
-    page.put(List(outcome, left));
-    page.result("");
+    let found = page.text_of(List(outcome, left));
+    page.row(
+        format_args!("read_list::<4>({}, {count})", Bytes(input)),
+        &found,
+    );
     for most in 1..8 {
-        let mut cuts = Cuts::new(input, most);
-        let outcome = read_list::<4, _>(page.alloc, &mut cuts, count);
-        page.put(List(outcome, cuts.left));
-        page.result(format_args!("; from {most} byte a call: "));
+        let mut slow = SlowReader::new(input, most);
+        let outcome = read_list::<4, _>(page.alloc, &mut slow, count);
+        page.check(
+            "  the list",
+            "by few bytes per call",
+            List(outcome, slow.left),
+            &found,
+        );
     }
-    page.end();
 }
 
 pub fn print_lists(page: &mut Page) {
@@ -71,14 +76,17 @@ pub fn print_lists(page: &mut Page) {
 
 fn print_exact_reads(page: &mut Page) {
     let (mut left, mut four, mut three) = ([1u8, 2, 3].as_slice(), [9; 4], [0; 3]);
-    let (mut cuts, mut others) = (Cuts::new(&[1, 2, 3], 2), Cuts::new(&[1, 2, 3], 2));
+    let (mut slow, mut others) = (
+        SlowReader::new(&[1, 2, 3], 2),
+        SlowReader::new(&[1, 2, 3], 2),
+    );
     let short = Outcome(left.read_exact(&mut four));
-    let cut_short = Outcome(cuts.read_exact(&mut [0; 4]));
+    let cut_short = Outcome(slow.read_exact(&mut [0; 4]));
     let cut = Outcome(others.read_exact(&mut three));
     rows!(page;
         "[01 02 03].read_exact([09 09 09 09])" => format_args!("{short}{}", Left(left));
         "  and the buffer then" => Bytes(&four);
-        "[01 02 03] by 2 bytes a call, read_exact of 4" => format_args!("{cut_short}{}", Left(cuts.left));
+        "[01 02 03] by 2 bytes a call, read_exact of 4" => format_args!("{cut_short}{}", Left(slow.left));
         "[01 02 03] by 2 bytes a call, read_exact of 3" => format_args!("{cut}, {}", Bytes(&three));
         "[].read_exact([])" => Outcome([].as_slice().read_exact(&mut []));
     );
@@ -89,14 +97,14 @@ pub fn print_readers(page: &mut Page) {
     print_exact_reads(page);
     let mut left = [0, 2, 9].as_slice();
     let outcome = Multihash::<2>::read(&mut left);
-    let mut cuts = Cuts::new(&[0, 2, 9], 1);
-    let cut = Multihash::<2>::read(&mut cuts);
-    let mut reader = FailAt::new(Cuts::new(&[0, 1, 65], 1), 1, "link down");
+    let mut slow = SlowReader::new(&[0, 2, 9], 1);
+    let cut = Multihash::<2>::read(&mut slow);
+    let mut reader = FailingReader::new(SlowReader::new(&[0, 1, 65], 1), 1, "link down");
     let failed = Multihash::<4>::read(&mut reader);
     rows!(page;
         "read::<2>([00 02 09])" => Found(outcome, left);
-        "  by one byte a call" => Found(cut, cuts.left);
-        "read::<4>([00 01 41]), its second call fails" => Found(failed, reader.cuts.left);
+        "  by one byte a call" => Found(cut, slow.left);
+        "read::<4>([00 01 41]), its second call fails" => Found(failed, reader.inner.left);
     );
 }
 
@@ -128,12 +136,12 @@ fn print_slice_writes(page: &mut Page) {
     );
 }
 
-fn print_drip_writes(page: &mut Page) {
-    if let Ok(mut drip) = Drip::new(page.alloc, 5, 2) {
+fn print_slow_writes(page: &mut Page) {
+    if let Ok(mut slow) = SlowWriter::new(page.alloc, 5, 2) {
         rows!(page;
-            "capacity 5, 2 bytes a call, write([01 02 03])" => Outcome(drip.write(&[1, 2, 3]));
-            "  then write_all([03 04 05 06])" => Outcome(drip.write_all(&[3, 4, 5, 6]));
-            "  and it has" => Bytes(&drip.held);
+            "capacity 5, 2 bytes a call, write([01 02 03])" => Outcome(slow.write(&[1, 2, 3]));
+            "  then write_all([03 04 05 06])" => Outcome(slow.write_all(&[3, 4, 5, 6]));
+            "  and it has" => Bytes(&slow.written);
         );
     }
 }
@@ -150,7 +158,7 @@ fn print_vector_writes(page: &mut Page) {
 pub fn print_writers(page: &mut Page) {
     page.heading("Writers");
     print_slice_writes(page);
-    print_drip_writes(page);
+    print_slow_writes(page);
     print_vector_writes(page);
     rows!(page;
         "<Vec<u8> as Write>::ALLOCATES" => <Vec<u8> as Write>::ALLOCATES;
@@ -164,27 +172,40 @@ pub fn print_writers(page: &mut Page) {
     print_write_to_slice::<300>(page, &[0; 255], 258);
 }
 
-// A macro, since a test is no value.
-macro_rules! put_tests {
-    ($page:expr, $e:expr; $($test:ident)+) => {
-        { $($page.put(if $e.$test() { concat!(" ", stringify!($test)) } else { "" });)+ }
+// The names of the tests that are true. A method is no value, so this is a macro.
+macro_rules! write_tests {
+    ($f:expr, $e:expr; $($test:ident)+) => {
+        { $(if $e.$test() { $f.write_str(concat!(" ", stringify!($test)))?; })+ }
     };
 }
 
-fn print_error<T: Drop>(page: &mut Page, call: &str, outcome: Result<T, Error>) {
-    page.call(call);
-    if let Err(e) = &outcome {
-        page.put(e);
-        let (size, code) = (e.invalid_size().is_some(), e.invalid_code().is_some());
-        page.put(if size { " invalid_size" } else { "" });
-        page.put(if code { " invalid_code" } else { "" });
-        put_tests!(page, e; is_insufficient is_overflow is_not_minimal is_not_bytes);
-        if let Some(io) = e.io() {
-            page.put(" io");
-            put_tests!(page, io; is_unexpected_eof is_write_zero is_out_of_memory is_other);
+// The text of an error, and the names of its methods that are true or return a value.
+#[derive(Clone, Copy)]
+struct Tested<'a>(&'a Error);
+
+impl Display for Tested<'_> {
+    fn fmt<W: fmt::Write>(&self, f: &mut fmt::Formatter<W>) -> fmt::Result {
+        let e = self.0;
+        write!(f, "{e}")?;
+        if e.invalid_size().is_some() {
+            f.write_str(" invalid_size")?;
         }
+        if e.invalid_code().is_some() {
+            f.write_str(" invalid_code")?;
+        }
+        write_tests!(f, e; is_insufficient is_overflow is_not_minimal is_not_bytes);
+        if let Some(io) = e.io() {
+            f.write_str(" io")?;
+            write_tests!(f, io; is_unexpected_eof is_write_zero is_out_of_memory is_other);
+        }
+        Ok(())
     }
-    page.end();
+}
+
+fn print_error<T: Drop>(page: &mut Page, call: &str, outcome: Result<T, Error>) {
+    if let Err(e) = &outcome {
+        page.row(call, Tested(e));
+    }
 }
 
 macro_rules! errors {
@@ -195,8 +216,8 @@ type Mh = Multihash<0>;
 
 pub fn print_errors(page: &mut Page) {
     page.heading("Errors: the text, and the tests that apply");
-    let mut reader = FailAt::new(Cuts::new(&[], 1), 0, OUT_OF_MEMORY);
-    let mut other = FailAt::new(Cuts::new(&[], 1), 0, "link down");
+    let mut reader = FailingReader::new(SlowReader::new(&[], 1), 0, OUT_OF_MEMORY);
+    let mut other = FailingReader::new(SlowReader::new(&[], 1), 0, "link down");
     let own: Result<(), _> = Err(Error::from(no_std_io::Error::other("x")));
     errors!(page;
         "wrap::<0>(0, \"A\")" => Mh::wrap(0, b"A"),
