@@ -1,11 +1,8 @@
-//! The program over memory: a reader and a writer that count their calls, move few bytes per call, and end,
-//! fail or do nothing after some bytes.
-ghost use Rattle.std.specs.Prelude.{◌≡◌, ◌≤◌, IfOk};
-
+//! The program over memory: a reader and a writer that count their calls, move few bytes per call, and then end or fail.
 use super::run;
 use crate::show::{ShowError, show};
-use std::io;
-use std::io::{ErrorKind, Read, Write};
+use std::alloc::Global;
+use std::io::{self, ErrorKind, Read, Write};
 use std::process::Abort;
 
 const EXAMPLE: &[u8] = b"1603aabbcc";
@@ -16,50 +13,29 @@ const NOT_READ: &[u8] = b"mh_show: input not read\n";
 
 const NOT_WRITTEN: &[u8] = b"mh_show: output not written\n";
 
-// What is read at the end of the bytes, or written to a full page.
-#[derive(Clone, Copy)]
-enum End {
-    Nothing,
-    Fails(ErrorKind),
-}
-
-impl End {
-    fn outcome(self) -> io::Result<usize>
-        ensures { IfOk result (λ n. n ≡ 0) }
-    {
-        match self {
-            End::Nothing => Ok(0),
-            End::Fails(kind) => Err(io::Error::from(kind)),
-        }
+// What a call returns that moves no byte.
+fn end(error: Option<ErrorKind>) -> io::Result<usize> {
+    match error {
+        Some(kind) => Err(kind.into()),
+        None => Ok(0),
     }
 }
 
-// Returns its bytes, at most that many per call, and then its end.
+// Returns its bytes, at most that many per call, and then no byte or the error.
 #[derive(Drop)]
-struct Drip<'a> {
+struct SlowReader<'a> {
     left: &'a [u8],
     most: usize,
-    end: End,
+    error: Option<ErrorKind>,
     calls: usize,
 }
 
-impl<'a> Drip<'a> {
-    fn new(left: &'a [u8], most: usize, end: End) -> Self {
-        Drip {
-            left,
-            most,
-            end,
-            calls: 0,
-        }
-    }
-}
-
-impl Read for Drip<'_> {
+impl Read for SlowReader<'_> {
     fn read(&mut self, buf: &mut [u8]) -> io::Result<usize> {
         self.calls = self.calls.saturating_add(1);
         let count = self.left.len().min(self.most).min(buf.len());
         if count == 0 {
-            return self.end.outcome();
+            return end(self.error);
         }
         let (front, rest) = self.left.split_at(count);
         buf[..count].copy_from_slice(front);
@@ -68,48 +44,37 @@ impl Read for Drip<'_> {
     }
 }
 
-const CAPACITY: usize = 256;
-
-// Keeps what is written, at most that many bytes per call. When it has that many bytes, it ends.
+// Keeps what is written, at most that many bytes per call. When it is full, it accepts no byte or returns the error.
 #[derive(Drop)]
-struct Page {
-    bytes: [u8; CAPACITY],
-    length: usize,
-    room: usize,
+struct SlowWriter {
+    written: Vec<u8>,
+    capacity: usize,
     most: usize,
-    end: End,
+    error: Option<ErrorKind>,
     calls: usize,
-    ghost fits: { length ≤ 256 },
 }
 
-impl Page {
-    fn new(room: usize, most: usize, end: End) -> Self {
-        Page {
-            bytes: [0; CAPACITY],
-            length: 0,
-            room: room.min(CAPACITY),
-            most,
-            end,
+impl SlowWriter {
+    fn new(alloc: Global) -> Self {
+        SlowWriter {
+            written: Vec::new(alloc),
+            capacity: 256,
+            most: 256,
+            error: None,
             calls: 0,
         }
     }
-
-    fn written(&self) -> &[u8] {
-        &self.bytes[..self.length]
-    }
 }
 
-impl Write for Page {
+impl Write for SlowWriter {
     fn write(&mut self, buf: &[u8]) -> io::Result<usize> {
         self.calls = self.calls.saturating_add(1);
-        let room = self.room.min(CAPACITY).saturating_sub(self.length);
-        if room == 0 {
-            return self.end.outcome();
+        let count = buf.len().min(self.most).min(self.capacity);
+        if count == 0 {
+            return end(self.error);
         }
-        let count = buf.len().min(self.most).min(room);
-        let end = self.length + count;
-        self.bytes[self.length..end].copy_from_slice(&buf[..count]);
-        self.length = end;
+        self.written.extend_from_slice(&buf[..count])?;
+        self.capacity -= count;
         Ok(count)
     }
 
@@ -118,159 +83,121 @@ impl Write for Page {
     }
 }
 
-// The run ends with this status and these outputs, after that many calls of each.
-fn expect_run(
-    rt: &(impl Abort + AllocGlobal),
-    mut input: Drip,
-    mut out: Page,
-    mut err: Page,
-    wanted: (u8, &[u8], &[u8]),
-    calls: (usize, usize, usize),
-) {
-    let (status, written, reason) = wanted;
-    let ended = run(rt.alloc(), &mut input, &mut out, &mut err);
-    assert_eq!(rt; (out.written(), err.written()), (written, reason));
-    assert_eq!(rt; ended, status);
-    assert_eq!(rt; (input.calls, out.calls, err.calls), calls);
+#[derive(Drop)]
+struct Streams<'a> {
+    input: SlowReader<'a>,
+    out: SlowWriter,
+    err: SlowWriter,
 }
 
-fn whole_page() -> Page {
-    Page::new(CAPACITY, CAPACITY, End::Nothing)
+impl<'a> Streams<'a> {
+    // The input ends after these bytes, and the outputs accept all bytes.
+    fn new(alloc: Global, left: &'a [u8], most: usize) -> Self {
+        let input = SlowReader {
+            left,
+            most,
+            error: None,
+            calls: 0,
+        };
+        Streams {
+            input,
+            out: SlowWriter::new(alloc),
+            err: SlowWriter::new(alloc),
+        }
+    }
+
+    // A run ends with this status and these outputs, after that many calls of each stream.
+    fn expect(
+        mut self,
+        rt: &(impl Abort + AllocGlobal),
+        wanted: (u8, &[u8], &[u8]),
+        calls: (usize, usize, usize),
+    ) {
+        let status = run(rt.alloc(), &mut self.input, &mut self.out, &mut self.err);
+        assert_eq!(rt; self.out.written.as_slice(), wanted.1);
+        assert_eq!(rt; self.err.written.as_slice(), wanted.2);
+        assert_eq!(rt; status, wanted.0);
+        assert_eq!(rt; (self.input.calls, self.out.calls, self.err.calls), calls);
+    }
 }
 
-// A read that fails is the last: what was read before is not shown.
-fn expect_not_read(rt: &(impl Abort + AllocGlobal), input: Drip, calls: usize) {
-    let wanted = (1, b"".as_slice(), NOT_READ);
-    expect_run(rt, input, whole_page(), whole_page(), wanted, (calls, 0, 1));
-}
+const INTERRUPTED: Option<ErrorKind> = Some(ErrorKind::Interrupted);
 
-fn expect_last_read(rt: &(impl Abort + AllocGlobal), kind: ErrorKind) {
-    let end = End::Fails(kind);
-    expect_not_read(rt, Drip::new(b"", 5, end), 1);
-    expect_not_read(rt, Drip::new(b"1603", 5, end), 2);
-    expect_not_read(rt, Drip::new(EXAMPLE, 5, end), 3);
-}
+const NOT_CONNECTED: Option<ErrorKind> = Some(ErrorKind::NotConnected);
 
+// What was read before is not shown.
 #[test]
 fn a_read_that_fails_is_the_last(rt: HostRuntime) {
-    expect_last_read(&rt, ErrorKind::NotConnected);
-}
-
-#[test]
-fn a_read_that_is_interrupted_is_the_last(rt: HostRuntime) {
-    expect_last_read(&rt, ErrorKind::Interrupted);
+    for error in [INTERRUPTED, NOT_CONNECTED] {
+        for (text, calls) in [(b"".as_slice(), 1), (b"1603", 2), (EXAMPLE, 3)] {
+            let mut streams = Streams::new(rt.alloc(), text, 5);
+            streams.input.error = error;
+            streams.expect(&rt, (1, b"", NOT_READ), (calls, 0, 1));
+        }
+    }
 }
 
 // More bytes than an input may have: the reader is never asked for all of them.
 #[test]
 fn a_reader_that_never_ends(rt: HostRuntime) {
-    let digits = [b'0'; 70000];
-    let endless = Drip::new(&digits, 1, End::Nothing);
-    expect_not_read(&rt, endless, 65537);
+    let streams = Streams::new(rt.alloc(), &[b'0'; 70000], 1);
+    streams.expect(&rt, (1, b"", NOT_READ), (65537, 0, 1));
 }
 
 #[test]
-fn a_writer_of_one_byte(rt: HostRuntime) {
-    let rt = &rt;
-    let out = Page::new(CAPACITY, 1, End::Nothing);
-    let wanted = (0, EXAMPLE_LINES, b"".as_slice());
-    let input = Drip::new(EXAMPLE, 1, End::Nothing);
-    expect_run(rt, input, out, whole_page(), wanted, (11, 29, 0));
-    let err = Page::new(CAPACITY, 1, End::Nothing);
-    let wanted = (1, b"".as_slice(), b"mh_show: not hexadecimal\n".as_slice());
-    let input = Drip::new(b"zz", 1, End::Nothing);
-    expect_run(rt, input, whole_page(), err, wanted, (3, 0, 25));
-    // The lines of a long digest are one write.
+fn one_byte_a_call_is_the_same(rt: HostRuntime) {
+    let mut streams = Streams::new(rt.alloc(), EXAMPLE, 1);
+    streams.out.most = 1;
+    streams.expect(&rt, (0, EXAMPLE_LINES, b""), (11, 29, 0));
+    let mut streams = Streams::new(rt.alloc(), b"zz", 1);
+    streams.err.most = 1;
+    streams.expect(&rt, (1, b"", b"mh_show: not hexadecimal\n"), (3, 0, 25));
+}
+
+#[test]
+fn the_lines_of_a_long_digest_are_one_write(rt: HostRuntime) {
     let mut digits = [b'0'; 132];
     digits[2] = b'4';
     let mut lines = [b'0'; 151];
     lines[..22].copy_from_slice(b"code 0\nsize 64\ndigest ");
     lines[150] = b'\n';
-    let input = Drip::new(&digits, 200, End::Nothing);
-    expect_run(
-        rt,
-        input,
-        whole_page(),
-        whole_page(),
-        (0, &lines, b""),
-        (2, 1, 0),
-    );
+    let streams = Streams::new(rt.alloc(), &digits, 200);
+    streams.expect(&rt, (0, &lines, b""), (2, 1, 0));
 }
 
 // A line for each reason to reject an input.
 #[test]
 fn a_rejected_input_has_status_1(rt: HostRuntime) {
     let rows = [
-        ("", "mh_show: not enough input bytes\n"),
+        ("0", "mh_show: not hexadecimal\n"),
+        ("00", "mh_show: not enough input bytes\n"),
         (
-            "ffffffffffffffffff0100",
+            "ffffffffffffffffff01",
             "mh_show: input bytes exceed maximum\n",
         ),
         ("8000", "mh_show: encoding is not minimal\n"),
         ("0041", "mh_show: Invalid multihash size 65.\n"),
         ("0001", "mh_show: failed to fill whole buffer\n"),
-        ("0x0000", "mh_show: not hexadecimal\n"),
     ];
     for (text, reason) in rows {
-        let input = Drip::new(text.as_bytes(), CAPACITY, End::Nothing);
-        let wanted = (1, b"".as_slice(), reason.as_bytes());
-        let reads = if text.is_empty() { 1 } else { 2 };
-        expect_run(
-            &rt,
-            input,
-            whole_page(),
-            whole_page(),
-            wanted,
-            (reads, 0, 1),
-        );
+        let streams = Streams::new(rt.alloc(), text.as_bytes(), 256);
+        streams.expect(&rt, (1, b"", reason.as_bytes()), (2, 0, 1));
     }
 }
 
-// A page that is full after these bytes: the write that fails is the last.
-fn expect_full(rt: &(impl Abort + AllocGlobal), end: End, shown: &[u8], calls: usize) {
-    let out = Page::new(shown.len(), CAPACITY, end);
-    let input = Drip::new(EXAMPLE, 9, End::Nothing);
-    expect_run(
-        rt,
-        input,
-        out,
-        whole_page(),
-        (1, shown, NOT_WRITTEN),
-        (3, calls, 1),
-    );
-}
-
-fn expect_not_written(rt: &(impl Abort + AllocGlobal), end: End) {
-    expect_full(rt, end, b"", 1);
-    expect_full(rt, end, b"code 22\nsi", 2);
-}
-
-// Nor is the line with the reason written again.
-fn expect_cut_line(rt: &(impl Abort + AllocGlobal), end: End) {
-    let err = Page::new(4, CAPACITY, end);
-    let wanted = (1, b"".as_slice(), b"mh_s".as_slice());
-    let input = Drip::new(b"zz", 9, End::Nothing);
-    expect_run(rt, input, whole_page(), err, wanted, (2, 0, 2));
-}
-
+// Nor is the line with the reason written again. A write of zero bytes is a failure.
 #[test]
 fn a_write_that_fails_is_the_last(rt: HostRuntime) {
-    let end = End::Fails(ErrorKind::NotConnected);
-    expect_not_written(&rt, end);
-    expect_cut_line(&rt, end);
-}
-
-#[test]
-fn a_write_that_is_interrupted_is_the_last(rt: HostRuntime) {
-    let end = End::Fails(ErrorKind::Interrupted);
-    expect_not_written(&rt, end);
-    expect_cut_line(&rt, end);
-}
-
-#[test]
-fn a_write_of_zero_bytes_is_the_last(rt: HostRuntime) {
-    expect_not_written(&rt, End::Nothing);
-    expect_cut_line(&rt, End::Nothing);
+    for error in [None, INTERRUPTED, NOT_CONNECTED] {
+        for (shown, calls) in [(b"".as_slice(), 1), (b"code 22\nsi", 2)] {
+            let mut streams = Streams::new(rt.alloc(), EXAMPLE, 9);
+            (streams.out.capacity, streams.out.error) = (shown.len(), error);
+            streams.expect(&rt, (1, shown, NOT_WRITTEN), (3, calls, 1));
+        }
+        let mut streams = Streams::new(rt.alloc(), b"zz", 9);
+        (streams.err.capacity, streams.err.error) = (4, error);
+        streams.expect(&rt, (1, b"", b"mh_s"), (2, 0, 2));
+    }
 }
 
 // `checks/rt.t` makes each allocation of this test fail: there is none.
