@@ -41,36 +41,40 @@ fn no_more_memory_than_needed_is_kept(rt: HostRuntime) {
 
 const FAILED: &str = "an allocation failed";
 
-// Otherwise it is out of memory.
-fn succeeded<T>(rt: &impl Abort, outcome: &Result<T, Error>) -> bool {
-    check!(rt; outcome.is_ok() || is_passed_on(outcome, OUT_OF_MEMORY));
-    outcome.is_ok()
+// A result that is an error has to be out of memory.
+fn expect_made<T>(rt: &impl Abort, outcome: &Result<T, Error>) -> Result<(), Fail> {
+    if outcome.is_ok() {
+        return Ok(());
+    }
+    check!(rt; is_passed_on(outcome, OUT_OF_MEMORY));
+    Err(FAILED)?
 }
 
-fn unless_failed(succeeded: bool) -> Result<(), Fail> {
-    if succeeded { Ok(()) } else { Err(FAILED)? }
+fn expect_read_form<T: Drop>(rt: &impl Abort, outcome: Result<T, FormError>) -> Result<(), Fail> {
+    let outcome = match outcome {
+        Err(FormError::Failed(e)) => Err(e),
+        _ => Ok(()),
+    };
+    expect_made(rt, &outcome)
 }
 
 // Each encoding is one allocation.
-fn makes_encodings<const S: usize>(rt: &impl Abort, alloc: Global, code: u64) -> bool
+fn expect_encodings<const S: usize>(rt: &impl Abort, alloc: Global, code: u64) -> Result<(), Fail>
     requires { S < 2 ^ 16 }
 {
     for len in [0, 1, 32, 64, 127, 128, 255] {
         let digest = [65; 255].get(..S.min(len)).unwrap_or(&[]);
         let m = expect_ok!(rt; Multihash::<S>::wrap(code, digest));
-        if !succeeded(rt, &m.to_bytes(alloc)) || !succeeded(rt, &m.to_value(alloc)) {
-            return false;
-        }
+        expect_made(rt, &m.to_bytes(alloc))?;
+        expect_made(rt, &m.to_value(alloc))?;
     }
-    true
+    Ok(())
 }
 
 #[test]
 fn allocating_encodings(rt: HostRuntime) -> Result<(), Fail> {
-    unless_failed(
-        makes_encodings::<64>(&rt, rt.alloc(), 1 << 20)
-            && makes_encodings::<255>(&rt, rt.alloc(), 300),
-    )
+    expect_encodings::<64>(&rt, rt.alloc(), 1 << 20)?;
+    expect_encodings::<255>(&rt, rt.alloc(), 300)
 }
 
 // The capacity is the one allocation. If it fails, nothing was read.
@@ -79,61 +83,65 @@ fn allocating_read_of_lists(rt: HostRuntime) -> Result<(), Fail> {
     for count in [1, 6, 300] {
         let mut left = [0u8; 600].as_slice();
         let outcome = read_list::<64, _>(rt.alloc(), &mut left, count);
-        if !succeeded(&rt, &outcome) {
-            check_eq!(&rt; left.len(), 600);
-            return unless_failed(false);
-        }
+        check!(&rt; outcome.is_ok() || left.len() == 600);
+        expect_made(&rt, &outcome)?;
     }
     Ok(())
 }
 
+// What was written before an allocation failed is a prefix.
 #[test]
 fn allocating_writes(rt: HostRuntime) -> Result<(), Fail> {
     let alloc = rt.alloc();
     let rt = &rt;
     let long = expect_ok!(rt; Multihash::<200>::wrap(300, &[65; 200]));
-    let (mut binary, mut scale, mut list) = (Vec::new(alloc), Vec::new(alloc), Vec::new(alloc));
-    let made = succeeded(rt, &long.write(&mut binary))
-        && succeeded(rt, &long.scale_encode(&mut scale))
-        && succeeded(rt, &write_list(&[long, long], &mut list));
     let (mut whole, mut scale_whole) = ([0u8; 408], [0u8; 209]);
     expect_ok!(rt; write_list(&[long, long], &mut whole.as_mut_slice()));
     expect_ok!(rt; long.scale_encode(&mut scale_whole.as_mut_slice()));
-    check!(rt; whole.starts_with(&binary) && whole.starts_with(&list));
+    let (mut binary, mut scale, mut list) = (Vec::new(alloc), Vec::new(alloc), Vec::new(alloc));
+    let outcome = long.write(&mut binary);
+    check!(rt; whole.starts_with(&binary));
+    expect_made(rt, &outcome)?;
+    let outcome = long.scale_encode(&mut scale);
     check!(rt; scale_whole.starts_with(&scale));
-    unless_failed(made)
+    expect_made(rt, &outcome)?;
+    let outcome = write_list(&[long, long], &mut list);
+    check!(rt; whole.starts_with(&list));
+    expect_made(rt, &outcome)
 }
 
 // A vector whose allocation fails is unchanged.
 #[test]
 fn allocating_write_of_a_vector(rt: HostRuntime) -> Result<(), Fail> {
-    let (mut held, mut whole) = (Vec::new(rt.alloc()), Vec::new(rt.alloc()));
-    let is_written = held.write(&[1, 2, 3]).is_ok();
-    check!(&rt; is_written || held.is_empty() && held.capacity() == 0);
-    let is_whole = whole.write_all(&[1, 2, 3]).is_ok();
-    check!(&rt; is_whole || whole.is_empty() && whole.capacity() == 0);
-    unless_failed(is_written && is_whole)
-}
-
-fn of_form<T: Drop>(outcome: Result<T, FormError>) -> Result<(), Error> {
-    match outcome {
-        Ok(_value) => Ok(()),
-        Err(FormError::Failed(e)) => Err(e),
-        Err(_e) => Ok(()),
+    for is_whole in [false, true] {
+        let mut vector = Vec::new(rt.alloc());
+        let is_written = if is_whole {
+            vector.write_all(&[1, 2, 3]).is_ok()
+        } else {
+            vector.write(&[1, 2, 3]).is_ok()
+        };
+        if !is_written {
+            check!(&rt; vector.is_empty() && vector.capacity() == 0);
+            return Err(FAILED)?;
+        }
     }
+    Ok(())
 }
 
 // More than a new vector has capacity for.
 #[test]
 fn allocating_blocks(rt: HostRuntime) -> Result<(), Fail> {
-    let alloc = rt.alloc();
     let mut entry = [0u8; 10005];
     entry[3..5].copy_from_slice(&[0x90, 0x4e]);
-    let (mut block, mut log) = (&entry[3..], entry.as_slice());
-    let read = of_form(form::read::<Block<10000>, &[u8]>(alloc, &mut block));
-    unless_failed(succeeded(&rt, &read))?;
-    let read = of_form(form::read::<LogEntry, &[u8]>(alloc, &mut log));
-    unless_failed(succeeded(&rt, &read))
+    let mut block = &entry[3..];
+    expect_read_form(
+        &rt,
+        form::read::<Block<10000>, &[u8]>(rt.alloc(), &mut block),
+    )?;
+    expect_read_form(
+        &rt,
+        form::read::<LogEntry, &[u8]>(rt.alloc(), &mut entry.as_slice()),
+    )
 }
 
 // A head that claims 2^62 bytes, of which 10000 arrive: memory grows as it does for a block of that length.
@@ -142,20 +150,25 @@ fn allocating_claimed_length(rt: HostRuntime) -> Result<(), Fail> {
     let mut claimed = [128u8; 10009];
     claimed[8] = 64;
     let read = form::read::<Block<{ usize::MAX }>, &[u8]>(rt.alloc(), &mut claimed.as_slice());
-    let outcome = of_form(read);
-    unless_failed(is_passed_on(&outcome, "failed to fill whole buffer") || succeeded(&rt, &outcome))
+    match read {
+        Err(e) if e.is_incomplete() => Ok(()),
+        read => expect_read_form(&rt, read),
+    }
 }
 
 #[test]
 fn allocating_forms(rt: HostRuntime) -> Result<(), Fail> {
     let alloc = rt.alloc();
-    let mut list: Vec<Multihash<4>> = Vec::new(alloc);
-    let read = Stream::new([0u8; 18].as_slice()).read_up_to(alloc, usize::MAX, &mut list);
-    unless_failed(succeeded(&rt, &of_form(read)))?;
     let mut counted = [0u8; 19];
     counted[0] = 9;
-    let read = form::read::<Counted<Multihash<4>, 9>, &[u8]>(alloc, &mut counted.as_slice());
-    unless_failed(succeeded(&rt, &of_form(read)))
+    let mut list: Vec<Multihash<4>> = Vec::new(alloc);
+    let mut stream = Stream::new(&counted[1..]);
+    expect_read_form(&rt, stream.read_up_to(alloc, usize::MAX, &mut list))?;
+    let mut left = counted.as_slice();
+    expect_read_form(
+        &rt,
+        form::read::<Counted<Multihash<4>, 9>, &[u8]>(alloc, &mut left),
+    )
 }
 
 #[test]
@@ -165,13 +178,13 @@ fn allocating_examples(rt: HostRuntime) -> Result<(), Fail> {
     let (m, nine) = (hash_of::<32>(b"a"), [Multihash::<4>::default(); 9]);
     let (input, mut out) = ([0u8; 18], [0u8; 36]);
     let (mut left, mut room) = (input.as_slice(), out.as_mut_slice());
-    let list = list_through::<4, 4, _, _>(alloc, &nine, &mut room, &mut left);
-    unless_failed(
-        succeeded(rt, &list)
-            && succeeded(rt, &there_and_back(alloc, m.digest()))
-            && succeeded(rt, &scale(alloc, &m))
-            && succeeded(rt, &json(alloc, &m)),
-    )
+    expect_made(
+        rt,
+        &list_through::<4, 4, _, _>(alloc, &nine, &mut room, &mut left),
+    )?;
+    expect_made(rt, &there_and_back(alloc, m.digest()))?;
+    expect_made(rt, &scale(alloc, &m))?;
+    expect_made(rt, &json(alloc, &m))
 }
 
 fn expect_read<const S: usize>(
