@@ -58,11 +58,9 @@ pub fn tcp(port: u16) -> AddressPart
         ⟦<AddressPart as Form>⟧.is_form result bytes }
 {
     let value = BigEndian { value: port as u64 };
-    Choice {
-        case: Case::Other(Others {
-            case: Case::This(Tagged { value }),
-        }),
-    }
+    let case = Case::This(Tagged { value });
+    let case = Case::Other(Others { case });
+    Choice { case }
 }
 
 /// Reads the parts of the multiaddr that is the whole of `bytes`.

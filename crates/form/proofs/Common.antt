@@ -1,7 +1,7 @@
 -- The names that most proofs cite, passed on from one place. Declares nothing.
 pub use Rattle.form.specs.Form.{Then, AppendsSome, AppendsPrefixOfSome, IsBlock, AreSame}
 pub use Rattle.form.specs.FormError.{IsFailed, IsTruncated, form_error_text}
-pub use Rattle.form.specs.Laws.Parts.{block_unique, Determine, Exclude, number_unique, then_exists, items_exist}
+pub use Rattle.form.specs.Lemmas.Parts.{block_unique, Determine, Exclude, number_unique, then_exists, items_exist}
 pub use Rattle.form.specs.Rejecting.{RejectsCase, RejectsNoCase, IsShortest, ShowsMalformed, ShowsError, IsUndecided, StopsAt, ReadStops, IsReadError, IsWholeError, RejectsNumber, RejectsMultihash, RejectsInTurn, RejectsNumberThen, AreItems, RejectsItem, RejectsTooLong, IsCase, RejectsCounted}
 pub use Rattle.form.specs.declared.error.FormError.{FormError}
 pub use Rattle.multihash.specs.Consuming.{ConsumesSome, FailsBy, ExactFails, ReadFails, ConsumesAtVarintError, ConsumesShortestSettling, ConsumesNothingSettling, EndsOrFails}

@@ -14,7 +14,7 @@ use Rattle.multihash.proofs.ReadConsumingLemmas.{incomplete_error}
 use Rattle.multihash.proofs.CallingLemmas.{front_error_unique, exact_fails}
 use Rattle.multihash.specs.Fault.{Fault, IsOwnFault, IsUnexpectedEof}
 use Rattle.multihash.proofs.ReadingLemmas.{all_read, Consumes-none}
-use Rattle.form.specs.Laws.Rejected.{malformed_kept}
+use Rattle.form.specs.Lemmas.Rejected.{malformed_kept}
 use Rattle.form.specs.declared.error.FormError.TheVariants.{Failed}
 
 -- ---- numbers
@@ -71,13 +71,9 @@ varint_stops {e = e} {old = Some input} {new = new} cause c = record {
 
 -- a verdict is incomplete, or it is not
 incomplete_or_not : (v : Verdict) → IsIncomplete v ⊎ (¬ (IsIncomplete v))
-incomplete_or_not (accepted p) = inr (λ h. h)
-incomplete_or_not (invalid_size size) = inr (λ h. h)
-incomplete_or_not (invalid_code code) = inr (λ h. h)
 incomplete_or_not (malformed insufficient) = inl tt
-incomplete_or_not (malformed overflow) = inr (λ h. h)
-incomplete_or_not (malformed not_minimal) = inr (λ h. h)
 incomplete_or_not unexpected_eof = inl tt
+incomplete_or_not _ = inr (λ h. h)
 
 module _ (S : ℕ) where
   -- if no prefix settles a verdict, none decides

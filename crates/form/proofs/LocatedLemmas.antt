@@ -59,15 +59,7 @@ module _ {A : Type 0} {IsForm : A → List ℕ → Type 0} {Rejects : FormError 
         → y.offset ≡ offset → IsAt y (length xs) (length front) offset
     at xs front rest offset many same cut is = (
       first.item ∙ many,
-      omega (
-        arith,
-        first.start,
-        ap length same,
-        ap length cut,
-        ap length first.parts,
-        length-append front rest,
-        length-append first.front first.rest,
-      ),
+      omega (arith, first.start, ap length same, ap length cut, ap length first.parts, length-append {A = ℕ}),
       is,
     )
 
@@ -84,19 +76,7 @@ module _ {A : Type 0} {IsForm : A → List ℕ → Type 0} {Rejects : FormError 
             inl (
               one,
               at xs front (shown ++ more) (length front + length shown) many same cut
-                  (omega (
-                    arith,
-                    offset,
-                    ap length same,
-                    ap length split,
-                    ap length rest,
-                    ap length cut,
-                    ap length first.parts,
-                    length-append front (shown ++ more),
-                    length-append shown more,
-                    length-append also left,
-                    length-append first.front first.rest,
-                  )),
+                  (omega (arith, offset, ap length same, ap length split, ap length rest, ap length cut, ap length first.parts, length-append {A = ℕ})),
             )
         | inr (inr (_, u, _)) ↦ absurd (u.no_error e shown more same rejects)
       ]
@@ -150,15 +130,7 @@ cause_of late input front rest new e offset parts stops known = elim (stopped re
       left,
       rejects,
       cut,
-      omega (
-        arith,
-        is,
-        ap length (known_is new left is_left),
-        ap length cut,
-        ap length parts,
-        length-append shown left,
-        length-append front rest,
-      ),
+      omega (arith, is, ap length (known_is new left is_left), ap length cut, ap length parts, length-append {A = ℕ}),
     ))
   ]
   | inr (inr (ends, u)) ↦ elim known [

@@ -2,7 +2,7 @@
 use Rattle.form.proofs.Common.{◌≡◌, ℕ, zero, suc, ◌<◌, inl, inr, List, [], ◌∷◌, ◌++◌, length, length-append, Option, Some, refl, sym, ap, subst, ◌∙◌, append_assoc, append-nil, arith, None, IfSome, IsVarint, AreParts, Consumes, ConsumesSome, Determine, Exclude, number_unique, Then, RejectsInTurn, RejectsNumberThen, AreItems, RejectsItem, RejectsCase, IsUndecided, StopsAt, ReadStops, FormError}
 use Rattle.std.specs.Io.KnownBytes.{prepend_known}
 use Rattle.multihash.proofs.ReadingLemmas.{Consumes-known, Consumes-none, Consumes-concatenated, prepend_known-append}
-use Rattle.form.specs.Laws.Rejected.{number_not_both}
+use Rattle.form.specs.Lemmas.Rejected.{number_not_both}
 
 module _ {A B : Type 0} {IsA : A → List ℕ → Type 0} {IsB : B → List ℕ → Type 0} {RejectsA RejectsB : FormError → List ℕ → Type 0} where
   -- after the bytes `c`, what the part rejects, the whole rejects, and it is undecided if the part is
@@ -67,18 +67,6 @@ module _ {A B C : Type 0} {IsFirst : A → List ℕ → Type 0} {RejectsFirst : 
       → ReadStops IsForm (RejectsInTurn IsFirst RejectsFirst RejectsNext) before after e old new
   first_stops {old = old} stops = stops_after [] (λ e a rejects. inl rejects) first_undecided refl (Consumes-none old) stops
 
-  -- the first part was read, and shows that the whole is rejected
-  pub next_rejected : {before after : ℕ} {e : FormError} {old new : Option (List ℕ)} (x : A) → ConsumesSome (IsFirst x) old new
-      → RejectsNext x e [] → ReadStops IsForm (RejectsInTurn IsFirst RejectsFirst RejectsNext) before after e old new
-  next_rejected {old = None} x consumed rejects = record { why = inr tt }
-  next_rejected {old = Some input} x (c, is_c, consumes) rejects = record {
-    why = inr (record {
-      consumed = c;
-      consumes = consumes;
-      cause = inl (inr (x, record { first = c; second = []; is_first = is_c; is_second = rejects; parts = sym (append-nil c) }));
-    });
-  }
-
   module _ {Same : A → A → Type 0}
       (unique : (x y : A) → Determine (IsFirst x) (IsFirst y) (Same x y))
       (not_both : (x : A) (e : FormError) → Exclude (IsFirst x) (RejectsFirst e))
@@ -138,8 +126,7 @@ module _ {A : Type 0} {IsPart : A → List ℕ → Type 0} {Rejects : FormError 
   pub items_stop : {before middle after : ℕ} {e : FormError} {old mid new : Option (List ℕ)} (found : List A) (n : ℕ) (c : List ℕ)
       → AreParts IsPart found c → length found < n → middle ≡ before → Consumes old c mid
       → ReadStops IsPart Rejects middle after e mid new → ReadStops (AreItems IsPart n) (RejectsItem IsPart Rejects n) before after e old new
-  items_stop [] zero c are few same consumes stops = absurd (omega (arith, few))
-  items_stop (f ∷ found) zero c are few same consumes stops = absurd (omega (arith, few))
+  items_stop found zero c are few same consumes stops = absurd (omega (arith, few))
   items_stop {mid = mid} [] (suc n) c none few same consumes stops =
       first_stops (items_split IsPart n) (stops_later same
       (sym (consumes ∙ ap (λ (l : List ℕ). prepend_known l mid) none ∙ sym (Consumes-none mid))) stops)

@@ -88,30 +88,13 @@ module _ {A : Type 0} {IsPart : A → List ℕ → Type 0} {Same : A → A → T
   parts_compared [] [] a left bytes more none all cut =
       inl (tt, sym (ap (λ (l : List ℕ). l ++ left) none) ∙ cut ∙ ap (λ (l : List ℕ). l ++ more) all, refl)
   parts_compared [] (x ∷ xs) a left bytes more none (part, rest, is, _, split) cut =
-      inr (inl (
-        omega arith,
-        (
-          x,
-          part,
-          rest ++ more,
-          is,
-          sym (ap (λ (l : List ℕ). l ++ left) none) ∙ cut
-              ∙ ap (λ (l : List ℕ). l ++ more) split ∙ append_assoc part rest more,
-        ),
-      ))
+      let follows : left ≡ part ++ (rest ++ more) =
+      sym (ap (λ (l : List ℕ). l ++ left) none) ∙ cut ∙ ap (λ (l : List ℕ). l ++ more) split ∙ append_assoc part rest more in
+      inr (inl (omega arith, (x, part, rest ++ more, is, follows)))
   parts_compared (f ∷ found) [] a left bytes more (part, others, is, _, split) all cut =
       inr (inr (
         omega arith,
-        omega (
-          arith,
-          some f part is,
-          ap length split,
-          ap length all,
-          ap length cut,
-          length-append part others,
-          length-append a left,
-          length-append bytes more,
-        ),
+        omega (arith, some f part is, ap length split, ap length all, ap length cut, length-append {A = ℕ}),
       ))
   parts_compared (f ∷ found) (x ∷ xs) a left bytes more (p, others, is_p, are, split) (q, rest, is_q, are_too, split_too) cut =
       let joined : p ++ (others ++ left) ≡ q ++ (rest ++ more) =

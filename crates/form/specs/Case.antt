@@ -18,6 +18,5 @@ IsCaseValue IsA IsC (Other y) = IsC y.case
 abbrev pub AreSameCase : {A C : Type 0} {M : ℕ} {b : _} → (A → A → Type 0) → (C → C → Type 0)
     → Case A M C b → Case A M C b → Type 0
 AreSameCase SameA SameC (This x) (This y) = SameA x.value y.value
-AreSameCase SameA SameC (This x) (Other y) = ⊥
-AreSameCase SameA SameC (Other x) (This y) = ⊥
 AreSameCase SameA SameC (Other x) (Other y) = SameC x.case y.case
+AreSameCase SameA SameC _ _ = ⊥

@@ -1,5 +1,6 @@
 -- What the clauses of a form state.
-use Rattle.std.specs.Prelude.{◌≡◌, ⊤, ℕ, List, [], ◌∷◌, ◌++◌, length}
+use Rattle.std.specs.Prelude.{◌≡◌, ⊤, ℕ, zero, suc, List, [], ◌∷◌, ◌++◌, length, reverse}
+use Rattle.std.specs.Int.{bytes_low_first, bytes_high_first}
 use Rattle.multihash.specs.Varint.{IsVarint}
 use Rattle.multihash.specs.Writing.{AppendsPrefix}
 
@@ -15,12 +16,21 @@ pub record Then (IsFirst IsSecond : List ℕ → Type 0) (bytes : List ℕ) : Ty
 abbrev pub IsBlock : List ℕ → List ℕ → Type 0
 IsBlock block = Then (IsVarint (length block)) (λ rest. rest ≡ block)
 
+-- bytes, the lowest of which is first, in the order of the encoding
+abbrev pub in_order : ℕ → List ℕ → List ℕ
+in_order zero bytes = bytes
+in_order (suc _) bytes = reverse bytes
+
+-- the lowest N bytes of a number, the lowest first or the highest
+abbrev pub number_bytes : (BIG N : ℕ) → ℕ → List ℕ
+number_bytes zero N x = bytes_low_first 0 N x
+number_bytes (suc _) N x = bytes_high_first N x
+
 -- equally many items, each the same as its counterpart
 abbrev pub AreSame : {A : Type 0} → (A → A → Type 0) → List A → List A → Type 0
 AreSame Same [] [] = ⊤
-AreSame Same [] (y ∷ ys) = ⊥
-AreSame Same (x ∷ xs) [] = ⊥
 AreSame Same (x ∷ xs) (y ∷ ys) = Same x y × AreSame Same xs ys
+AreSame Same _ _ = ⊥
 
 -- bytes of which P holds have been appended
 abbrev pub AppendsSome : {W : Type 0} → (W → List ℕ → W → Type 0) → (List ℕ → Type 0) → W → W → Type 0

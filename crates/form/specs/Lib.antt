@@ -2,7 +2,7 @@ pub mod ByteCount
 pub mod Case
 pub mod Form
 pub mod FormError
-pub mod Laws
+pub mod Lemmas
 pub mod Located
 pub mod Rejecting
 pub mod Stream

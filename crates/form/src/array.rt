@@ -19,7 +19,7 @@ pub struct Bytes<const N: usize> {
 impl<const N: usize> Form for Bytes<N> {
     ghost use Rattle.multihash.specs.Refusal.{IsEof};
     ghost use Rattle.form.specs.FormError.{IsFailed};
-    ghost use Rattle.form.specs.Laws.Parts.{array_exists, array_unique, array_one, array_some};
+    ghost use Rattle.form.specs.Lemmas.Parts.{array_exists, array_unique, array_one, array_some};
 
     ghost is_form = { λ x bytes. bytes ≡ x.bytes };
 

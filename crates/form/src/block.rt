@@ -50,8 +50,8 @@ impl<const MAX: usize> Form for Block<MAX> {
     ghost use Rattle.multihash.specs.Refusal.{IsAnyVarintError};
     ghost use Rattle.form.specs.Form.{IsBlock};
     ghost use Rattle.form.specs.Rejecting.{RejectsNumberThen, RejectsTooLong};
-    ghost use Rattle.form.specs.Laws.Parts.{block_exists, block_unique, block_one, block_some};
-    ghost use Rattle.form.specs.Laws.Rejected.{block_not_both, block_rejects_unique, from_some, block_not_truncated};
+    ghost use Rattle.form.specs.Lemmas.Parts.{block_exists, block_unique, block_one, block_some};
+    ghost use Rattle.form.specs.Lemmas.Rejected.{block_not_both, block_rejects_unique, from_some, block_not_truncated};
 
     ghost is_form = { λ x. IsBlock x.bytes.items };
 

@@ -21,9 +21,9 @@ pub struct Both<A, B> {
 }
 
 impl<A: Form + Drop, B: Form> Form for Both<A, B> {
-    ghost use Rattle.form.specs.Laws.Parts.{then_exists, then_unique, then_one, then_some};
+    ghost use Rattle.form.specs.Lemmas.Parts.{then_exists, then_unique, then_one, then_some};
     ghost use Rattle.form.specs.Rejecting.{RejectsInTurn};
-    ghost use Rattle.form.specs.Laws.Rejected.{turn_not_both, turn_unique, turn_some, turn_has};
+    ghost use Rattle.form.specs.Lemmas.Rejected.{turn_not_both, turn_unique, turn_some, turn_has};
 
     ghost is_form = { λ x. Then (A.is_form x.first) (B.is_form x.second) };
 

@@ -36,7 +36,7 @@ impl<A: Form, const M: u64, C: Cases> Cases for Case<A, M, C> {
     ghost use Rattle.std.specs.Prelude.{◌≡◌, ◌⊎◌};
     ghost use Rattle.form.specs.Rejecting.{RejectsCase};
     ghost use Rattle.form.specs.Case.{case_tag, IsCaseValue, AreSameCase};
-    ghost use Rattle.form.specs.Laws.Cases.{case_in_range, case_same_tag, case_exists, case_unique, case_not_both, case_rejects_unique, case_not_truncated, case_one};
+    ghost use Rattle.form.specs.Lemmas.Cases.{case_in_range, case_same_tag, case_exists, case_unique, case_not_both, case_rejects_unique, case_not_truncated, case_one};
 
     ghost tag_of = { case_tag C.tag_of };
 
@@ -92,7 +92,7 @@ impl<A: Form, const M: u64> Cases for Tagged<A, M> {
     ghost use Rattle.std.specs.Prelude.{◌≡◌, ◌⊎◌, refl};
     ghost use Rattle.form.specs.declared.error.FormError.TheVariants.{OtherTag};
     ghost use Rattle.form.specs.Rejecting.{RejectsCase, RejectsNoCase};
-    ghost use Rattle.form.specs.Laws.Cases.{last_not_both, case_rejects_unique, no_case_rejects_unique, case_not_truncated, no_case_not_truncated};
+    ghost use Rattle.form.specs.Lemmas.Cases.{last_not_both, case_rejects_unique, no_case_rejects_unique, case_not_truncated, no_case_not_truncated};
 
     ghost tag_of = { λ _. M };
 

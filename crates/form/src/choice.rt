@@ -25,9 +25,9 @@ impl<C: Cases> Form for Choice<C> {
     ghost use Rattle.form.specs.Form.{Then};
     ghost use Rattle.form.specs.FormError.{IsFailed};
     ghost use Rattle.form.specs.Rejecting.{RejectsNumberThen};
-    ghost use Rattle.form.specs.Laws.Parts.{then_exists, then_some};
-    ghost use Rattle.form.specs.Laws.Rejected.{from_not_both, from_unique, from_some, from_not_truncated};
-    ghost use Rattle.form.specs.Laws.Cases.{choice_unique, choice_one};
+    ghost use Rattle.form.specs.Lemmas.Parts.{then_exists, then_some};
+    ghost use Rattle.form.specs.Lemmas.Rejected.{from_not_both, from_unique, from_some, from_not_truncated};
+    ghost use Rattle.form.specs.Lemmas.Cases.{choice_unique, choice_one};
 
     ghost is_form = { λ x. Then (IsVarint (C.tag_of x.case)) (C.is_value x.case) };
 

@@ -32,8 +32,8 @@ impl<T: Form + Drop, const MAX: usize> Form for Counted<T, MAX> {
     ghost use Rattle.multihash.specs.Refusal.{IsAnyVarintError};
     ghost use Rattle.form.specs.declared.error.FormError.TheVariants.{TooMany};
     ghost use Rattle.form.specs.Rejecting.{RejectsNumberThen, RejectsCounted};
-    ghost use Rattle.form.specs.Laws.Rejected.{counted_not_both, counted_rejects_unique, from_some, counted_not_truncated};
-    ghost use Rattle.form.specs.Laws.Parts.{counted_exists, counted_unique, counted_one, counted_some};
+    ghost use Rattle.form.specs.Lemmas.Rejected.{counted_not_both, counted_rejects_unique, from_some, counted_not_truncated};
+    ghost use Rattle.form.specs.Lemmas.Parts.{counted_exists, counted_unique, counted_one, counted_some};
 
     ghost is_form = { λ x. Then (IsVarint (length x.items.items)) (AreParts T.is_form x.items.items) };
 

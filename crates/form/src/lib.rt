@@ -35,7 +35,7 @@ pub use cases::Cases;
 pub use choice::Choice;
 pub use counted::{Counted, read_items, write_items};
 pub use error::FormError;
-pub use fixed::{BigEndian, LittleEndian};
+pub use fixed::{BigEndian, Fixed, LittleEndian};
 pub use form::Form;
 pub use located::{LocatedError, first_error};
 pub use number::Number;

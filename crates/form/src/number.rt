@@ -37,8 +37,8 @@ impl Form for Number {
     ghost use Rattle.multihash.specs.Refusal.{IsAnyVarintError};
     ghost use Rattle.form.specs.FormError.{IsFailed};
     ghost use Rattle.form.specs.Rejecting.{RejectsNumber};
-    ghost use Rattle.form.specs.Laws.Parts.{number_unique, number_one};
-    ghost use Rattle.form.specs.Laws.Rejected.{number_not_both, number_rejects_unique, number_rejects_some, number_not_truncated};
+    ghost use Rattle.form.specs.Lemmas.Parts.{number_unique, number_one};
+    ghost use Rattle.form.specs.Lemmas.Rejected.{number_not_both, number_rejects_unique, number_rejects_some, number_not_truncated};
 
     ghost is_form = { λ x. IsVarint x.value };
 

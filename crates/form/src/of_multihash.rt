@@ -14,8 +14,8 @@ impl<const S: usize> Form for Multihash<S> {
     ghost use Rattle.multihash.proofs.EncodingLemmas.{digest_fits};
     ghost use Rattle.form.specs.FormError.{IsFailed};
     ghost use Rattle.form.specs.Rejecting.{RejectsMultihash};
-    ghost use Rattle.form.specs.Laws.Rejected.{multihash_not_both, multihash_rejects_unique, multihash_rejects_some, multihash_not_truncated};
-    ghost use Rattle.form.specs.Laws.Parts.{multihash_exists, multihash_unique, multihash_one, multihash_some};
+    ghost use Rattle.form.specs.Lemmas.Rejected.{multihash_not_both, multihash_rejects_unique, multihash_rejects_some, multihash_not_truncated};
+    ghost use Rattle.form.specs.Lemmas.Parts.{multihash_exists, multihash_unique, multihash_one, multihash_some};
 
     ghost is_form = { λ m. IsEncoding (pair_of m) };
 

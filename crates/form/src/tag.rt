@@ -24,8 +24,8 @@ impl<const N: u64> Form for Tag<N> {
     ghost use Rattle.form.specs.FormError.{IsFailed};
     ghost use Rattle.form.specs.declared.error.FormError.TheVariants.{OtherTag};
     ghost use Rattle.form.specs.Rejecting.{RejectsNumberThen, RejectsOtherTag};
-    ghost use Rattle.form.specs.Laws.Parts.{tag_unique, tag_one};
-    ghost use Rattle.form.specs.Laws.Rejected.{tag_not_both, tag_rejects_unique, from_some, tag_not_truncated};
+    ghost use Rattle.form.specs.Lemmas.Parts.{tag_unique, tag_one};
+    ghost use Rattle.form.specs.Lemmas.Rejected.{tag_not_both, tag_rejects_unique, from_some, tag_not_truncated};
 
     ghost is_form = { λ _. IsVarint N };
 
@@ -37,6 +37,7 @@ impl<const N: u64> Form for Tag<N> {
     ghost rejects = { RejectsNumberThen (RejectsOtherTag N) };
 
     fn write<W: Write>(&self, w: &mut W) -> Result<(), FormError> {
+        // That `N` is in range is a ghost field, which the call below needs.
         let _in_range = *self;
         varint::write(N, w)?;
         Ok(())

@@ -6,44 +6,25 @@ use crate::form::{Form, FormError};
 use crate::proved::no_std_io::{self, Read, Write};
 
 /// A number below 256^`N` in `N` bytes, the highest of them first. `N` is 1 to 8.
-///
-/// `read` returns an unexpected end if fewer bytes remain, or if `N` is not 1 to 8.
-#[derive(Clone, Copy, Debug, PartialEq, Eq, PartialOrd, Ord, Hash)]
-pub struct BigEndian<const N: usize> {
-    /// The number.
-    pub(crate) value: u64,
-}
-
-impl<const N: usize> Form for BigEndian<N> {
-    fn write<W: Write>(&self, w: &mut W) -> Result<(), FormError> {
-        w.write_all(&self.value.to_be_bytes()[8 - N..])?;
-        Ok(())
-    }
-
-    fn read<R: Read>(r: &mut R) -> Result<Self, FormError> {
-        if N == 0 || N > 8 {
-            return Err(no_std_io::Error::unexpected_eof().into());
-        }
-        let mut bytes = [0; 8];
-        r.read_exact(&mut bytes[8 - N..])?;
-        Ok(BigEndian {
-            value: number_of_high(bytes),
-        })
-    }
-}
+pub type BigEndian<const N: usize> = Fixed<N, 1>;
 
 /// A number below 256^`N` in `N` bytes, the lowest of them first. `N` is 1 to 8.
+pub type LittleEndian<const N: usize> = Fixed<N, 0>;
+
+/// A number below 256^`N` in `N` bytes, the lowest of them first if `BIG` is 0, otherwise the highest. `N` is 1 to 8.
 ///
 /// `read` returns an unexpected end if fewer bytes remain, or if `N` is not 1 to 8.
 #[derive(Clone, Copy, Debug, PartialEq, Eq, PartialOrd, Ord, Hash)]
-pub struct LittleEndian<const N: usize> {
+pub struct Fixed<const N: usize, const BIG: u8> {
     /// The number.
     pub(crate) value: u64,
 }
 
-impl<const N: usize> Form for LittleEndian<N> {
+impl<const N: usize, const BIG: u8> Form for Fixed<N, BIG> {
     fn write<W: Write>(&self, w: &mut W) -> Result<(), FormError> {
-        w.write_all(&self.value.to_le_bytes()[..N])?;
+        let mut bytes = self.value.to_le_bytes();
+        order::<BIG>(&mut bytes[..N]);
+        w.write_all(&bytes[..N])?;
         Ok(())
     }
 
@@ -53,18 +34,21 @@ impl<const N: usize> Form for LittleEndian<N> {
         }
         let mut bytes = [0; 8];
         r.read_exact(&mut bytes[..N])?;
-        Ok(LittleEndian {
-            value: number_of_low(bytes),
+        order::<BIG>(&mut bytes[..N]);
+        Ok(Fixed {
+            value: number_of(bytes),
         })
     }
 }
 
-// The number of these bytes, the highest first. It has no other bytes, which the read of an array does not state.
-fn number_of_high(bytes: [u8; 8]) -> u64 {
-    u64::from_be_bytes(bytes)
+// Puts bytes whose lowest is first in the order of the encoding, and back.
+fn order<const BIG: u8>(bytes: &mut [u8]) {
+    if BIG != 0 {
+        bytes.reverse();
+    }
 }
 
-// The number of these bytes, the lowest first.
-fn number_of_low(bytes: [u8; 8]) -> u64 {
+// The number of these bytes, the lowest first. It has no other bytes, which the read of an array does not state.
+fn number_of(bytes: [u8; 8]) -> u64 {
     u64::from_le_bytes(bytes)
 }

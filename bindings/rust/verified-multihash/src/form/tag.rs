@@ -16,6 +16,7 @@ pub struct Tag<const N: u64> {
 
 impl<const N: u64> Form for Tag<N> {
     fn write<W: Write>(&self, w: &mut W) -> Result<(), FormError> {
+        // That `N` is in range is a ghost field, which the call below needs.
         let _in_range = *self;
         varint::write(N, w)?;
         Ok(())

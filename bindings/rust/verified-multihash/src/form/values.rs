@@ -1,6 +1,6 @@
 //! Values of the parts: they keep the limits that ghost fields state in the proved source. And `form!`, which makes your
 //! own types formats.
-use crate::form::{encoded_len, BigEndian, Block, Both, Bytes, Case, Cases, Choice, Counted, Form, FormError};
+use crate::form::{encoded_len, BigEndian, Block, Both, Bytes, Case, Cases, Choice, Counted, Fixed, Form, FormError};
 use crate::form::{LittleEndian, Number, Others, Tag, Tagged};
 use crate::no_std_io as io;
 pub use crate::proved::no_std_io::{Read, Write};
@@ -21,7 +21,6 @@ macro_rules! rejected {
 /// None is made without its constructor, which keeps its limits:
 #[doc = rejected!("Number { value: 0 }")]
 #[doc = rejected!("BigEndian::<1> { value: 0 }")]
-#[doc = rejected!("LittleEndian::<1> { value: 0 }")]
 #[doc = rejected!("Bytes { bytes: [0] }")]
 #[doc = rejected!("Block::<1> { bytes: vec![0] }")]
 #[doc = rejected!("Counted::<u8, 1> { items: vec![] }")]
@@ -44,8 +43,7 @@ parts! {
     [] Number:;
     [const N: u64] Tag<N>:;
     [const N: usize] Bytes<N>:;
-    [const N: usize] BigEndian<N>:;
-    [const N: usize] LittleEndian<N>:;
+    [const N: usize, const BIG: u8] Fixed<N, BIG>:;
     [const MAX: usize] Block<MAX>:;
     [const S: usize] Multihash<S>:;
     [A: Part, B: Part] Both<A, B>: A, B;

@@ -34,12 +34,6 @@ returns-clause-found g c xs all =
     elim (parts_compared g.met.T.Form.unique g.met.T.Form.some c.loop-rest.items.items xs front
     c.loop-rest.rest.now c.args.bytes.now [] parts all (sym cut ∙ sym (append-nil c.args.bytes.now))) [
       | inl same ↦ same.0
-      | inr (inl (_, next)) ↦ absurd (omega (
-        arith,
-        g.met.T.Form.some next.0 next.1 next.3,
-        ap length none,
-        ap length next.4,
-        length-append next.1 next.2,
-      ))
+      | inr (inl (_, next)) ↦ absurd (omega (arith, g.met.T.Form.some next.0 next.1 next.3, ap length none, ap length next.4, length-append {A = ℕ}))
       | inr (inr over) ↦ absurd (omega (arith, over.1))
     ]

@@ -67,13 +67,7 @@ loop-rest-preserved g c =
       parts = before.parts ∙ ap (λ (l : List ℕ). before.front ++ l) (cut ∙ ap (λ (l : List ℕ). one ++ l) (sym (known_is _ left is_left)))
           ∙ sym (append_assoc before.front one c.read.new.r.now);
       count = omega (arith, before.count, length-append before.items (value ∷ []));
-      few = omega (
-        arith,
-        before.few,
-        length-append before.items (value ∷ []),
-        length-append before.front one,
-        g.met.T.Form.some value one is_one,
-      );
+      few = omega (arith, before.few, length-append before.items (value ∷ []), length-append before.front one, g.met.T.Form.some value one is_one);
     }
 
 pub returns-clause-rejected : goal.returns-clause-rejected

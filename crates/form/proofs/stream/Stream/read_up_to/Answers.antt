@@ -126,13 +126,8 @@ returns-in-None-clause-found g c xs bytes more are at number same =
     elim (compared g.met.T.Form.unique g.met.T.Form.some before.reads xs bytes more are at c.args.n number
     (omega (arith, before.count, c.loop-test.true))) [
       | inl (appends, rest, _) ↦ (appends, ended.1 ∙ rest)
-      | inr (_, left, is_left, (x, part, rest, is, cut)) ↦ absurd (omega (
-        arith,
-        g.met.T.Form.some x part is,
-        ap length (subst IsAtEnd is_left ended.0),
-        ap length cut,
-        length-append part rest,
-      ))
+      | inr (_, left, is_left, (x, part, rest, is, cut)) ↦ let none : left ≡ [] = subst IsAtEnd is_left ended.0 in
+          absurd (omega (arith, g.met.T.Form.some x part is, ap length none, ap length cut, length-append part rest))
     ]
 
 pub returns-clause-found : goal.returns-clause-found

@@ -1,6 +1,6 @@
 use Rattle.std.proofs.Common.{rules}
 use Rattle.std.proofs.lemmas.Nat.{le_bytes_8}
-use Rattle.form.proofs.fixed.number_of_low.Goals as goal
+use Rattle.form.proofs.fixed.number_of.Goals as goal
 
 pub returns : goal.returns
 returns c = le_bytes_8 c.args.bytes c.from_le_bytes.result (search rules) (search rules) c.from_le_bytes.ensures

@@ -1,9 +1,9 @@
--- The laws of cases and of a choice of them.
+-- Proved lemmas, which no contract cites: the laws of cases and of a choice of them.
 use Rattle.std.proofs.Common.{◌≡◌, ◌<◌, inl, inr, ℕ, List, refl, sym, ◌∙◌}
 use Rattle.multihash.specs.Varint.{IsVarint, varint_limit}
 use Rattle.form.specs.Form.{Then}
-use Rattle.form.specs.Laws.Parts.{Determine, Exclude, next_unique, then_one, number_unique, number_one}
-use Rattle.form.specs.Laws.Rejected.{IsNotTruncated, here_unique}
+use Rattle.form.specs.Lemmas.Parts.{Determine, Exclude, next_unique, then_one, number_unique, number_one}
+use Rattle.form.specs.Lemmas.Rejected.{IsNotTruncated, here_unique}
 use Rattle.form.specs.Rejecting.{RejectsCase, RejectsNoCase}
 use Rattle.form.specs.Case.{case_tag, IsCaseValue, AreSameCase}
 use Rattle.form.specs.declared.error.FormError.{FormError}
@@ -22,9 +22,8 @@ module _ {A C : Type 0} {M : ℕ} {bound : _} where
     pub case_same_tag : (tag_of : C → ℕ) → ((x y : C) → SameC x y → tag_of x ≡ tag_of y)
         → (x y : Case A M C bound) → AreSameCase SameA SameC x y → case_tag tag_of x ≡ case_tag tag_of y
     case_same_tag tag_of one (This x) (This y) same = refl
-    case_same_tag tag_of one (This x) (Other y) same = absurd same
-    case_same_tag tag_of one (Other x) (This y) same = absurd same
     case_same_tag tag_of one (Other x) (Other y) same = one x.case y.case same
+    case_same_tag tag_of one _ _ same = absurd same
 
   module _ {IsA : A → List ℕ → Type 0} {IsC : C → List ℕ → Type 0} where
     pub case_exists : ((x : A) → (bytes : List ℕ) × IsA x bytes) → ((x : C) → (bytes : List ℕ) × IsC x bytes)
@@ -38,9 +37,8 @@ module _ {A C : Type 0} {M : ℕ} {bound : _} where
         → (x y : Case A M C bound) (a b : List ℕ) → AreSameCase SameA SameC x y → IsCaseValue IsA IsC x a
         → IsCaseValue IsA IsC y b → a ≡ b
     case_one this other (This x) (This y) a b same = this x.value y.value a b same
-    case_one this other (This x) (Other y) a b same = absurd same
-    case_one this other (Other x) (This y) a b same = absurd same
     case_one this other (Other x) (Other y) a b same = other x.case y.case a b same
+    case_one this other _ _ a b same = absurd same
 
     module _ (tag_of : C → ℕ) (differs : (y : Others C M bound) → ¬ (tag_of y.case ≡ M)) where
       pub case_unique : {SameA : A → A → Type 0} {SameC : C → C → Type 0}

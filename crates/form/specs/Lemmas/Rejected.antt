@@ -1,5 +1,6 @@
--- The laws of what is rejected: none of it is at the start of an input that starts with an encoding; an input has only one error,
--- which is shown at one place, and not before the first byte; and no such error says that the input is truncated.
+-- Proved lemmas, which no contract cites: the laws of what is rejected. None of it is at the start of an input that starts with
+-- an encoding; an input has only one error, which is shown at one place, and not before the first byte; and no such error says
+-- that the input is truncated.
 use Rattle.std.proofs.Common.{◌≡◌, ◌<◌, ◌≤◌, ◌⊎◌, inl, inr, ℕ, zero, suc, List, [], ◌∷◌, ◌++◌, length, refl, sym, ap, ◌∙◌}
 use Rattle.std.proofs.Common.{append_assoc, append-nil, subst, arith}
 use Rattle.multihash.specs.Pair.{Pair, FitsBuffer}
@@ -17,7 +18,7 @@ use Rattle.multihash.proofs.SettlingLemmas.{compare_prefixes, error_kept, error_
 use Rattle.multihash.proofs.CallingLemmas.{front_error_unique, encoding_no_error, error_of_unique}
 use Rattle.form.specs.Form.{Then, IsBlock}
 use Rattle.form.specs.FormError.{IsFailed, IsTruncated}
-use Rattle.form.specs.Laws.Parts.{Determine, Exclude, next_unique, then_some, number_unique}
+use Rattle.form.specs.Lemmas.Parts.{Determine, Exclude, next_unique, then_some, number_unique}
 use Rattle.form.specs.Rejecting.{IsShortest, ShowsMalformed, ShowsError, RejectsNumber, RejectsMultihash}
 use Rattle.form.specs.Rejecting.{RejectsNumberThen, RejectsItem, RejectsOtherTag, RejectsTooLong, RejectsCounted}
 use Rattle.form.specs.declared.error.FormError.{FormError}
@@ -50,8 +51,7 @@ module _ {E : Type 0} (P : E → List ℕ → Type 0) (kept : (e : E) (x more : 
 
 incomplete_is : (error : VarintError) → IsIncomplete (malformed error) → error ≡ insufficient
 incomplete_is insufficient ends = refl
-incomplete_is overflow ends = absurd ends
-incomplete_is not_minimal ends = absurd ends
+incomplete_is _ ends = absurd ends
 
 -- a malformed varint stays malformed
 pub malformed_kept : (e : Refusal) (x more : List ℕ) → ShowsMalformed e x → ShowsMalformed e (x ++ more)
@@ -95,16 +95,10 @@ number_not_truncated e bytes (cause, is, x) (error, also, ends) =
 
 verdict_not_truncated : (v : Verdict) (r : Refusal) → ¬ (IsIncomplete v) → IsErrorOf r v → ¬ (IsTruncated r)
 verdict_not_truncated (accepted p) r late names ends = names
-verdict_not_truncated (invalid_size size) r late names (inl short) = cc
-verdict_not_truncated (invalid_size size) r late names (inr (fault, io, _)) = cc
-verdict_not_truncated (invalid_code code) r late names (inl short) = cc
-verdict_not_truncated (invalid_code code) r late names (inr (fault, io, _)) = cc
 verdict_not_truncated (malformed insufficient) r late names ends = late tt
-verdict_not_truncated (malformed overflow) r late names (inl short) = cc
-verdict_not_truncated (malformed overflow) r late names (inr (fault, io, _)) = cc
-verdict_not_truncated (malformed not_minimal) r late names (inl short) = cc
-verdict_not_truncated (malformed not_minimal) r late names (inr (fault, io, _)) = cc
 verdict_not_truncated unexpected_eof r late names ends = late tt
+verdict_not_truncated _ r late names (inl short) = cc
+verdict_not_truncated _ r late names (inr (fault, io, _)) = cc
 
 module _ (S : ℕ) where
   shown_kept : (e : Refusal) (x more : List ℕ) → ShowsError S e x → ShowsError S e (x ++ more)

@@ -1,11 +1,10 @@
--- The laws of encodings: one exists, is unique, is the only one of its value, and is not empty; for two parts, one after the
--- other, from those of each, and for each form.
-use Rattle.std.proofs.Common.{◌≡◌, ℕ, ◌<◌, ◌^◌, List, [], ◌∷◌, ◌++◌, length, length-append, refl, sym, ap, ◌∙◌, append_assoc, subst, arith}
-use Rattle.std.specs.Int.{bytes_low_first, bytes_high_first}
+-- Proved lemmas, which no contract cites: the laws of encodings. One exists, is unique, is the only one of its value, and is not
+-- empty; for two parts, one after the other, from those of each, and for each form.
+use Rattle.std.proofs.Common.{◌≡◌, ℕ, zero, suc, ◌<◌, ◌^◌, List, [], ◌∷◌, ◌++◌, length, length-append, refl, sym, ap, ◌∙◌, append_assoc, subst, arith}
 use Rattle.byteorder.specs.Endian.{big_from, little_from}
 use Rattle.byteorder.specs.Numbers.{big_number-reads_back, little_number-reads_back, length-bytes_high_first, length-bytes_low_first}
 use Rattle.multihash.specs.Streams.{AreParts}
-use Rattle.form.specs.Form.{Then, IsBlock, AreSame}
+use Rattle.form.specs.Form.{Then, IsBlock, AreSame, number_bytes}
 use Rattle.multihash.specs.Varint.{IsVarint, varint_limit}
 use Rattle.multihash.proofs.VarintLemmas.{varint_unique, varint_same, varint_some}
 use Rattle.multihash.proofs.VarintWriteLemmas.{varint_exists}
@@ -113,21 +112,27 @@ array_one x y a b same is is_b = is ∙ same ∙ sym is_b
 pub array_some : (n : ℕ) (x : List ℕ) → length x ≡ n → 0 < n → (bytes : List ℕ) → bytes ≡ x → 0 < length bytes
 array_some n x long some bytes is = omega (arith, long, some, ap length is)
 
--- two numbers of N bytes, the highest first, at the start of one input are equal
-pub high_unique : (N x y : ℕ) → x < 256 ^ N → y < 256 ^ N
-    → Determine (λ a. a ≡ bytes_high_first N x) (λ b. b ≡ bytes_high_first N y) (x ≡ y)
-high_unique N x y below below_too a b r s is is_b cut =
-    let t = array_unique N (bytes_high_first N x) (bytes_high_first N y) (length-bytes_high_first N x)
-    (length-bytes_high_first N y) a b r s is is_b cut in
-    (sym (big_number-reads_back N x [] below) ∙ ap (λ (l : List ℕ). big_from 0 N (l ++ [])) t.0 ∙ big_number-reads_back N y [] below_too, t.1)
+-- a number has N bytes
+pub fixed_length : (BIG N x : ℕ) → length (number_bytes BIG N x) ≡ N
+fixed_length zero N x = length-bytes_low_first 0 N x
+fixed_length (suc _) N x = length-bytes_high_first N x
 
--- two numbers of N bytes, the lowest first
-pub low_unique : (N x y : ℕ) → x < 256 ^ N → y < 256 ^ N
-    → Determine (λ a. a ≡ bytes_low_first 0 N x) (λ b. b ≡ bytes_low_first 0 N y) (x ≡ y)
-low_unique N x y below below_too a b r s is is_b cut =
-    let t = array_unique N (bytes_low_first 0 N x) (bytes_low_first 0 N y) (length-bytes_low_first 0 N x)
-    (length-bytes_low_first 0 N y) a b r s is is_b cut in
-    (sym (little_number-reads_back N x [] below) ∙ ap (λ (l : List ℕ). little_from 0 N (l ++ [])) t.0 ∙ little_number-reads_back N y [] below_too, t.1)
+-- and is read back from them
+from_bytes : (BIG N : ℕ) → List ℕ → ℕ
+from_bytes zero N l = little_from 0 N (l ++ [])
+from_bytes (suc _) N l = big_from 0 N (l ++ [])
+
+reads_back : (BIG N x : ℕ) → x < 256 ^ N → from_bytes BIG N (number_bytes BIG N x) ≡ x
+unfolding from_bytes
+reads_back zero N x = little_number-reads_back N x []
+reads_back (suc _) N x = big_number-reads_back N x []
+
+-- two numbers of N bytes at the start of one input are equal
+pub fixed_unique : (BIG N x y : ℕ) → x < 256 ^ N → y < 256 ^ N
+    → Determine (λ a. a ≡ number_bytes BIG N x) (λ b. b ≡ number_bytes BIG N y) (x ≡ y)
+fixed_unique BIG N x y below below_too a b r s is is_b cut =
+    let t = array_unique N _ _ (fixed_length BIG N x) (fixed_length BIG N y) a b r s is is_b cut in
+    (sym (reads_back BIG N x below) ∙ ap (from_bytes BIG N) t.0 ∙ reads_back BIG N y below_too, t.1)
 
 -- and a number has one encoding
 pub fixed_one : (bytes_of : ℕ → List ℕ) (x y : ℕ) (a b : List ℕ) → x ≡ y → a ≡ bytes_of x → b ≡ bytes_of y → a ≡ b
@@ -153,9 +158,8 @@ block_some block = then_some (varint_some (length block))
 -- the same items are equally many
 same_length : {A : Type 0} (Same : A → A → Type 0) (xs ys : List A) → AreSame Same xs ys → length xs ≡ length ys
 same_length Same [] [] same = refl
-same_length Same [] (y ∷ ys) same = absurd same
-same_length Same (x ∷ xs) [] same = absurd same
 same_length Same (x ∷ xs) (y ∷ ys) same = omega (arith, same_length Same xs ys same.1)
+same_length Same _ _ same = absurd same
 
 module _ {A : Type 0} {IsPart : A → List ℕ → Type 0} where
   -- items have encodings, one after another
@@ -176,12 +180,11 @@ module _ {A : Type 0} {IsPart : A → List ℕ → Type 0} where
     items_unique : (xs ys : List A) → length xs ≡ length ys → Determine (AreParts IsPart xs) (AreParts IsPart ys) (AreSame Same xs ys)
     items_unique [] [] long a b r s x y cut =
         (tt, sym (ap (λ (l : List ℕ). l ++ r) x) ∙ cut ∙ ap (λ (l : List ℕ). l ++ s) y)
-    items_unique [] (y ∷ ys) long a b r s g h cut = absurd (omega (arith, long))
-    items_unique (x ∷ xs) [] long a b r s g h cut = absurd (omega (arith, long))
     items_unique (x ∷ xs) (y ∷ ys) long a b r s (a1, a2, is_a, as_, cut_a) (b1, b2, is_b, bs, cut_b) cut =
         then_unique (unique x y) (λ _. items_unique xs ys (omega (arith, long))) a b r s
         (record { first = a1; second = a2; is_first = is_a; is_second = as_; parts = cut_a })
         (record { first = b1; second = b2; is_first = is_b; is_second = bs; parts = cut_b }) cut
+    items_unique _ _ long a b r s g h cut = absurd (omega (arith, long))
 
     -- and so are counted ones
     pub counted_unique : (xs ys : List A) → Determine (Then (IsVarint (length xs)) (AreParts IsPart xs))
@@ -192,10 +195,9 @@ module _ {A : Type 0} {IsPart : A → List ℕ → Type 0} where
     -- the same items have one encoding
     items_one : (xs ys : List A) (a b : List ℕ) → AreSame Same xs ys → AreParts IsPart xs a → AreParts IsPart ys b → a ≡ b
     items_one [] [] a b same x y = x ∙ sym y
-    items_one [] (y ∷ ys) a b same g h = absurd same
-    items_one (x ∷ xs) [] a b same g h = absurd same
     items_one (x ∷ xs) (y ∷ ys) a b same (a1, a2, is_a, as_, cut_a) (b1, b2, is_b, bs, cut_b) =
         cc (cut_a, cut_b, one x y a1 b1 same.0 is_a is_b, items_one xs ys a2 b2 same.1 as_ bs)
+    items_one _ _ a b same g h = absurd same
 
     -- and so do counted ones
     pub counted_one : (xs ys : List A) (a b : List ℕ) → AreSame Same xs ys → Then (IsVarint (length xs)) (AreParts IsPart xs) a
