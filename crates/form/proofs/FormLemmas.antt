@@ -14,18 +14,10 @@ use Rattle.multihash.proofs.ReadConsumingLemmas.{incomplete_error}
 use Rattle.multihash.proofs.CallingLemmas.{front_error_unique, exact_fails}
 use Rattle.multihash.specs.Fault.{Fault, IsOwnFault, IsUnexpectedEof}
 use Rattle.multihash.proofs.ReadingLemmas.{all_read, Consumes-none}
-use Rattle.form.specs.Lemmas.Rejected.{malformed_kept}
+use Rattle.form.specs.Lemmas.Rejected.{malformed_kept, not_shown}
 use Rattle.form.specs.declared.error.FormError.TheVariants.{Failed}
 
 -- ---- numbers
-
--- an input that ends within a varint shows no error
-not_shown : (x : List ℕ) → IsInsufficient x → (e : Refusal) → ShowsMalformed e x → ⊥
-not_shown x ends e (error, named, whole, bad) =
-    let same : of_varint insufficient ≡ e =
-    front_error_unique x (of_varint insufficient) e (insufficient, refl, ends) (error, named, bad) in
-    let both : of_varint insufficient ≡ of_varint error = same ∙ named in
-    whole (cc)
 
 insufficient_undecided : (x : List ℕ) → IsInsufficient x → IsUndecided IsVarint RejectsNumber x
 insufficient_undecided x ends = record {

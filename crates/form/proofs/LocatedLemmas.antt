@@ -38,15 +38,14 @@ module _ {A : Type 0} {IsForm : A → List ℕ → Type 0} {Rejects : FormError 
     -- the error is where no value comes next, or it is out of memory
     located : (xs : List A) (front rest : List ℕ) → AreParts IsForm xs front → input ≡ front ++ rest → ¬ (Next IsForm rest)
         → IsFailed IsOutOfMemory y.error ⊎ ((length first.items ≡ length xs) × (first.rest ≡ rest))
-    located xs front rest are cut end = elim first.cause [
-      | inl memory ↦ inl memory
-      | inr (inl (shown, more, rejects, split, _)) ↦ inr (place (λ next.
-          rejected_last y.error shown more rejects (subst (λ (l : List ℕ). Next IsForm l) split next)))
-      | inr (inr (_, u, _)) ↦ inr (place (λ next. u.no_form next.0 next.1 next.2 next.4 next.3))
-    ]
-      where
-        place : ¬ (Next IsForm first.rest) → (length first.items ≡ length xs) × (first.rest ≡ rest)
-        place last = same_place first.items xs first.front front first.rest rest first.are_items are (sym first.parts ∙ cut) last end
+    located xs front rest are cut end =
+        let place = same_place first.items xs first.front front first.rest rest first.are_items are (sym first.parts ∙ cut) in
+        elim first.cause [
+          | inl memory ↦ inl memory
+          | inr (inl (shown, more, rejects, split, _)) ↦
+              inr (place (λ next. rejected_last y.error shown more rejects (subst (λ (l : List ℕ). Next IsForm l) split next)) end)
+          | inr (inr (_, u, _)) ↦ inr (place (λ next. u.no_form next.0 next.1 next.2 next.4 next.3) end)
+        ]
 
     -- the clause `found`
     pub found_memory : (xs : List A) → AreParts IsForm xs input → IsFailed IsOutOfMemory y.error

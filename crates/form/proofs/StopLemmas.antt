@@ -2,7 +2,7 @@
 use Rattle.form.proofs.Common.{◌≡◌, ℕ, zero, suc, ◌<◌, inl, inr, List, [], ◌∷◌, ◌++◌, length, length-append, Option, Some, refl, sym, ap, subst, ◌∙◌, append_assoc, append-nil, arith, None, IfSome, IsVarint, AreParts, Consumes, ConsumesSome, Determine, Exclude, number_unique, Then, RejectsInTurn, RejectsNumberThen, AreItems, RejectsItem, RejectsCase, IsUndecided, StopsAt, ReadStops, FormError}
 use Rattle.std.specs.Io.KnownBytes.{prepend_known}
 use Rattle.multihash.proofs.ReadingLemmas.{Consumes-known, Consumes-none, Consumes-concatenated, prepend_known-append}
-use Rattle.form.specs.Lemmas.Rejected.{number_not_both}
+use Rattle.form.specs.Lemmas.Rejected.{number_not_both, regroup}
 
 module _ {A B : Type 0} {IsA : A → List ℕ → Type 0} {IsB : B → List ℕ → Type 0} {RejectsA RejectsB : FormError → List ℕ → Type 0} where
   -- after the bytes `c`, what the part rejects, the whole rejects, and it is undecided if the part is
@@ -43,10 +43,6 @@ module _ {A B : Type 0} {IsA : A → List ℕ → Type 0} {IsB : B → List ℕ 
         no_error = λ e front rest cut rejects. u.no_error e front rest cut (of e front rejects);
       }) refl (Consumes-none old) stops
 
--- where a whole is split, after what comes before it
-regroup : (input c d front rest : List ℕ) → front ≡ c ++ d → input ≡ front ++ rest → input ≡ c ++ (d ++ rest)
-regroup input c d front rest parts cut = cut ∙ ap (λ (l : List ℕ). l ++ rest) parts ∙ append_assoc c d rest
-
 -- `IsForm` is a first part and what follows it
 module _ {A B C : Type 0} {IsFirst : A → List ℕ → Type 0} {RejectsFirst : FormError → List ℕ → Type 0}
     {RejectsNext : A → FormError → List ℕ → Type 0} {IsNext : A → C → List ℕ → Type 0} {IsForm : B → List ℕ → Type 0}
@@ -55,10 +51,10 @@ module _ {A B C : Type 0} {IsFirst : A → List ℕ → Type 0} {RejectsFirst : 
       → IsUndecided IsForm (RejectsInTurn IsFirst RejectsFirst RejectsNext) bytes
   first_undecided bytes u = record {
     no_form = λ y front rest cut is. let (x, z, t) = split y front is in
-        u.no_form x t.first (t.second ++ rest) (regroup bytes t.first t.second front rest t.parts cut) t.is_first;
+        u.no_form x t.first (t.second ++ rest) (sym (regroup t.first t.second rest front bytes t.parts (sym cut))) t.is_first;
     no_error = λ e front rest cut rejects. elim rejects [
       | inl first ↦ u.no_error e front rest cut first
-      | inr (x, t) ↦ u.no_form x t.first (t.second ++ rest) (regroup bytes t.first t.second front rest t.parts cut) t.is_first
+      | inr (x, t) ↦ u.no_form x t.first (t.second ++ rest) (sym (regroup t.first t.second rest front bytes t.parts (sym cut))) t.is_first
     ];
   }
 
@@ -77,13 +73,13 @@ module _ {A B C : Type 0} {IsFirst : A → List ℕ → Type 0} {RejectsFirst : 
     next_undecided x c is_c bytes u = record {
       no_form = λ y front rest cut is. let (x2, z, t) = split y front is in
           let told = unique x x2 c t.first bytes (t.second ++ rest) is_c t.is_first
-          (regroup (c ++ bytes) t.first t.second front rest t.parts cut) in
+          (sym (regroup t.first t.second rest front (c ++ bytes) t.parts (sym cut))) in
           (respects x x2 bytes told.0 u).no_form z t.second rest told.1 t.is_second;
       no_error = λ e front rest cut rejects. elim rejects [
         | inl first ↦ not_both x e c front bytes rest is_c first cut
         | inr (x2, t) ↦
             let told = unique x x2 c t.first bytes (t.second ++ rest) is_c t.is_first
-            (regroup (c ++ bytes) t.first t.second front rest t.parts cut) in
+            (sym (regroup t.first t.second rest front (c ++ bytes) t.parts (sym cut))) in
             (respects x x2 bytes told.0 u).no_error e t.second rest told.1 t.is_second
       ];
     }
@@ -162,16 +158,10 @@ module _ {A B : Type 0} {M n : ℕ} {IsA : A → List ℕ → Type 0} {IsB : B �
     (form : (y : B) (bytes : List ℕ) → IsB y bytes → (x : A) × IsA x bytes) where
   pub own_stops : n ≡ M → ReadStops IsA Rejects before after e old new
       → ReadStops IsB (RejectsCase Rejects RejectsOther M n) before after e old new
-  own_stops is = stops_as form (λ f bytes rejects. inl (is, rejects)) own
-    where
-      own : (f : FormError) (bytes : List ℕ) → RejectsCase Rejects RejectsOther M n f bytes → Rejects f bytes
-      own f bytes (inl (_, rejects)) = rejects
-      own f bytes (inr (not, _)) = absurd (not is)
+  own_stops is = stops_as form (λ f bytes rejects. inl (is, rejects))
+      (λ f bytes rejects. elim rejects [ inl own ↦ own.1 | inr other ↦ absurd (other.0 is) ])
 
   pub other_stops : ¬ (n ≡ M) → ReadStops IsA (RejectsOther n) before after e old new
       → ReadStops IsB (RejectsCase Rejects RejectsOther M n) before after e old new
-  other_stops not = stops_as form (λ f bytes rejects. inr (not, rejects)) other
-    where
-      other : (f : FormError) (bytes : List ℕ) → RejectsCase Rejects RejectsOther M n f bytes → RejectsOther n f bytes
-      other f bytes (inl (is, _)) = absurd (not is)
-      other f bytes (inr (_, rejects)) = rejects
+  other_stops not = stops_as form (λ f bytes rejects. inr (not, rejects))
+      (λ f bytes rejects. elim rejects [ inl own ↦ absurd (not own.0) | inr other ↦ other.1 ])

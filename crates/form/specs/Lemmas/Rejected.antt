@@ -30,21 +30,22 @@ IsNotTruncated e = ¬ (IsFailed IsTruncated e)
 
 -- ---- the shortest bytes that show an error
 
-module _ {E : Type 0} (P : E → List ℕ → Type 0) (kept : (e : E) (x more : List ℕ) → P e x → P e (x ++ more))
-    (one : (e f : E) (x : List ℕ) → P e x → P f x → e ≡ f) where
+module _ (P : Refusal → List ℕ → Type 0) (kept : (e : Refusal) (x more : List ℕ) → P e x → P e (x ++ more))
+    (one : (e f : Refusal) (x : List ℕ) → P e x → P f x → e ≡ f) where
   -- no strict prefix of the shortest bytes that show an error shows one
-  sooner : (e f : E) (a b : List ℕ) → P e a → IsShortest (P f) b → IsStrictPrefix a b → ⊥
+  sooner : (e f : Refusal) (a b : List ℕ) → P e a → IsShortest (P f) b → IsStrictPrefix a b → ⊥
   sooner e f a b holds y (more, some, cut) =
       let same : e ≡ f = one e f b (subst (P e) (sym cut) (kept e a more holds)) y.holds in
-      y.shortest a (more, some, cut) (subst (λ (g : E). P g a) same holds)
+      y.shortest a (more, some, cut) (subst (λ (g : Refusal). P g a) same holds)
 
   -- are the same at the start of one input, if an error that is shown stays, and is the only one
-  pub shortest_unique : (e f : E) → Determine (IsShortest (P e)) (IsShortest (P f)) (e ≡ f)
-  shortest_unique e f a b r s x y cut =
+  shown_unique : (e f : FormError) → Determine (λ a. IsFailed (λ c. IsShortest (P c) a) e) (λ b. IsFailed (λ d. IsShortest (P d) b) f) (e ≡ f)
+  shown_unique e f a b r s (c, is_c, x) (d, is_d, y) cut =
       elim (compare_prefixes a b r s cut) [
-        | inl same ↦ (one e f b (subst (P e) same x.holds) y.holds, (same_cut a b r s (ap length same) cut).1)
-        | inr (inl strict) ↦ absurd (sooner e f a b x.holds y strict)
-        | inr (inr strict) ↦ absurd (sooner f e b a y.holds x strict)
+        | inl same ↦
+            (is_c ∙ ap Failed (one c d b (subst (P c) same x.holds) y.holds) ∙ sym is_d, (same_cut a b r s (ap length same) cut).1)
+        | inr (inl strict) ↦ absurd (sooner c d a b x.holds y strict)
+        | inr (inr strict) ↦ absurd (sooner d c b a y.holds x strict)
       ]
 
 -- ---- numbers
@@ -64,23 +65,24 @@ nothing = record { few = omega arith; all_continuation = λ k d below. absurd (o
 malformed_once : (e f : Refusal) (x : List ℕ) → ShowsMalformed e x → ShowsMalformed f x → e ≡ f
 malformed_once e f x (a, is_a, _, bad) (b, is_b, _, also) = front_error_unique x e f (a, is_a, bad) (b, is_b, also)
 
+-- an input that ends within a varint shows no error
+pub not_shown : (x : List ℕ) → IsInsufficient x → (e : Refusal) → ShowsMalformed e x → ⊥
+not_shown x ends e (error, named, whole, bad) =
+    let same : of_varint insufficient ≡ e =
+    front_error_unique x (of_varint insufficient) e (insufficient, refl, ends) (error, named, bad) in
+    let both : of_varint insufficient ≡ of_varint error = same ∙ named in
+    whole (cc)
+
 pub number_rejects_some : (e : FormError) (bytes : List ℕ) → RejectsNumber e bytes → 0 < length bytes
 number_rejects_some e (x ∷ bytes) rejects = omega arith
-number_rejects_some e [] (cause, _, x) =
-    let (error, named, whole, bad) = x.holds in
-    let same : of_varint insufficient ≡ cause =
-    front_error_unique [] (of_varint insufficient) cause (insufficient, refl, nothing) (error, named, bad) in
-    let both : of_varint insufficient ≡ of_varint error = same ∙ named in
-    absurd (whole (cc))
+number_rejects_some e [] (cause, _, x) = absurd (not_shown [] nothing cause x.holds)
 
 pub number_not_both : (n : ℕ) (e : FormError) → Exclude (IsVarint n) (RejectsNumber e)
 number_not_both n e a b r s is (cause, _, x) cut =
     let (error, _, whole, bad) = x.holds in whole (error_of_part n a r b s error is cut bad)
 
 pub number_rejects_unique : (e f : FormError) → Determine (RejectsNumber e) (RejectsNumber f) (e ≡ f)
-number_rejects_unique e f a b r s (c, is_c, x) (d, is_d, y) cut =
-    let told = shortest_unique ShowsMalformed malformed_kept malformed_once c d a b r s x y cut in
-    (is_c ∙ ap Failed told.0 ∙ sym is_d, told.1)
+number_rejects_unique = shown_unique ShowsMalformed malformed_kept malformed_once
 
 pub number_not_truncated : (e : FormError) (bytes : List ℕ) → RejectsNumber e bytes → IsNotTruncated e
 number_not_truncated e bytes (cause, is, x) (error, also, ends) =
@@ -120,9 +122,7 @@ module _ (S : ℕ) where
       encoding_no_error S p a r (b ++ s) v cause is fits (sym cut) (verdict_kept S b s v late has) names
 
   pub multihash_rejects_unique : (e f : FormError) → Determine (RejectsMultihash S e) (RejectsMultihash S f) (e ≡ f)
-  multihash_rejects_unique e f a b r s (c, is_c, x) (d, is_d, y) cut =
-      let told = shortest_unique (ShowsError S) shown_kept shown_once c d a b r s x y cut in
-      (is_c ∙ ap Failed told.0 ∙ sym is_d, told.1)
+  multihash_rejects_unique = shown_unique (ShowsError S) shown_kept shown_once
 
   pub multihash_not_truncated : (e : FormError) (bytes : List ℕ) → RejectsMultihash S e bytes → IsNotTruncated e
   multihash_not_truncated e bytes (cause, is, x) (error, also, ends) =
@@ -133,7 +133,7 @@ module _ (S : ℕ) where
 
 -- ---- two parts, one after the other
 
-regroup : (a b r whole cut : List ℕ) → whole ≡ a ++ b → whole ++ r ≡ cut → a ++ (b ++ r) ≡ cut
+pub regroup : (a b r whole cut : List ℕ) → whole ≡ a ++ b → whole ++ r ≡ cut → a ++ (b ++ r) ≡ cut
 regroup a b r whole cut parts is = sym (append_assoc a b r) ∙ ap (λ (l : List ℕ). l ++ r) (sym parts) ∙ is
 
 -- `RejectsInTurn` of one error: bytes of which P holds, or a first part and then bytes of which Q holds
@@ -209,10 +209,8 @@ module _ (N : ℕ) where
       (λ n a b r s x y. here_unique (OtherTag n) e f a b r s x.1 y.1 x.2 y.2)
 
   pub tag_not_truncated : (e : FormError) (bytes : List ℕ) → RejectsNumberThen (RejectsOtherTag N) e bytes → IsNotTruncated e
-  tag_not_truncated e = from_not_truncated e other
-    where
-      other : (n : ℕ) (a : List ℕ) → RejectsOtherTag N n e a → IsNotTruncated e
-      other n a (_, is, _) (error, also, _) = let same : OtherTag n ≡ Failed error = sym is ∙ also in cc
+  tag_not_truncated e = from_not_truncated e
+      (λ n a rejects ends. let same : OtherTag n ≡ Failed ends.0 = sym rejects.1 ∙ ends.1 in cc)
 
 module _ (MAX : ℕ) where
   pub block_not_both : (n : ℕ) (block : List ℕ) → n ≡ length block → n ≤ MAX → (e : FormError)
@@ -226,10 +224,8 @@ module _ (MAX : ℕ) where
       (λ n a b r s x y. here_unique (TooLong n) e f a b r s x.1 y.1 x.2 y.2)
 
   pub block_not_truncated : (e : FormError) (bytes : List ℕ) → RejectsNumberThen (RejectsTooLong MAX) e bytes → IsNotTruncated e
-  block_not_truncated e = from_not_truncated e long
-    where
-      long : (n : ℕ) (a : List ℕ) → RejectsTooLong MAX n e a → IsNotTruncated e
-      long n a (_, is, _) (error, also, _) = let same : TooLong n ≡ Failed error = sym is ∙ also in cc
+  block_not_truncated e = from_not_truncated e
+      (λ n a rejects ends. let same : TooLong n ≡ Failed ends.0 = sym rejects.1 ∙ ends.1 in cc)
 
 module _ {A : Type 0} {IsPart : A → List ℕ → Type 0} {Rejects : FormError → List ℕ → Type 0} {Same : A → A → Type 0}
     (unique : (x y : A) → Determine (IsPart x) (IsPart y) (Same x y)) (not_both : (x : A) (e : FormError) → Exclude (IsPart x) (Rejects e)) where
