@@ -1,6 +1,6 @@
 -- Examples of the definitions of formats: what one field or case alone excludes. What the laws and `found`, `truncated` and
 -- `rejected` of `read` exclude has none.
-use Rattle.form.proofs.Common.{◌≡◌, ℕ, List, [], ◌∷◌, ◌++◌, length, Option, Some, inl, inr, refl, sym, ap, subst, arith, ⊤, codes, of_varint, insufficient, IsFailed, form_error_text, StopsAt, ReadStops, IsReadError, IsWholeError, FormError}
+use Rattle.form.proofs.Common.{◌≡◌, ℕ, List, [], ◌∷◌, length, Option, Some, inl, inr, refl, sym, ap, subst, arith, ⊤, codes, of_varint, insufficient, IsFailed, form_error_text, StopsAt, ReadStops, IsReadError, IsWholeError, FormError}
 use Rattle.std.specs.Fmt.{digits}
 use Rattle.multihash.proofs.ReadingLemmas.{all_read, Consumes-known}
 use Rattle.form.specs.Stream.{AppendsUpTo, AppendsThenStops}

@@ -1,8 +1,8 @@
 -- What `err` of `read` states, from the contracts of the library's calls: for `read` of each part.
-use Rattle.form.proofs.Common.{◌≡◌, ℕ, ◌<◌, ◌⊎◌, ap, inl, inr, List, [], length, length-append, Option, Some, refl, sym, subst, ◌∙◌, append-nil, arith, None, VarintError, insufficient, overflow, not_minimal, IsVarint, IsInsufficient, Refusal, of_varint, of_io, IsAnyVarintError, IsVarintError, HasFewerThan, ConsumesFewerThan, FailsBy, ExactFails, ReadFails, ConsumesAtVarintError, ConsumesShortestSettling, ConsumesNothingSettling, EndsOrFails, IsFailed, IsTruncated, ShowsMalformed, RejectsNumber, RejectsMultihash, IsUndecided, StopsAt, ReadStops, FormError}
+use Rattle.form.proofs.Common.{◌≡◌, ℕ, ◌<◌, ◌⊎◌, ap, inl, inr, List, [], length, length-append, Option, Some, refl, sym, subst, append-nil, arith, None, VarintError, insufficient, overflow, not_minimal, IsVarint, IsInsufficient, Refusal, of_io, IsAnyVarintError, IsVarintError, HasFewerThan, ConsumesFewerThan, FailsBy, ExactFails, ReadFails, ConsumesAtVarintError, ConsumesShortestSettling, ConsumesNothingSettling, EndsOrFails, IsFailed, IsTruncated, ShowsMalformed, RejectsNumber, RejectsMultihash, IsUndecided, StopsAt, ReadStops, FormError}
 use Rattle.multihash.specs.Bytes.{IsPrefix}
 use Rattle.multihash.specs.Encoding.{IsEncoding}
-use Rattle.multihash.specs.Verdict.{Verdict, accepted, invalid_size, invalid_code, malformed, unexpected_eof, HasVerdict, IsIncomplete}
+use Rattle.multihash.specs.Verdict.{Verdict, accepted, malformed, unexpected_eof, HasVerdict, IsIncomplete}
 use Rattle.multihash.specs.Settling.{Settles, IsShortestSettling}
 use Rattle.multihash.specs.Outcome.{IsErrorOf}
 use Rattle.multihash.specs.Multihash.{Fields, pair_of}
@@ -11,7 +11,7 @@ use Rattle.multihash.proofs.VerdictLemmas.{verdict_unique}
 use Rattle.multihash.proofs.VarintLemmas.{number_no_error}
 use Rattle.multihash.proofs.SettlingLemmas.{late_settles, none_settles, incomplete_not_settles, verdict_kept}
 use Rattle.multihash.proofs.ReadConsumingLemmas.{incomplete_error}
-use Rattle.multihash.proofs.CallingLemmas.{front_error_unique, exact_fails}
+use Rattle.multihash.proofs.CallingLemmas.{exact_fails}
 use Rattle.multihash.specs.Fault.{Fault, IsOwnFault, IsUnexpectedEof}
 use Rattle.multihash.proofs.ReadingLemmas.{all_read, Consumes-none}
 use Rattle.form.specs.Lemmas.Rejected.{malformed_kept, not_shown}

@@ -1,5 +1,5 @@
 -- Reading stopped in a part of a value: what this shows of the part, it shows of the whole. For `read` of the parts, and for `Stream`.
-use Rattle.form.proofs.Common.{◌≡◌, ℕ, zero, suc, ◌<◌, inl, inr, List, [], ◌∷◌, ◌++◌, length, length-append, Option, Some, refl, sym, ap, subst, ◌∙◌, append_assoc, append-nil, arith, None, IfSome, IsVarint, AreParts, Consumes, ConsumesSome, Determine, Exclude, number_unique, Then, RejectsInTurn, RejectsNumberThen, AreItems, RejectsItem, RejectsCase, IsUndecided, StopsAt, ReadStops, FormError}
+use Rattle.form.proofs.Common.{◌≡◌, ℕ, zero, suc, ◌<◌, inl, inr, List, [], ◌∷◌, ◌++◌, length, length-append, Option, Some, refl, sym, ap, subst, ◌∙◌, arith, None, IfSome, IsVarint, AreParts, Consumes, ConsumesSome, Determine, Exclude, number_unique, Then, RejectsInTurn, RejectsNumberThen, AreItems, RejectsItem, RejectsCase, IsUndecided, StopsAt, ReadStops, FormError}
 use Rattle.std.specs.Io.KnownBytes.{prepend_known}
 use Rattle.multihash.proofs.ReadingLemmas.{Consumes-known, Consumes-none, Consumes-concatenated, prepend_known-append}
 use Rattle.form.specs.Lemmas.Rejected.{number_not_both, regroup}

@@ -16,15 +16,15 @@ pub record Then (IsFirst IsSecond : List ℕ → Type 0) (bytes : List ℕ) : Ty
 abbrev pub IsBlock : List ℕ → List ℕ → Type 0
 IsBlock block = Then (IsVarint (length block)) (λ rest. rest ≡ block)
 
--- bytes, the lowest of which is first, in the order of the encoding
-abbrev pub in_order : ℕ → List ℕ → List ℕ
-in_order zero bytes = bytes
+-- the bytes, which are reversed if BIG is not 0
+abbrev pub in_order : (BIG : ℕ) → List ℕ → List ℕ
 in_order (suc _) bytes = reverse bytes
+in_order zero bytes = bytes
 
--- the lowest N bytes of a number, the lowest first or the highest
+-- the lowest N bytes of a number, the lowest of them first if BIG is 0, otherwise the highest
 abbrev pub number_bytes : (BIG N : ℕ) → ℕ → List ℕ
-number_bytes zero N x = bytes_low_first 0 N x
 number_bytes (suc _) N x = bytes_high_first N x
+number_bytes zero N x = bytes_low_first 0 N x
 
 -- equally many items, each the same as its counterpart
 abbrev pub AreSame : {A : Type 0} → (A → A → Type 0) → List A → List A → Type 0

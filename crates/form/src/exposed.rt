@@ -15,8 +15,8 @@ ghost use Rattle.form.specs.declared.error.FormError.TheVariants.{TooMany, TooLo
 ghost use Rattle.form.specs.declared.case.Case.TheVariants.{This, Other};
 
 use crate::{
-    BigEndian, Block, Both, Bytes, Case, Cases, Choice, Counted, Form, FormError, LittleEndian,
-    Number, Others, Tag, Tagged,
+    BigEndian, Block, Both, Bytes, Case, Cases, Choice, Counted, Fixed, Form, FormError,
+    LittleEndian, Number, Others, Tag, Tagged,
 };
 use multihash::Multihash;
 
@@ -51,23 +51,17 @@ fn arrays<const N: usize>(x: &Bytes<N>, y: &Bytes<N>, e: &FormError)
     ensures rejects { (bytes : List ℕ) → ¬ (⟦<Bytes<N> as Form>⟧.rejects e.now bytes) }
 {}
 
-fn fixed<const N: usize>(
-    x: &BigEndian<N>,
-    y: &BigEndian<N>,
-    z: &LittleEndian<N>,
-    w: &LittleEndian<N>,
-    e: &FormError,
-)
+fn fixed<const N: usize, const BIG: u8>(x: &Fixed<N, BIG>, y: &Fixed<N, BIG>, e: &FormError)
+    ensures same { ⟦<Fixed<N, BIG> as Form>⟧.same x.now y.now ↔ (x.now.value ≡ y.now.value) }
+    ensures rejects_with { ⟦<Fixed<N, BIG> as Form>⟧.rejects_with e.now → IsFailed IsEof e.now }
+    ensures rejects { (bytes : List ℕ) → ¬ (⟦<Fixed<N, BIG> as Form>⟧.rejects e.now bytes) }
+{}
+
+fn big_or_little<const N: usize>(x: &BigEndian<N>, y: &LittleEndian<N>)
     ensures big { (bytes : List ℕ) →
         ⟦<BigEndian<N> as Form>⟧.is_form x.now bytes ↔ (bytes ≡ bytes_high_first N x.now.value) }
     ensures little { (bytes : List ℕ) →
-        ⟦<LittleEndian<N> as Form>⟧.is_form z.now bytes ↔ (bytes ≡ bytes_low_first 0 N z.now.value) }
-    ensures same_big { ⟦<BigEndian<N> as Form>⟧.same x.now y.now ↔ (x.now.value ≡ y.now.value) }
-    ensures same_little { ⟦<LittleEndian<N> as Form>⟧.same z.now w.now ↔ (z.now.value ≡ w.now.value) }
-    ensures rejects_with_big { ⟦<BigEndian<N> as Form>⟧.rejects_with e.now → IsFailed IsEof e.now }
-    ensures rejects_with_little { ⟦<LittleEndian<N> as Form>⟧.rejects_with e.now → IsFailed IsEof e.now }
-    ensures rejects_big { (bytes : List ℕ) → ¬ (⟦<BigEndian<N> as Form>⟧.rejects e.now bytes) }
-    ensures rejects_little { (bytes : List ℕ) → ¬ (⟦<LittleEndian<N> as Form>⟧.rejects e.now bytes) }
+        ⟦<LittleEndian<N> as Form>⟧.is_form y.now bytes ↔ (bytes ≡ bytes_low_first 0 N y.now.value) }
 {}
 
 fn blocks<const MAX: usize>(x: &Block<MAX>, y: &Block<MAX>, e: &FormError)

@@ -75,7 +75,7 @@ impl<const N: usize, const BIG: u8> Form for Fixed<N, BIG> {
     ghost some = { λ x. array_some N (number_bytes BIG N x.value) (fixed_length BIG N x.value) x.some };
 }
 
-// Puts bytes whose lowest is first in the order of the encoding, and back.
+// Reverses the bytes if the highest comes first in the encoding.
 fn order<const BIG: u8>(bytes: &mut [u8])
     ensures { bytes.new ≡ in_order BIG bytes.old }
 {

@@ -4,8 +4,8 @@
 use Rattle.std.proofs.Common.{◌≡◌, ◌<◌, ◌≤◌, ◌⊎◌, inl, inr, ℕ, zero, suc, List, [], ◌∷◌, ◌++◌, length, refl, sym, ap, ◌∙◌}
 use Rattle.std.proofs.Common.{append_assoc, append-nil, subst, arith}
 use Rattle.multihash.specs.Pair.{Pair, FitsBuffer}
-use Rattle.multihash.specs.Varint.{VarintError, insufficient, overflow, not_minimal, IsVarint, IsInsufficient}
-use Rattle.multihash.specs.Verdict.{Verdict, accepted, invalid_size, invalid_code, malformed, unexpected_eof, IsIncomplete}
+use Rattle.multihash.specs.Varint.{VarintError, insufficient, IsVarint, IsInsufficient}
+use Rattle.multihash.specs.Verdict.{Verdict, accepted, malformed, unexpected_eof, IsIncomplete}
 use Rattle.multihash.specs.Outcome.{IsErrorOf}
 use Rattle.multihash.specs.Refusal.{Refusal, of_varint}
 use Rattle.multihash.specs.Encoding.{IsEncoding}

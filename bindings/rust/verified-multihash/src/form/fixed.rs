@@ -41,7 +41,7 @@ impl<const N: usize, const BIG: u8> Form for Fixed<N, BIG> {
     }
 }
 
-// Puts bytes whose lowest is first in the order of the encoding, and back.
+// Reverses the bytes if the highest comes first in the encoding.
 fn order<const BIG: u8>(bytes: &mut [u8]) {
     if BIG != 0 {
         bytes.reverse();

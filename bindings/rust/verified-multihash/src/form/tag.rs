@@ -16,7 +16,7 @@ pub struct Tag<const N: u64> {
 
 impl<const N: u64> Form for Tag<N> {
     fn write<W: Write>(&self, w: &mut W) -> Result<(), FormError> {
-        // That `N` is in range is a ghost field, which the call below needs.
+        // For the proof: each value of the type shows that `N` is below 2^63.
         let _in_range = *self;
         varint::write(N, w)?;
         Ok(())

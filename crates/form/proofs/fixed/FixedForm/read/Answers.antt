@@ -1,9 +1,8 @@
 -- `read_exact` fills the first N of 8 bytes, whose number has no other bytes (`filled`); or it shows that fewer than N were left. No
 -- value has size 0 or more than 8.
-use Rattle.form.proofs.Common.{◌≡◌, ◌≤◌, ◌<◌, ◌^◌, ℕ, length, inr, refl, sym, ap, ◌∙◌, arith, rules, take}
+use Rattle.form.proofs.Common.{◌≡◌, ◌≤◌, length, inr, refl, sym, ap, ◌∙◌, arith, rules, take}
 use Rattle.std.proofs.lemmas.List.{length-take-le}
 use Rattle.multihash.proofs.OutcomeLemmas.{passed_error}
-use Rattle.form.specs.Form.{number_bytes}
 use Rattle.form.specs.Lemmas.Parts.{fixed_length}
 use Rattle.form.proofs.FixedLemmas.{zeros, filled}
 use Rattle.form.proofs.FormLemmas.{sized_stops, no_value_stops}
