@@ -50,12 +50,6 @@ form_truncated unique not_both same new (Err e) ok err x bytes part is (more, so
   | inr (inr (ends, _)) ↦ inl ends
 ]
 
--- what holds of an error holds of the error that a `?` returns, which equals it
-pub if_passed : {T E : Type 0} (P : E → Type 0) (r : Result T E) (e : E) → IsErrAnd r (λ x. x ≡ e) → P e
-    → IsErrAnd r P
-if_passed P (Ok x) e is holds = is
-if_passed P (Err x) e is holds = subst P (sym is) holds
-
 -- two known inputs that are equal
 pub known_is : (a b : List ℕ) → Some a ≡ Some b → a ≡ b
 known_is a b is = cc

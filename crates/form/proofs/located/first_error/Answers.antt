@@ -1,14 +1,11 @@
 -- The place is that of a first error, and there is only one.
-use Rattle.form.proofs.Common.{◌≡◌, ◌++◌, ◌∷◌, [], ◌∙◌, ℕ, List, length, length-append, append_assoc, append-nil, ap, sym, inl, inr, subst, arith, Bool, true, false, AreParts}
+use Rattle.form.proofs.Common.{◌++◌, ◌∷◌, [], ◌∙◌, ℕ, List, length, length-append, append_assoc, append-nil, ap, sym, inl, inr, subst, arith, AreParts}
 use Rattle.multihash.proofs.ReadingLemmas.{Consumes-known}
 use Rattle.multihash.proofs.StreamLemmas.{parts_push}
 use Rattle.form.proofs.WholeLemmas.{not_empty, empty_is, known_is}
 use Rattle.form.proofs.LocatedLemmas.{cause_of, found_memory, rejected_at, truncated_at, none_rejected, none_truncated}
 use Rattle.form.proofs.located.first_error.Goals.{then-is_incomplete, else-is_incomplete}
 use Rattle.form.proofs.located.first_error.Goals as goal
-
-two_bools : {b : Bool} → b ≡ true → b ≡ false → ⊥
-two_bools is fails = cc
 
 pub returns-in-Err-clause-some : goal.returns-in-Err-clause-some
 returns-in-Err-clause-some g c =
@@ -27,7 +24,7 @@ returns-in-Err-clause-some g c =
           (elim c.if-is_incomplete.branch [
             | then-is_incomplete w ↦ inl (c.is_incomplete.ensures.0 w.if-is_incomplete.true, w.offset-is)
             | else-is_incomplete w ↦ inr (
-              λ ends. two_bools (c.is_incomplete.ensures.1 ends) w.if-is_incomplete.false,
+              λ ends. let holds = c.is_incomplete.ensures.1 ends in cc (holds, w.if-is_incomplete.false),
               w.offset-is ∙ w.saturating_sub-offset.ensures,
             )
           ]);

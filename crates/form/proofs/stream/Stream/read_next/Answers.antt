@@ -3,7 +3,6 @@ use Rattle.std.proofs.Common.{ap, inl, inr, length, length-append, sym, subst, �
 use Rattle.std.specs.Io.KnownBytes.{IsAtEnd}
 use Rattle.multihash.proofs.OutcomeLemmas.{passed_error}
 use Rattle.form.proofs.StopLemmas.{nothing_stops}
-use Rattle.form.proofs.WholeLemmas.{if_passed}
 use Rattle.form.proofs.stream.Stream.read_next.Goals as goal
 
 pub returns-then-branch-clause-found : goal.returns-then-branch-clause-found
@@ -14,7 +13,7 @@ returns-then-branch-clause-found g c x bytes more is at same =
 pub returns-in_err-value-clause-truncated : goal.returns-in_err-value-clause-truncated
 returns-in_err-value-clause-truncated g c x bytes part is strict some at same =
     let met = c.in_ok-is_at_end.ensures in
-    if_passed _ c.from_residual-in_err-value.result _ c.from_residual-in_err-value.ensures.1
+    rw (passed_error c.from_residual-in_err-value.result _ c.from_residual-in_err-value.ensures.1)
     (c.in_err-value.ensures.truncated x bytes part is strict (met.kept ∙ at) (same ∙ sym met.faults))
 
 pub returns-clause-found : goal.returns-clause-found
