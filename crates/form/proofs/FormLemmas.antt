@@ -1,5 +1,5 @@
 -- What `err` of `read` states, from the contracts of the library's calls: for `read` of each part.
-use Rattle.form.proofs.Common.{◌≡◌, ℕ, ◌<◌, ◌⊎◌, ap, inl, inr, List, [], length, length-append, Option, Some, refl, sym, subst, append-nil, arith, None, VarintError, insufficient, overflow, not_minimal, IsVarint, IsInsufficient, Refusal, of_io, IsAnyVarintError, IsVarintError, HasFewerThan, ConsumesFewerThan, FailsBy, ExactFails, ReadFails, ConsumesAtVarintError, ConsumesShortestSettling, ConsumesNothingSettling, EndsOrFails, IsFailed, IsTruncated, ShowsMalformed, RejectsNumber, RejectsMultihash, IsUndecided, StopsAt, ReadStops, FormError}
+use Rattle.form.proofs.Common.{◌≡◌, ℕ, ◌<◌, ◌⊎◌, ap, inl, inr, List, [], length, length-append, Option, Some, refl, sym, subst, append-nil, arith, None, VarintError, insufficient, overflow, not_minimal, IsVarint, IsInsufficient, Refusal, of_io, IsAnyVarintError, IsVarintError, HasFewerThan, ConsumesFewerThan, FailsBy, ExactFails, ReadFails, ConsumesAtVarintError, IsFailed, IsTruncated, ShowsMalformed, RejectsNumber, RejectsMultihash, IsUndecided, ReadStops, FormError}
 use Rattle.multihash.specs.Bytes.{IsPrefix}
 use Rattle.multihash.specs.Encoding.{IsEncoding}
 use Rattle.multihash.specs.Verdict.{Verdict, accepted, malformed, unexpected_eof, HasVerdict, IsIncomplete}
@@ -108,25 +108,21 @@ module _ (S : ℕ) where
         consumes = none.consumes;
         cause = inr (inl (up, unsettled_undecided none.consumed none.unsettled));
       }
-      | inr (same, _) ↦ by_verdict (r.verdict same).0 (r.verdict same).1 (r.verdict same).2 (incomplete_or_not (r.verdict same).0)
-          (r.settled same) r.unsettled
+      | inr (same, _) ↦ let (v, has, names) = r.verdict same in
+          elim (incomplete_or_not v) [
+            | inl ends ↦ let none = r.unsettled (inr (v, has, ends)) in record {
+              consumed = none.consumed;
+              consumes = none.consumes;
+              cause = inr (inr ((e, refl, incomplete_error e v names ends), unsettled_undecided input (none_settles S input v has ends)));
+            }
+            | inr late ↦ let found = r.settled same v has late in record {
+              consumed = found.front;
+              consumes = found.consumes;
+              cause = inl (settled_shows input found.front e v has late names found.shortest);
+            }
+          ]
     ]);
   }
-    where
-      by_verdict : (v : Verdict) → HasVerdict S input v → IsErrorOf e v → IsIncomplete v ⊎ (¬ (IsIncomplete v))
-          → ((w : Verdict) → HasVerdict S input w → ¬ (IsIncomplete w) → ConsumesShortestSettling S input new)
-          → (EndsOrFails S input before after → ConsumesNothingSettling S input new)
-          → StopsAt (λ (m : Fields S). IsEncoding (pair_of m)) (RejectsMultihash S) (before < after) (Failed e) input new
-      by_verdict v has names (inl ends) settled unsettled = let none = unsettled (inr (v, has, ends)) in record {
-        consumed = none.consumed;
-        consumes = none.consumes;
-        cause = inr (inr ((e, refl, incomplete_error e v names ends), unsettled_undecided input (none_settles S input v has ends)));
-      }
-      by_verdict v has names (inr late) settled unsettled = let found = settled v has late in record {
-        consumed = found.front;
-        consumes = found.consumes;
-        cause = inl (settled_shows input found.front e v has late names found.shortest);
-      }
 
 -- ---- bytes
 

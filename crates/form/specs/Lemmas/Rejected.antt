@@ -242,11 +242,10 @@ module _ {A : Type 0} {IsPart : A → List ℕ → Type 0} {Rejects : FormError 
 
   pub counted_not_both : (MAX : ℕ) (xs : List A) (n : ℕ) → n ≡ length xs → n ≤ MAX → (e : FormError)
       → Exclude (Then (IsVarint (length xs)) (AreParts IsPart xs)) (RejectsNumberThen (RejectsCounted IsPart Rejects MAX) e)
-  counted_not_both MAX xs n long within e = from_not_both e (length xs) next
-    where
-      next : Exclude (AreParts IsPart xs) (RejectsCounted IsPart Rejects MAX (length xs) e)
-      next a b r s are (inl over) cut = omega (arith, over.0, long, within)
-      next a b r s are (inr item) cut = items_not_both xs e a b r s are item.1 cut
+  counted_not_both MAX xs n long within e = from_not_both e (length xs) (λ a b r s are rejects cut. elim rejects [
+    | inl over ↦ omega (arith, over.0, long, within)
+    | inr item ↦ items_not_both xs e a b r s are item.1 cut
+  ])
 
   pub counted_rejects_unique : (MAX : ℕ) → ((e f : FormError) → Determine (Rejects e) (Rejects f) (e ≡ f)) → (e f : FormError)
       → Determine (RejectsNumberThen (RejectsCounted IsPart Rejects MAX) e) (RejectsNumberThen (RejectsCounted IsPart Rejects MAX) f) (e ≡ f)
@@ -266,8 +265,7 @@ module _ {A : Type 0} (IsPart : A → List ℕ → Type 0) {Rejects : FormError 
 
   pub counted_not_truncated : (MAX : ℕ) (e : FormError) (bytes : List ℕ) → RejectsNumberThen (RejectsCounted IsPart Rejects MAX) e bytes
       → IsNotTruncated e
-  counted_not_truncated MAX e = from_not_truncated e next
-    where
-      next : (n : ℕ) (a : List ℕ) → RejectsCounted IsPart Rejects MAX n e a → IsNotTruncated e
-      next n a (inl (_, is, _)) (error, also, _) = let same : TooMany n ≡ Failed error = sym is ∙ also in cc
-      next n a (inr item) ends = items_not_truncated n e a item.1 ends
+  counted_not_truncated MAX e = from_not_truncated e (λ n a rejects ends. elim rejects [
+    | inl over ↦ let same : TooMany n ≡ Failed ends.0 = sym over.1 ∙ ends.1 in cc
+    | inr item ↦ items_not_truncated n e a item.1 ends
+  ])

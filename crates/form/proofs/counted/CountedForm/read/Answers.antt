@@ -1,6 +1,6 @@
 -- A counted list is a number and that many items: reading stops in the number, at one above MAX or in the items, and
 -- `StopLemmas` has what each shows of the whole.
-use Rattle.form.proofs.Common.{◌≤◌, ℕ, List, length, inl, inr, refl, sym, ◌∙◌, arith, IsVarint, AreParts, Then, RejectsItem, RejectsCounted, AreItems, FormError}
+use Rattle.form.proofs.Common.{◌≤◌, ℕ, List, length, inl, inr, refl, sym, ◌∙◌, arith, IsVarint, AreParts, Then, AreItems}
 use Rattle.multihash.proofs.OutcomeLemmas.{passed_error}
 use Rattle.form.proofs.BothLemmas.{number_is, then_read}
 use Rattle.form.proofs.FormLemmas.{varint_stops}
@@ -16,12 +16,6 @@ split IsPart items x bytes t = (
   items x,
   record { first = t.first; second = t.second; is_first = t.is_first; is_second = (refl, t.is_second); parts = t.parts },
 )
-
--- a count within the limit is not rejected
-only_item : {A : Type 0} (IsPart : A → List ℕ → Type 0) (Rejects : FormError → List ℕ → Type 0) (MAX n : ℕ) → n ≤ MAX
-    → (e : FormError) (bytes : List ℕ) → RejectsCounted IsPart Rejects MAX n e bytes → RejectsItem IsPart Rejects n e bytes
-only_item IsPart Rejects MAX n within e bytes (inl over) = absurd (omega (arith, over.0, within))
-only_item IsPart Rejects MAX n within e bytes (inr item) = item.1
 
 pub returns-in_err-count-clause-err : goal.returns-in_err-count-clause-err
 returns-in_err-count-clause-err g c =
@@ -44,7 +38,8 @@ returns-in_err-items-clause-err g c =
     rw (passed_error c.from_residual-in_err-items.result _ c.from_residual-in_err-items.ensures.1)
     (from_stops (split g.T.Form.is_form (λ x. x.items.items)) n c.in_ok-count.ensures.faults c.in_ok-count.ensures.ok
     (stops_as (λ xs bytes are. (xs, are)) (λ e bytes item. inr (within, item))
-    (only_item g.T.Form.is_form g.T.Form.rejects g.row.MAX n within) c.in_err-items.ensures.err))
+    (λ e bytes rejects. elim rejects [ inl over ↦ absurd (omega (arith, over.0, within)) | inr item ↦ item.1 ])
+    c.in_err-items.ensures.err))
 
 pub returns-clause-ok : goal.returns-clause-ok
 returns-clause-ok g c =
