@@ -99,6 +99,16 @@ static PyObject *decoded_front(PyObject *module, input *from, multihash_decoded 
     return multihash == NULL ? NULL : Py_BuildValue("Nn", multihash, (Py_ssize_t)found.consumed);
 }
 
+PyObject *decoded_whole(const state *own, PyObject *data)
+{
+    input from;
+    if (get_input(data, "data", MULTIHASH_LENGTH_MAX, &from) < 0) return NULL;
+    multihash_decoded found = multihash_from_prefix(from.bytes, from.length, from.whole);
+    PyObject *multihash = decoded(own, &from, found, &longest);
+    Py_DECREF(from.owner);
+    return multihash;
+}
+
 /* The first bytes of `data`, the only argument of a function. */
 static int get_data(PyObject *const *given, Py_ssize_t count, PyObject *named, const char *format, Py_ssize_t most,
                     input *from)
@@ -111,12 +121,10 @@ static int get_data(PyObject *const *given, Py_ssize_t count, PyObject *named, c
 
 static PyObject *decode(PyObject *module, PyObject *const *given, Py_ssize_t count, PyObject *named)
 {
-    input from;
-    if (get_data(given, count, named, "O:decode", MULTIHASH_LENGTH_MAX, &from) < 0) return NULL;
-    multihash_decoded found = multihash_from_prefix(from.bytes, from.length, from.whole);
-    PyObject *multihash = decoded(PyModule_GetState(module), &from, found, &longest);
-    Py_DECREF(from.owner);
-    return multihash;
+    static char *names[] = {"data", NULL};
+    PyObject *data;
+    if (get_arguments(given, count, named, "O:decode", names, &data, NULL) < 0) return NULL;
+    return decoded_whole(PyModule_GetState(module), data);
 }
 
 static PyObject *read_front(PyObject *module, PyObject *const *given, Py_ssize_t count, PyObject *named)
@@ -314,7 +322,10 @@ static int fill_module(PyObject *module)
     PyObject *reader = PyType_FromModuleAndSpec(module, &reader_spec, NULL);
     if (reader == NULL) return -1;
     PyObject *file_reader = PyType_FromModuleAndSpec(module, &file_reader_spec, reader);
-    int is_filled = file_reader != NULL && PyModule_AddType(module, own->type) == 0 &&
+    PyObject *fields = Py_BuildValue("ss", "code", "digest");
+    int is_filled = file_reader != NULL && fields != NULL &&
+                    PyObject_SetAttrString((PyObject *)own->type, "__match_args__", fields) == 0 &&
+                    PyModule_AddType(module, own->type) == 0 &&
                     PyModule_AddType(module, (PyTypeObject *)reader) == 0 &&
                     PyModule_AddType(module, (PyTypeObject *)file_reader) == 0 &&
                     PyModule_AddIntConstant(module, "DIGEST_MAX", MULTIHASH_DIGEST_MAX) == 0 &&
@@ -324,6 +335,7 @@ static int fill_module(PyObject *module)
                     PyModule_AddIntConstant(module, "VARINT_LENGTH_MAX", MULTIHASH_VARINT_LENGTH_MAX) == 0;
     Py_DECREF(reader);
     Py_XDECREF(file_reader);
+    Py_XDECREF(fields);
     return is_filled ? 0 : -1;
 }
 

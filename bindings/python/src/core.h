@@ -77,6 +77,9 @@ void write_varint_message(char *text, size_t text_size, multihash_status status,
 /* The multihash that a decoding found in an input, or its error. The limit of a digest is null for SCALE. */
 PyObject *decoded(const state *own, const input *from, multihash_decoded found, const size_t *limit);
 
+/* The multihash whose encoding is the whole of a buffer. */
+PyObject *decoded_whole(const state *own, PyObject *data);
+
 /* ---- value.c and reader.c */
 
 extern PyType_Spec multihash_spec, reader_spec, file_reader_spec; /* the last one is of a subclass of the second */

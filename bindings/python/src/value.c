@@ -1,4 +1,4 @@
-/* The type Multihash: a code and a digest. _value.py has its other methods. */
+/* The type Multihash: a code and a digest. */
 #include "core.h"
 
 typedef struct multihash_object {
@@ -70,6 +70,14 @@ static PyObject *multihash_compared(PyObject *left, PyObject *right, int operati
     Py_RETURN_RICHCOMPARE(order_of(left, right), 0, operation);
 }
 
+/* The code and the digest: what pickle and copy pass to the type. */
+static PyObject *multihash_pair(PyObject *self, PyObject *unused)
+{
+    const multihash_object *multihash = (const multihash_object *)self;
+    (void)unused;
+    return Py_BuildValue("KO", multihash->code, multihash->digest);
+}
+
 /* The hash of the digest, which its object keeps, and the code, mixed by the last step of MurmurHash3. */
 static Py_hash_t multihash_hash(PyObject *self)
 {
@@ -90,8 +98,85 @@ static PyObject *multihash_bytes(PyObject *self, PyObject *unused)
     return PyBytes_FromStringAndSize((const char *)out, (Py_ssize_t)made.length); /* each Multihash has an encoding */
 }
 
+static PyObject *multihash_hex(PyObject *self, PyObject *unused)
+{
+    PyObject *bytes = multihash_bytes(self, unused);
+    PyObject *text = bytes == NULL ? NULL : PyObject_CallMethod(bytes, "hex", NULL);
+    Py_XDECREF(bytes);
+    return text;
+}
+
+static PyObject *multihash_str(PyObject *self)
+{
+    return multihash_hex(self, NULL);
+}
+
+static PyObject *multihash_hexdigest(PyObject *self, PyObject *unused)
+{
+    (void)unused;
+    return PyObject_CallMethod(((multihash_object *)self)->digest, "hex", NULL);
+}
+
+static PyObject *multihash_repr(PyObject *self)
+{
+    PyObject *name = PyType_GetQualName(Py_TYPE(self)), *text = multihash_hex(self, NULL);
+    PyObject *shown = name == NULL || text == NULL ? NULL : PyUnicode_FromFormat("%U.fromhex('%U')", name, text);
+    Py_XDECREF(name);
+    Py_XDECREF(text);
+    return shown;
+}
+
+static PyObject *multihash_format(PyObject *self, PyObject *specification)
+{
+    PyObject *text = PyObject_Str(self);
+    PyObject *formatted = text == NULL ? NULL : PyObject_CallMethod(text, "__format__", "O", specification);
+    Py_XDECREF(text);
+    return formatted;
+}
+
+/* For pickle and copy: as object does from the second protocol on, which keeps the attributes of a subclass. */
+static PyObject *multihash_reduce(PyObject *self, PyObject *protocol)
+{
+    (void)protocol;
+    return PyObject_CallMethod((PyObject *)&PyBaseObject_Type, "__reduce_ex__", "Oi", self, 2);
+}
+
+static PyObject *multihash_replace(PyObject *self, PyObject *given, PyObject *named)
+{
+    const multihash_object *multihash = (const multihash_object *)self;
+    PyObject *fields = Py_BuildValue("{sKsO}", "code", multihash->code, "digest", multihash->digest), *made = NULL;
+    if (fields != NULL && (named == NULL || PyDict_Update(fields, named) == 0)) {
+        made = PyObject_Call((PyObject *)Py_TYPE(self), given, fields);
+    }
+    Py_XDECREF(fields);
+    return made;
+}
+
+static PyObject *multihash_fromhex(PyObject *class, PyObject *text)
+{
+    if (!PyUnicode_Check(text)) return wrong_type("text", "a str (decode takes bytes)", text);
+    PyObject *bytes = PyObject_CallMethod((PyObject *)&PyBytes_Type, "fromhex", "O", text);
+    PyObject *found = bytes == NULL ? NULL : decoded_whole(state_of((PyTypeObject *)class), bytes);
+    Py_XDECREF(bytes);
+    if (found == NULL || (PyObject *)Py_TYPE(found) == class) return found;
+    PyObject *pair = multihash_pair(found, NULL), *made = pair == NULL ? NULL : PyObject_Call(class, pair, NULL);
+    Py_DECREF(found);
+    Py_XDECREF(pair);
+    return made;
+}
+
 static PyMethodDef multihash_methods[] = {
+    {"fromhex", multihash_fromhex, METH_O | METH_CLASS,
+     "fromhex($type, text, /)\n--\n\nDecodes the multihash whose encoding is all of a text in hexadecimal."},
+    {"hex", multihash_hex, METH_NOARGS, "hex($self)\n--\n\nReturns the encoding in hexadecimal, as str does."},
+    {"hexdigest", multihash_hexdigest, METH_NOARGS,
+     "hexdigest($self)\n--\n\nReturns the digest in hexadecimal, as the objects of hashlib do."},
     {"__bytes__", multihash_bytes, METH_NOARGS, "Returns the encoding."},
+    {"__format__", multihash_format, METH_O, "Formats what str returns."},
+    {"__getnewargs__", multihash_pair, METH_NOARGS, "Returns the code and the digest."},
+    {"__reduce_ex__", multihash_reduce, METH_O, NULL},
+    {"__replace__", (PyCFunction)(void (*)(void))multihash_replace, METH_VARARGS | METH_KEYWORDS,
+     "Returns one with another code or digest."},
     {NULL, NULL, 0, NULL},
 };
 
@@ -113,6 +198,8 @@ static PyType_Slot multihash_slots[] = {
     {Py_tp_new, multihash_new},
     {Py_tp_dealloc, multihash_dealloc},
     {Py_tp_hash, multihash_hash},
+    {Py_tp_repr, multihash_repr},
+    {Py_tp_str, multihash_str},
     {Py_tp_richcompare, multihash_compared},
     {Py_tp_methods, multihash_methods},
     {Py_tp_members, multihash_members},

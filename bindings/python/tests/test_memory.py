@@ -20,7 +20,7 @@ VALUE = Multihash(0x810, b"abc")
 OTHER = Multihash(1 << 62, bytes(255))
 LONG = b"\xff" * (1 << 10)
 RUNS = 100
-# CPython's cache of attributes keeps each name, so one that a call makes anew is a block more.
+# CPython's cache of attributes keeps each name, so one that a call makes is a block more.
 forget = getattr(sys, "_clear_type_cache", gc.collect)
 
 
@@ -53,7 +53,10 @@ STEPS = vm._core.Reader(len, 1)
 FRAMES = vm.encode_varint(300) + LONG[:300] + vm.encode_varint(300) + LONG
 CALLS = {str((call.__name__, each)): (call, each) for call, each in calls()}
 CALLS["a subclass"] = Named, [1 << 62, b"abc"]
-CALLS["values"] = lambda: (OTHER.code, OTHER.digest, bytes(OTHER), hash(OTHER)), ()
+CALLS["values"] = lambda: (OTHER.code, OTHER.digest, bytes(OTHER), hash(OTHER), OTHER.__getnewargs__()), ()
+CALLS["texts"] = lambda: (OTHER.hex(), str(OTHER), repr(OTHER), OTHER.hexdigest(), format(VALUE, ">99")), ()
+CALLS["hexadecimal"] = lambda text: (Multihash.fromhex(text), Named.fromhex(text)), [OTHER.hex()]
+CALLS["copies"] = lambda: (OTHER.__replace__(code=1), OTHER.__reduce_ex__(0)), ()
 CALLS["order"] = lambda: (VALUE == OTHER, VALUE < OTHER, VALUE == 1, VALUE == Named(VALUE.code, VALUE.digest)), ()
 CALLS["gaps"] = lambda data: vm.decode(memoryview(data)[::2]), [LONG]
 CALLS["many"] = vm._core.read_many, [bytes(OTHER) * 9]
@@ -112,6 +115,7 @@ def keeps(call, number):
             again = prepared(*call)
             found = result_of(functools.partial(failing, again, number))
         del again
+        forget()
         gc.collect()
         if abs(sys.getallocatedblocks() - before) < RUNS // 2:
             return False, found

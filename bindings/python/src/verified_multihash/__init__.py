@@ -18,14 +18,13 @@ from typing import NamedTuple
 from . import _core, hashes
 
 from ._core import (
-    DIGEST_MAX, HEAD_MAX, LENGTH_MAX, SCALE_LENGTH_MAX, VARINT_LENGTH_MAX, compare, decode, encode, encode_varint,
-    encoded_len, read, read_varint, scale_decode, scale_encode,
+    DIGEST_MAX, HEAD_MAX, LENGTH_MAX, SCALE_LENGTH_MAX, VARINT_LENGTH_MAX, Multihash, compare, decode, encode,
+    encode_varint, encoded_len, read, read_varint, scale_decode, scale_encode,
 )  # fmt: skip
 from ._error import MultihashError
 from ._readers import AsyncFrameReader, AsyncMultihashReader, FrameReader, MultihashReader, read_from
 from ._status import Status
 from ._types import Buffer
-from ._value import Multihash
 
 __all__ = [
     "AsyncFrameReader", "AsyncMultihashReader", "Columns", "DIGEST_MAX", "FrameReader", "HEAD_MAX", "Head",

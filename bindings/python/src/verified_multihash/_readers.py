@@ -7,9 +7,8 @@ from collections.abc import AsyncIterator
 from typing import TypeVar
 
 from . import _core
-from ._core import DIGEST_MAX
+from ._core import DIGEST_MAX, Multihash
 from ._types import AsyncReadable, Readable, read_of
-from ._value import Multihash
 
 __all__ = ["AsyncFrameReader", "AsyncMultihashReader", "FrameReader", "MultihashReader", "read_from"]
 

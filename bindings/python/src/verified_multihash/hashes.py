@@ -14,11 +14,10 @@ from types import MappingProxyType
 from typing import Any, Protocol
 
 from . import _codes
-from ._core import DIGEST_MAX, decode
+from ._core import DIGEST_MAX, Multihash, decode
 from ._error import MultihashError
 from ._status import Status
 from ._types import Buffer, Readable, bytes_like, read_of
-from ._value import Multihash
 
 # The calls that use hashlib and hmac import them: this takes longer than to import the rest of the package.
 
