@@ -78,14 +78,12 @@ static PyObject *multihash_pair(PyObject *self, PyObject *unused)
     return Py_BuildValue("KO", multihash->code, multihash->digest);
 }
 
-/* The hash of the digest, which its object keeps, and the code, mixed by the last step of MurmurHash3. */
 static Py_hash_t multihash_hash(PyObject *self)
 {
-    const multihash_object *multihash = (const multihash_object *)self;
-    uint64_t mixed = (uint64_t)PyObject_Hash(multihash->digest) ^ multihash->code; /* that of bytes cannot fail */
-    mixed = (mixed ^ mixed >> 33) * 0xff51afd7ed558ccdu;
-    mixed = (mixed ^ mixed >> 33) * 0xc4ceb9fe1a85ec53u;
-    return (Py_hash_t)((mixed ^ mixed >> 33) & PY_SSIZE_T_MAX); /* not -1, which is an error */
+    PyObject *pair = multihash_pair(self, NULL);
+    Py_hash_t hash = pair == NULL ? -1 : PyObject_Hash(pair);
+    Py_XDECREF(pair);
+    return hash;
 }
 
 static PyObject *multihash_bytes(PyObject *self, PyObject *unused)
