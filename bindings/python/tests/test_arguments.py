@@ -79,7 +79,6 @@ TEXTS = [
     (hashes.digest, [io.BytesIO(), "sha1"], "data bytes-like digest_file verify_file BytesIO"),
     (hashes.digest, [bytes(256), "identity"], "identity 255 256"),
     (hashes.digest, [b"", "sha1", [1]], "functions list"),
-    (hashes.digest, [b"", "sha1", {"blake3": 1}], "functions 'blake3'"),
     (hashes.verify, [Multihash(1, b""), b""], "code 0x1"),
     (hashes.verify, ["1220", b""], "multihash Multihash encoding Multihash.fromhex str"),
     (hashes.verify, [b"abc", Multihash(1, b"")], "data bytes-like multihash first Multihash"),

@@ -57,8 +57,8 @@ class Hashes(unittest.TestCase):
 
     def test_own_functions(self):
         """Functions of a caller, for codes that hashlib has not, that have no name, and in place of its own."""
-        functions = {code: hashlib.sha1 for code in (0x1E, 0x300000, 0x12, 0x56, 0x18)}
-        for code in functions:
+        functions = {key: hashlib.sha1 for key in (0x1E, 0x300000, "sha2-256", "dbl-sha2-256", 0x18)}
+        for code in (hashes.CODES.get(key, key) for key in functions):
             found = hashes.digest(b"abc", code, functions)
             self.assertEqual(found, Multihash(code, hashlib.sha1(b"abc").digest()))
             self.assertEqual(hashes.digest_file(io.BytesIO(b"abc"), code, functions=functions), found)

@@ -71,6 +71,7 @@ async def read(stream: asyncio.StreamReader) -> None:
 
 assert_type(hashes.digest(ARRAY, 0x1E, functions={0x1E: hashlib.sha256}), Multihash)
 assert_type(hashes.verify(ARRAY, ARRAY, functions={0x1E: functools.partial(hashlib.blake2b, digest_size=8)}), bool)
-hashes.verify(ARRAY, ARRAY, functions={"blake3": hashlib.sha256})  # type: ignore[dict-item]
-hashes.verify(ARRAY, ARRAY, functions={0x1E: bytes})  # type: ignore[dict-item]
+hashes.verify(ARRAY, ARRAY, functions={"blake3": hashlib.sha256})
+hashes.verify(ARRAY, ARRAY, functions={b"blake3": hashlib.sha256})  # type: ignore[arg-type]
+hashes.verify(ARRAY, ARRAY, functions={0x1E: bytes})  # type: ignore[arg-type]
 hashes.CODES["sha2-256"] = 3  # type: ignore[index]

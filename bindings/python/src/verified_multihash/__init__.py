@@ -37,11 +37,11 @@ __version__ = "1.0.0"
 
 
 class Head(NamedTuple):
-    """The two varints at the start of an encoding: the code, the digest's length, and the `length` of both in bytes."""
+    """The two varints at the start of an encoding: the code and the digest's length. `consumed` is the length of both."""
 
     code: int
     digest_length: int
-    length: int
+    consumed: int
 
 
 class Columns(NamedTuple):
@@ -62,7 +62,7 @@ class Columns(NamedTuple):
 
 def head(data: Buffer) -> Head:
     """Decodes the two varints at the start of an encoding, without the digest, which may be missing or too long."""
-    return tuple.__new__(Head, _core.head(data))  # without the arguments of Head, which take longer
+    return Head._make(_core.head(data))
 
 
 def read_many(data: Buffer) -> Columns:

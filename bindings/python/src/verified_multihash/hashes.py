@@ -1,8 +1,8 @@
 """Names of codes, and multihashes of data, computed by hashlib or by your own functions. Nothing here is proved.
 
-Where a call has the parameter `functions`, it maps codes to functions that hashlib lacks, or that are used in place of
-its own. Each takes no arguments and returns an object with the methods `update(data)` and `digest()`, as the functions
-of hashlib do: `functions={0x1E: blake3.blake3}`.
+Where a call has the parameter `functions`, it maps names or codes to functions that hashlib lacks, or that are used in
+place of its own. Each takes no arguments and returns an object with the methods `update(data)` and `digest()`, as the
+functions of hashlib do: `functions={"blake3": blake3.blake3}`.
 """
 
 from __future__ import annotations
@@ -59,7 +59,7 @@ class _Hash(Protocol):
         """Returns the digest of all data so far."""
 
 
-_Functions = Mapping[int, Callable[[], _Hash]]
+_Functions = Mapping[int, Callable[[], _Hash]] | Mapping[str, Callable[[], _Hash]]
 
 
 class _Identity:
@@ -112,17 +112,13 @@ def _maker(code: int) -> Callable[[], Any]:
     return make
 
 
-def _own(functions: _Functions | None, code: int) -> Callable[[], Any] | None:
+def _own(functions: Mapping[Any, Callable[[], Any]] | None, code: int) -> Callable[[], Any] | None:
     """Returns the caller's function for a code."""
     if functions is None:
         return None
-    text = "functions must map codes to functions, as {0x1E: blake3.blake3} does; it is a"
     if not isinstance(functions, Mapping):
-        raise TypeError(f"{text} {type(functions).__name__}")
-    for key in functions:
-        if not isinstance(key, int):
-            raise TypeError(f"{text} map of {key!r:.60}")
-    return functions.get(code)
+        raise TypeError(f"functions must map names or codes to functions, not {type(functions).__name__}")
+    return functions.get(code, functions.get(NAMES.get(code, code)))
 
 
 class Hasher:
