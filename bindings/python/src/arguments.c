@@ -27,19 +27,6 @@ static void rename_error(const char *name, const char *expected, PyObject *argum
     wrong_type(name, is_awaitable ? "bytes (an AsyncMultihashReader awaits read)" : expected, argument);
 }
 
-PyObject *shown_number(PyObject *number)
-{
-    PyObject *shown = PyObject_Str(number);
-    if (shown == NULL && PyErr_ExceptionMatches(PyExc_ValueError)) { /* it has thousands of decimal digits */
-        PyErr_Clear();
-        shown = PyNumber_ToBase(number, 16);
-    }
-    if (shown == NULL || PyUnicode_GetLength(shown) <= 40) return shown;
-    PyObject *front = PyUnicode_FromFormat("%.40U...", shown);
-    Py_DECREF(shown);
-    return front;
-}
-
 int get_buffer(PyObject *argument, const char *name, int flags, Py_buffer *view)
 {
     int found = PyObject_GetBuffer(argument, view, flags);
@@ -109,12 +96,9 @@ int get_number(PyObject *argument, const char *name, uint64_t *number)
     if (overflow > 0 || value >= 0) return 0;
     if (overflow == 0 && PyErr_Occurred()) {
         rename_error(name, "an int", argument);
-        return -1;
+    } else {
+        PyErr_Format(PyExc_ValueError, "%s must not be negative", name);
     }
-    PyObject *index = PyNumber_Index(argument), *shown = index == NULL ? NULL : shown_number(index);
-    if (shown != NULL) PyErr_Format(PyExc_ValueError, "%s must be 0 or more, not %U", name, shown);
-    Py_XDECREF(index);
-    Py_XDECREF(shown);
     return -1;
 }
 

@@ -29,24 +29,20 @@ PyObject *raise_error(const state *own, multihash_status status, uint64_t size, 
     return raise_with(own, Py_BuildValue("IKKKs", status, numbers[0], numbers[1], numbers[2], text));
 }
 
-/* The texts are those of multihash_encode_message, whose numbers have 64 bits. */
-PyObject *encoding_error(const state *own, multihash_status status, PyObject *length, PyObject *number)
+PyObject *encoding_error(const state *own, multihash_status status, PyObject *length, PyObject *code)
 {
-    static const char *texts[] = {
-        [MULTIHASH_OVERFLOW] = "the value %U is 2^63 or more",
-        [MULTIHASH_INVALID_SIZE] = "the digest has %U bytes, and the limit is %d",
-        [MULTIHASH_INVALID_CODE] = "the code %U is 2^63 or more",
-    };
-    int is_size = status == MULTIHASH_INVALID_SIZE, is_code = status == MULTIHASH_INVALID_CODE;
-    PyObject *wrong = PyNumber_Index(is_size ? length : number), *none = PyLong_FromLong(0);
-    PyObject *shown = wrong == NULL ? NULL : shown_number(wrong);
-    PyObject *text = shown == NULL ? NULL : PyUnicode_FromFormat(texts[status], shown, MULTIHASH_DIGEST_MAX);
-    raise_with(own, Py_BuildValue("IOOiN", status, is_size ? wrong : none, is_code ? wrong : none, 0, text));
+    int is_size = status == MULTIHASH_INVALID_SIZE;
+    PyObject *number = PyNumber_Index(is_size ? length : code), *arguments = NULL;
     Py_XDECREF(length);
-    Py_XDECREF(wrong);
-    Py_XDECREF(none);
-    Py_XDECREF(shown);
-    return NULL;
+    if (number == NULL) return NULL;
+    if (is_size) {
+        PyObject *text = PyUnicode_FromFormat("the digest has %S bytes, and the limit is %d", number, MULTIHASH_DIGEST_MAX);
+        arguments = text == NULL ? NULL : Py_BuildValue("IOiiN", status, number, 0, 0, text);
+    } else { /* the text has no number, which may be too long to show */
+        arguments = Py_BuildValue("IiOis", status, 0, number, 0, multihash_status_text(status));
+    }
+    Py_DECREF(number);
+    return raise_with(own, arguments);
 }
 
 void write_varint_message(char *text, size_t text_size, multihash_status status, size_t length)
@@ -265,7 +261,7 @@ static PyObject *encode_varint(PyObject *module, PyObject *const *given, Py_ssiz
     if (get_number(value, "value", &number) < 0) return NULL;
     multihash_encoded made = multihash_write_varint(number, out, sizeof out);
     if (made.status == MULTIHASH_OK) return PyBytes_FromStringAndSize((const char *)out, (Py_ssize_t)made.length);
-    return encoding_error(PyModule_GetState(module), made.status, NULL, value);
+    return raise_error(PyModule_GetState(module), made.status, 0, 0, 0, "the value is 2^63 or more");
 }
 
 static PyObject *compare(PyObject *module, PyObject *const *given, Py_ssize_t count, PyObject *named)

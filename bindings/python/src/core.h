@@ -24,9 +24,6 @@ typedef struct input {
 /* Raises a TypeError, `name must be expected, not its type`, and returns null. */
 PyObject *wrong_type(const char *name, const char *expected, PyObject *argument);
 
-/* A number as messages have it: at most 40 digits. */
-PyObject *shown_number(PyObject *number);
-
 /* The name of what a file returned, as an argument. */
 #define RESULT_OF_READ "the result of read"
 
@@ -67,9 +64,8 @@ const state *state_of(PyTypeObject *type);
 PyObject *raise_error(const state *own, multihash_status status, uint64_t size, uint64_t code, size_t consumed,
                       const char *text);
 
-/* Raises the error of an encoding of a digest of that length, to which it steals the reference, and a code, or of the
- * varint of a value. */
-PyObject *encoding_error(const state *own, multihash_status status, PyObject *length, PyObject *number);
+/* Raises the error of an encoding of a digest of that length, to which it steals the reference, and a code. */
+PyObject *encoding_error(const state *own, multihash_status status, PyObject *length, PyObject *code);
 
 /* Writes why an input of that length does not start with a varint. */
 void write_varint_message(char *text, size_t text_size, multihash_status status, size_t length);

@@ -25,7 +25,7 @@ ERRORS = [
     (CID.parse, ["f0255"], "unknown_version", "the version must be 1, not 2"),
     (CID, [2, 0x55, HELLO], "unknown_version", "the version must be 0 or 1"),
     (CID, [-1, 0x55, HELLO], "unknown_version", "the version must be 0 or 1"),
-    (CID, [1, 2**63, HELLO], "overflow", "codec: the value 9223372036854775808 is 2^63 or more"),
+    (CID, [1, 2**63, HELLO], "overflow", "codec: the value is 2^63 or more"),
     *(
         (CID, fields, "not_version_0", "version 0 has the codec 0x70 and a multihash of SHA2-256 with 32 bytes")
         for fields in ([0, 0x55, HELLO], [0, 0x70, Multihash(18, bytes(31))], [0, 0x70, Multihash(19, bytes(32))])
@@ -81,7 +81,6 @@ class Cids(unittest.TestCase):
             self.assertIs(type(made), own)
         self.assertNotEqual(CID(1, 0x70, HELLO), OLD)
         self.assertRaises(AttributeError, setattr, RAW, "codec", 0)
-        self.assertEqual(vars(RAW), {"version": 1, "codec": 0x55, "multihash": HELLO})  # pydantic 1 reads them there
 
     def test_errors_as_values(self):
         error = shown(CID.parse, "b")[1]

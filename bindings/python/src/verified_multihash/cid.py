@@ -70,7 +70,7 @@ class CIDError(ValueError):
         return str(self.args[1]) if len(self.args) == 2 else super().__str__()
 
 
-@dataclass(frozen=True, repr=False)  # no slots: pydantic 1 reads the dictionary of a dataclass
+@dataclass(frozen=True, repr=False)
 class CID:
     """A version, which is 0 or 1, a codec below 2**63, and a multihash.
 
@@ -90,7 +90,7 @@ class CID:
         if not isinstance(self.multihash, Multihash):
             raise TypeError(f"multihash must be a Multihash, not {type(self.multihash).__name__}")
         if self.codec < 0:
-            raise ValueError(f"codec must not be negative, but is {self.codec}")
+            raise ValueError("codec must not be negative")
         if self.version not in (0, 1):
             raise CIDError("unknown_version", "the version must be 0 or 1")
         try:
