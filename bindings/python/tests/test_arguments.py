@@ -18,6 +18,7 @@ from unittest.mock import Mock
 import verified_multihash as vm
 from test_readers import AwaitedMultihashes
 from verified_multihash import Multihash, MultihashError, Status, hashes
+from verified_multihash.cid import CID, CIDError
 
 try:
     from _testbuffer import ND_FORTRAN, ndarray
@@ -197,6 +198,7 @@ class Arguments(unittest.TestCase):
                 self.assertEqual(result_of(vm.decode, data)[:4], (Status.INVALID_SIZE, length - 2, 0, length))
                 for call in ENCODERS:
                     self.assertEqual(result_of(call, 1, data)[:2], (Status.INVALID_SIZE, length))
+                self.assertRaises(CIDError, CID.decode, data)
                 self.assertIs(hashes.verify(zero, data), False)
                 self.assertEqual(result_of(hashes.digest, data, "identity")[1], length)
                 self.assertIs(hashes.verify_file(zero, file), False)

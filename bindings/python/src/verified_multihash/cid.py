@@ -21,7 +21,7 @@ from types import MappingProxyType
 from typing import Self
 
 from . import LENGTH_MAX as MULTIHASH_MAX
-from . import VARINT_LENGTH_MAX, Multihash, MultihashError, decode, encode_varint, read, read_varint
+from . import VARINT_LENGTH_MAX, Multihash, MultihashError, Status, encode_varint, read, read_varint
 from ._types import Buffer
 
 __all__ = ["CID", "CIDError", "CODECS", "LENGTH_MAX", "TEXT_MAX"]
@@ -118,35 +118,36 @@ class CID:
         if len(text) > TEXT_MAX:
             raise CIDError("too_long", f"the text has more than {TEXT_MAX} characters")
         data = _DECODERS[base](text[start:])
-        if data.startswith(_SHA256) and not is_version_0:
-            raise CIDError("wrong_prefix", "a CID of version 0 has the text Qm.., without a prefix")
-        if is_version_0 and not data.startswith(_SHA256):
-            raise CIDError("wrong_prefix", "a text that starts with Qm must be of a CID of version 0")
+        if data.startswith(_SHA256) != is_version_0:
+            raise CIDError("wrong_prefix", "a CID of version 0 has the text Qm.., and no other has")
         return cls.decode(data)
 
     @classmethod
     def decode(cls, data: Buffer) -> Self:
         """Decodes `data`, which must be exactly one CID."""
-        return cls._decode(_copy_of(data), lambda rest: (decode(rest), len(rest)))[0]
+        cid, length = cls.read(data)
+        more = memoryview(data).nbytes - length
+        if more == 0:
+            return cid
+        text = f"{more} {'byte follows' if more == 1 else 'bytes follow'} the multihash"
+        error = MultihashError(Status.INVALID_SIZE, more, consumed=length + more, text=text)
+        raise CIDError("invalid_size", f"multihash: {text}") from error
 
     @classmethod
     def read(cls, data: Buffer) -> tuple[Self, int]:
         """Decodes the CID at the start of `data`. Returns it and the length of its encoding."""
-        return cls._decode(_copy_of(data, LENGTH_MAX), read)
-
-    @classmethod
-    def _decode(cls, data: memoryview, decoder: Callable[[memoryview], tuple[Multihash, int]]) -> tuple[Self, int]:
+        first = _first_bytes(data)
         version, codec, start, part = 0, CODECS["dag-pb"], 0, "version"
         try:
-            if data[:2] != _SHA256:
-                version, start = read_varint(data)
+            if not first.startswith(_SHA256):
+                version, start = read_varint(first)
                 if version != 1:
                     raise CIDError("unknown_version", f"the version must be 1, not {version}")
                 part = "codec"
-                codec, length = read_varint(data[start:])
+                codec, length = read_varint(first[start:])
                 start += length
             part = "multihash"
-            multihash, length = decoder(data[start:])
+            multihash, length = read(first[start:])
         except MultihashError as error:
             raise CIDError(error.status.name.lower(), f"{part}: {error}") from error
         return cls(version, codec, multihash), start + length
@@ -175,15 +176,14 @@ class CID:
         return f"{type(self).__qualname__}.parse({str(self)!r})"
 
 
-def _copy_of(data: Buffer, most: int | None = None) -> memoryview:
-    """Returns a copy of a buffer, or of its first bytes, so that an error does not keep the buffer from being resized."""
+def _first_bytes(data: Buffer) -> bytes:
+    """Returns a copy, so that an error does not keep the buffer from being resized."""
     try:
         view = memoryview(data)
     except TypeError:
         hint = " (CID.parse takes text)" if isinstance(data, str) else ""
         raise TypeError(f"data must be a bytes-like object{hint}, not {type(data).__name__}") from None
-    is_flat = view.ndim == 1 and view.itemsize == 1
-    return memoryview(view[:most].tobytes() if is_flat else view.tobytes()[:most])
+    return (view[:LENGTH_MAX] if view.ndim else view).tobytes()[:LENGTH_MAX]
 
 
 def _to_base32(data: bytes) -> str:
