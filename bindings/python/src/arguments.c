@@ -20,11 +20,14 @@ static void rename_error(const char *name, const char *expected, PyObject *argum
     };
     if (!PyErr_ExceptionMatches(PyExc_TypeError)) return;
     PyErr_Clear();
-    for (size_t at = 0; PyUnicode_Check(argument) && at < sizeof hints / sizeof *hints; at++) {
-        if (strcmp(name, hints[at][0]) == 0) expected = hints[at][1];
+    if (PyUnicode_Check(argument)) {
+        for (size_t at = 0; at < sizeof hints / sizeof *hints; at++) {
+            if (strcmp(name, hints[at][0]) == 0) expected = hints[at][1];
+        }
+    } else if (strcmp(name, RESULT_OF_READ) == 0 && PyObject_HasAttrString(argument, "__await__")) {
+        expected = "bytes (an AsyncMultihashReader awaits read)";
     }
-    int is_awaitable = strcmp(name, RESULT_OF_READ) == 0 && PyObject_HasAttrString(argument, "__await__");
-    wrong_type(name, is_awaitable ? "bytes (an AsyncMultihashReader awaits read)" : expected, argument);
+    wrong_type(name, expected, argument);
 }
 
 int get_buffer(PyObject *argument, const char *name, int flags, Py_buffer *view)

@@ -5,7 +5,11 @@
 
 PyTypeObject *type_in_c(PyTypeObject *type)
 {
-    for (PyTypeObject *base; (base = PyType_GetSlot(type, Py_tp_base)) != &PyBaseObject_Type; type = base) continue;
+    PyTypeObject *base = PyType_GetSlot(type, Py_tp_base);
+    while (base != &PyBaseObject_Type) {
+        type = base;
+        base = PyType_GetSlot(type, Py_tp_base);
+    }
     return type;
 }
 
@@ -70,29 +74,15 @@ static PyObject *set_error(PyObject *module, PyObject *class)
 
 /* ---- decoding */
 
-static const size_t longest = MULTIHASH_DIGEST_MAX;
-
-PyObject *decoded(const state *own, const input *from, multihash_decoded found, const size_t *limit)
+PyObject *decoded(const state *own, const input *from, multihash_decoded found, size_t limit)
 {
+    char text[MULTIHASH_MESSAGE_SIZE];
     if (found.status == MULTIHASH_OK) {
         const char *digest = (const char *)from->bytes + found.digest_offset;
         return new_multihash(own->type, found.code, PyBytes_FromStringAndSize(digest, (Py_ssize_t)found.digest_length));
     }
-    char text[MULTIHASH_MESSAGE_SIZE];
-    if (limit == NULL) { /* the message depends on no more than was copied */
-        multihash_scale_message(text, sizeof text, from->bytes, from->length);
-    } else {
-        multihash_message(text, sizeof text, from->bytes, from->whole, *limit);
-    }
+    multihash_message(text, sizeof text, from->bytes, from->whole, limit);
     return raise_error(own, found.status, found.size, found.code, found.consumed, text);
-}
-
-/* The same for an input, which it steals, with the number of bytes consumed. */
-static PyObject *decoded_front(PyObject *module, input *from, multihash_decoded found, const size_t *limit)
-{
-    PyObject *multihash = decoded(PyModule_GetState(module), from, found, limit);
-    Py_DECREF(from->owner);
-    return multihash == NULL ? NULL : Py_BuildValue("Nn", multihash, (Py_ssize_t)found.consumed);
 }
 
 PyObject *decoded_whole(const state *own, PyObject *data)
@@ -100,9 +90,15 @@ PyObject *decoded_whole(const state *own, PyObject *data)
     input from;
     if (get_input(data, "data", MULTIHASH_LENGTH_MAX, &from) < 0) return NULL;
     multihash_decoded found = multihash_from_prefix(from.bytes, from.length, from.whole);
-    PyObject *multihash = decoded(own, &from, found, &longest);
+    PyObject *multihash = decoded(own, &from, found, MULTIHASH_DIGEST_MAX);
     Py_DECREF(from.owner);
     return multihash;
+}
+
+/* A multihash and the number of bytes consumed. Steals the reference to the multihash, which is null after an error. */
+static PyObject *with_length(PyObject *multihash, size_t consumed)
+{
+    return multihash == NULL ? NULL : Py_BuildValue("Nn", multihash, (Py_ssize_t)consumed);
 }
 
 /* The first bytes of `data`, the only argument of a function. */
@@ -127,19 +123,33 @@ static PyObject *read_front(PyObject *module, PyObject *const *given, Py_ssize_t
 {
     static char *names[] = {"data", "limit", NULL};
     PyObject *data, *most = NULL;
-    size_t limit = longest;
+    size_t limit = MULTIHASH_DIGEST_MAX;
     input from;
     if (get_arguments(given, count, named, "O|O:read", names, &data, &most) < 0) return NULL;
     if (most != NULL && get_size(most, "limit", &limit) < 0) return NULL;
     if (get_input(data, "data", MULTIHASH_LENGTH_MAX, &from) < 0) return NULL;
-    return decoded_front(module, &from, multihash_read_limit(from.bytes, from.length, limit), &limit);
+    multihash_decoded found = multihash_read_limit(from.bytes, from.length, limit);
+    PyObject *multihash = decoded(PyModule_GetState(module), &from, found, limit);
+    Py_DECREF(from.owner);
+    return with_length(multihash, found.consumed);
 }
 
 static PyObject *scale_decode(PyObject *module, PyObject *const *given, Py_ssize_t count, PyObject *named)
 {
+    const state *own = PyModule_GetState(module);
     input from;
+    PyObject *multihash;
     if (get_data(given, count, named, "O:scale_decode", MULTIHASH_SCALE_LENGTH_MAX, &from) < 0) return NULL;
-    return decoded_front(module, &from, multihash_scale_decode(from.bytes, from.length), NULL);
+    multihash_decoded found = multihash_scale_decode(from.bytes, from.length);
+    if (found.status == MULTIHASH_OK) {
+        multihash = decoded(own, &from, found, MULTIHASH_DIGEST_MAX);
+    } else {
+        char text[MULTIHASH_MESSAGE_SIZE]; /* it depends on no more than was copied */
+        multihash_scale_message(text, sizeof text, from.bytes, from.length);
+        multihash = raise_error(own, found.status, found.size, found.code, found.consumed, text);
+    }
+    Py_DECREF(from.owner);
+    return with_length(multihash, found.consumed);
 }
 
 static PyObject *head(PyObject *module, PyObject *data)
@@ -152,7 +162,8 @@ static PyObject *head(PyObject *module, PyObject *data)
         unsigned long long code = found.code, length = found.digest_length;
         result = Py_BuildValue("KKn", code, length, (Py_ssize_t)found.consumed);
     } else {
-        result = decoded(PyModule_GetState(module), &from, multihash_read(from.bytes, from.length), &longest);
+        result = decoded(PyModule_GetState(module), &from, multihash_read(from.bytes, from.length),
+                         MULTIHASH_DIGEST_MAX);
     }
     Py_DECREF(from.owner);
     return result;

@@ -70,8 +70,8 @@ PyObject *encoding_error(const state *own, multihash_status status, PyObject *le
 /* Writes why an input of that length does not start with a varint. */
 void write_varint_message(char *text, size_t text_size, multihash_status status, size_t length);
 
-/* The multihash that a decoding found in an input, or its error. The limit of a digest is null for SCALE. */
-PyObject *decoded(const state *own, const input *from, multihash_decoded found, const size_t *limit);
+/* The multihash that a decoding found in an input, or its error. `limit` is that of a digest's length. */
+PyObject *decoded(const state *own, const input *from, multihash_decoded found, size_t limit);
 
 /* The multihash whose encoding is the whole of a buffer. */
 PyObject *decoded_whole(const state *own, PyObject *data);

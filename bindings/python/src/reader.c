@@ -185,7 +185,7 @@ static int read_chunk(reader_object *reader)
 static PyObject *multihash_error(const reader_object *reader)
 {
     input from = {NULL, reader->bytes, reader->length, reader->length + reader->kept};
-    return decoded(reader->own, &from, multihash_read_limit(from.bytes, from.length, reader->limit), &reader->limit);
+    return decoded(reader->own, &from, multihash_read_limit(from.bytes, from.length, reader->limit), reader->limit);
 }
 
 static PyObject *frame_error(const reader_object *reader)
@@ -234,10 +234,13 @@ static PyObject *take(reader_object *reader)
 static PyObject *reader_next(PyObject *self, PyObject *unused)
 {
     reader_object *reader = (reader_object *)self;
-    int begun, kept = 1;
+    int status = begin(reader);
     (void)unused;
-    while ((begun = begin(reader)) > 0 && (kept = read_chunk(reader)) > 0) continue;
-    return begun < 0 || kept < 0 ? NULL : take(reader);
+    while (status > 0) {
+        status = read_chunk(reader);
+        if (status > 0) status = begin(reader);
+    }
+    return status < 0 ? NULL : take(reader);
 }
 
 /* The steps of `reader_next`, for a call of the file that is awaited: to begin one, to end it and begin the next one,
@@ -252,7 +255,8 @@ static PyObject *reader_begin(PyObject *self, PyObject *unused)
 static PyObject *reader_end(PyObject *self, PyObject *chunk)
 {
     int kept = end((reader_object *)self, chunk);
-    return kept > 0 ? reader_begin(self, NULL) : kept < 0 ? NULL : PyLong_FromLong(0);
+    if (kept < 0) return NULL;
+    return kept > 0 ? reader_begin(self, NULL) : PyLong_FromLong(0);
 }
 
 static PyObject *reader_fail(PyObject *self, PyObject *error)
