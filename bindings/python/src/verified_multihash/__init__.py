@@ -78,8 +78,9 @@ def read_many(data: Buffer) -> Columns:
             read(rest)
         except MultihashError as found:
             error = found.with_traceback(None)
-    bytes_of_items = memoryview(items).toreadonly()
-    size = struct.calcsize("N")  # an item of the C library is a code, in eight bytes, and two numbers of this size
-    codes, numbers = bytes_of_items.cast("q"), bytes_of_items.cast("q" if size == 8 else "i")
-    first, step = 8 // size, 8 // size + 2
-    return Columns(codes[:: step // first], numbers[first::step], numbers[first + 1 :: step], consumed, error)
+    view = memoryview(items).toreadonly()
+    size = struct.calcsize("N")
+    in_code = 8 // size  # an item of the C library is a code in eight bytes, and an offset and a length of this size
+    step = in_code + 2
+    codes, numbers = view.cast("q"), view.cast("q" if size == 8 else "i")
+    return Columns(codes[:: step // in_code], numbers[in_code::step], numbers[in_code + 1 :: step], consumed, error)
