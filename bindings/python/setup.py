@@ -4,12 +4,12 @@ An sdist has all that it needs. The folder of the repository is built in a copy,
 so nothing is written into a clone. An editable installation is built in the folder itself.
 """
 
-import os
-import re
+import contextlib
 import shutil
 import sys
-import sysconfig
 import tempfile
+import tomllib
+from pathlib import Path
 
 from setuptools import Extension, setup
 
@@ -26,39 +26,40 @@ COPIES = {
     "tests/values.tsv": "crates/vectors/data/values.tsv",
     "tests/verdicts.tsv": "crates/vectors/data/verdicts.tsv",
 }
-here = os.getcwd()
-copy = tempfile.TemporaryDirectory()
-if not os.path.exists("PKG-INFO"):
-    if "editable_wheel" not in sys.argv:
-        ignored = shutil.ignore_patterns("*.egg-info", "*.so", "build")
-        shutil.copytree(here, copy.name, ignore=ignored, dirs_exist_ok=True)
-        os.chdir(copy.name)
-    os.makedirs("multihash_c", exist_ok=True)
+HERE = Path.cwd()
+
+
+def add_copies(folder: Path) -> None:
+    (folder / "multihash_c").mkdir(exist_ok=True)
     for name, path in COPIES.items():
-        shutil.copyfile(os.path.join(here, "../..", path), name)
+        shutil.copyfile(HERE / "../.." / path, folder / name)
 
-with open("pyproject.toml") as file:
-    [minor] = map(int, re.findall(r'requires-python = ">=3\.(\d+)"', file.read()))
-system = sysconfig.get_platform().partition("-")[0]
-is_stable = sys.implementation.name == "cpython"  # others have no stable ABI
 
-core = Extension(
-    "verified_multihash._core",
-    ["src/arguments.c", "src/core.c", "src/reader.c", "src/value.c", "multihash_c/multihash.c"],
-    include_dirs=["multihash_c"],
-    define_macros=[("Py_LIMITED_API", f"0x03{minor:02x}0000")] if is_stable else [],
-    extra_compile_args=["/std:c11"] if system.startswith("win") else ["-std=c11", "-fvisibility=hidden"],
-    extra_link_args=["-Wl,-z,now"] if system == "linux" else [],
-    py_limited_api=is_stable,
-)
-# The files of an earlier build may be as new as those here, or newer.
-setup(
-    license="MIT",
-    ext_modules=[core],
-    options={
-        "bdist_wheel": {"py_limited_api": f"cp3{minor}"} if is_stable else {},
-        "build_ext": {"force": True},
-        "build_py": {"force": True},
-    },
-)
-os.chdir(here)
+def build() -> None:
+    oldest = tomllib.loads(Path("pyproject.toml").read_text("utf-8"))["project"]["requires-python"]
+    minor = int(oldest.removeprefix(">=3."))
+    core = Extension(
+        "verified_multihash._core",
+        ["src/arguments.c", "src/core.c", "src/reader.c", "src/value.c", "multihash_c/multihash.c"],
+        include_dirs=["multihash_c"],
+        define_macros=[("Py_LIMITED_API", f"0x03{minor:02x}0000")],
+        extra_compile_args=["/std:c11"] if sys.platform == "win32" else ["-std=c11", "-fvisibility=hidden"],
+        extra_link_args=["-Wl,-z,now"] if sys.platform == "linux" else [],
+        py_limited_api=True,
+    )
+    # The files of an earlier build may be as new as those here, or newer.
+    force = {"force": True}
+    options = {"bdist_wheel": {"py_limited_api": f"cp3{minor}"}, "build_ext": force, "build_py": force}
+    setup(license="MIT", ext_modules=[core], options=options)
+
+
+if Path("PKG-INFO").exists():
+    build()
+elif "editable_wheel" in sys.argv:
+    add_copies(HERE)
+    build()
+else:
+    with tempfile.TemporaryDirectory() as copy, contextlib.chdir(copy):
+        shutil.copytree(HERE, copy, ignore=shutil.ignore_patterns("*.egg-info", "*.so", "build"), dirs_exist_ok=True)
+        add_copies(Path(copy))
+        build()
