@@ -7,6 +7,7 @@ the code, the digest's length and the digest. If that fails it prints the reason
 this package, with status 1. With -h or --help it prints this.
 """
 
+import contextlib
 import os
 import re
 import sys
@@ -35,33 +36,30 @@ def _shown(text: bytes) -> bytes:
     return f"code {multihash.code}\nsize {len(multihash.digest)}\ndigest {digest}\n".encode()
 
 
-def _write(to: int, text: bytes) -> None:
-    with open(to, "wb", closefd=False) as file:
-        file.write(text)
+def _fail(reason: str) -> int:
+    with contextlib.suppress(OSError):  # there is nowhere else to report it
+        os.write(2, f"python -m verified_multihash: {reason}\n".encode())
+    return 1
 
 
 def main() -> int:
     """Reads and prints. Returns the status."""
-    reason = "input not read"
+    if sys.argv[2:]:
+        return _fail("more than one argument; usage: python -m verified_multihash [HEX]")
     try:
-        if sys.argv[1:2] in (["-h"], ["--help"]):
+        if sys.argv[1:] in (["-h"], ["--help"]):
             lines = (__doc__ or "").encode()  # None by -OO
-        elif sys.argv[2:]:
-            raise ValueError("more than one argument; usage: python -m verified_multihash [HEX]")
         else:
             lines = _shown(os.fsencode(sys.argv[1]) if sys.argv[1:] else _input())
-        reason = "output not written"
-        _write(1, lines)
-        return 0
     except OSError:
-        pass
+        return _fail("input not read")
     except ValueError as error:
-        reason = str(error)
+        return _fail(str(error))
     try:
-        _write(2, f"python -m verified_multihash: {reason}\n".encode())
+        os.write(1, lines)
     except OSError:
-        pass  # there is nowhere to report it
-    return 1
+        return _fail("output not written")
+    return 0
 
 
 if __name__ == "__main__":
