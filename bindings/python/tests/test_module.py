@@ -1,6 +1,7 @@
 """What the package exports, its texts and types, and that interpreters and abstract classes can use it."""
 
 import abc
+import ast
 import collections.abc
 import ctypes
 import doctest
@@ -78,6 +79,14 @@ class Module(unittest.TestCase):
         self.assertEqual({each.__module__ for each in classes}, {vm.__name__})
         called = [it for module in (vm, hashes) for it in map(vars(module).get, module.__all__) if callable(it)]
         self.assertEqual([it for it in called if not it.__doc__], [])
+
+    def test_stub(self):
+        """Editors show the texts of the stub, and help those of the module."""
+        owners = vm._core, Multihash, vm._core.Reader, vm._core.FileReader
+        texts = {inspect.getdoc(each) for owner in owners for each in vars(owner).values()}
+        stub = ast.walk(ast.parse(Path(vm._core.__file__).with_name("_core.pyi").read_text("utf-8")))
+        shown = {ast.get_docstring(node) for node in stub if isinstance(node, (ast.ClassDef, ast.FunctionDef))}
+        self.assertLessEqual(shown, texts)
 
     def test_parameters(self):
         """Each has the name that it shows. CPython's parser rejects too few, too many, and others."""
