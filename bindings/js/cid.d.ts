@@ -49,7 +49,7 @@ export class CIDError extends Error {
 
 /**
  * A content identifier. The bytes of version 1 are the varints of 1 and of the codec, and the multihash; those of version
- * 0 are the multihash alone, of SHA2-256 with 32 bytes. Do not write to the properties, or to the bytes of `bytes`.
+ * 0 are the multihash alone, of SHA2-256 with 32 bytes. Do not write to the properties.
  */
 export class CID {
   private constructor();
@@ -71,7 +71,7 @@ export class CID {
   /** Below 2^63. A `number` up to `Number.MAX_SAFE_INTEGER`, and a `bigint` above. */
   readonly codec: Wide;
   readonly multihash: Multihash;
-  /** The encoding. It is made at first use, and then the same array each time. */
+  /** The encoding: a new array each time. */
   readonly bytes: Uint8Array;
   /**
    * Returns the text in the base of a prefix, by default `b`, which is base32; `f` is base16 and `z` base58btc. Version 0

@@ -53,14 +53,8 @@ function headOf(bytes, length) {
   return { version: 1, codec: codec.value, start: version.consumed + codec.consumed };
 }
 
-/** The encoding of a version, a codec and a multihash. */
-const encode = ({ version, codec, multihash }) =>
-  version === 0 ? multihash.bytes : Uint8Array.of(1, ...encodeVarint(codec), ...multihash.bytes);
-
 /** A version, a codec and a multihash. */
 export class CID {
-  #bytes; // the encoding, once it was asked for
-
   constructor(making, version, codec, multihash) {
     if (making !== MAKING) throw new TypeError('CID.of(version, codec, multihash) makes a CID');
     this.version = version;
@@ -114,11 +108,10 @@ export class CID {
     return CID.decode(bytes);
   }
 
-  /** The encoding, which is made once, and again if its memory was moved elsewhere. */
+  /** The encoding, which is made each time. */
   get bytes() {
-    if (!(#bytes in this)) return encode(this); // a Proxy has no private fields
-    if (!this.#bytes?.length) this.#bytes = encode(this);
-    return this.#bytes;
+    const { bytes } = this.multihash;
+    return this.version === 0 ? bytes : Uint8Array.of(1, ...encodeVarint(this.codec), ...bytes);
   }
 
   /** Returns the text in the base that has this prefix. */

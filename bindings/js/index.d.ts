@@ -71,7 +71,7 @@ export interface MultihashDigest {
 
 /**
  * A code, which names a hash function, and a digest. A `Multihash<number>` has the properties of `MultihashDigest`
- * in js-multiformats. Do not write to `code`, or to the bytes of `digest` and `bytes`: they would no longer agree.
+ * in js-multiformats. Do not write to `code`, or to the bytes of `digest`.
  */
 export class Multihash<Code extends Wide = Wide> implements MultihashDigest {
   private constructor();
@@ -92,7 +92,7 @@ export class Multihash<Code extends Wide = Wide> implements MultihashDigest {
   readonly digest: Uint8Array;
   /** The digest in hexadecimal. */
   readonly digestHex: string;
-  /** The encoding. It is made at first use, and then the same array each time. */
+  /** The encoding: a new array each time. */
   readonly bytes: Uint8Array;
   /** Returns the encoding in hexadecimal: a key for a `Map`, a log or a URL. */
   toString(): string;

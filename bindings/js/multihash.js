@@ -13,8 +13,6 @@ export const MAKING = Symbol('making');
  * A code, which names a hash function, and a digest. The fields are not frozen: that would double the time of `decode`.
  */
 export class Multihash {
-  #bytes; // the encoding, once it was asked for
-
   constructor(making, code, digest) {
     if (making !== MAKING) throw new TypeError('Multihash.of(code, digest) makes a multihash');
     this.code = code;
@@ -49,11 +47,9 @@ export class Multihash {
     return Multihash.of(isText ? BigInt(code) : code, bytes);
   }
 
-  /** The encoding. It is made at first use, and again if the array was detached since. */
+  /** The encoding, which is made each time. */
   get bytes() {
-    if (!(#bytes in this)) return encode(this.code, this.digest); // a Proxy has no private fields
-    if (!this.#bytes?.length) this.#bytes = encode(this.code, this.digest);
-    return this.#bytes;
+    return encode(this.code, this.digest);
   }
 
   /** The digest in hexadecimal. */

@@ -11,8 +11,8 @@ const LONG = 2n ** 53n; // the least code that is a bigint
 test('fields', () => {
   const multihash = decode(EXAMPLE);
   assert.deepEqual({ ...multihash }, { code: 22, size: 32, digest: EXAMPLE.slice(2) });
+  detach(multihash.bytes); // each time there is another array
   assert.deepEqual(multihash.bytes, EXAMPLE);
-  assert.equal(multihash.bytes, multihash.bytes); // it is kept
   assert.equal(multihash.digestHex, hex(EXAMPLE.subarray(2)));
   assert.equal(`${multihash}`, hex(EXAMPLE));
   assert.equal(Multihash.of(18, new Uint8Array()).digestHex, '');
@@ -99,12 +99,6 @@ test('what has the same code and the same digest is equal', () => {
   for (const other of [Multihash.of(LONG, last), { code: LONG, digest: last }, { code: LONG + 1n, digest: zeros }])
     assert.ok(!long.equals(other));
   assert.equal(compare(long, Multihash.of(LONG, last)), -1);
-});
-
-test('bytes whose memory was moved are made again', () => {
-  const multihash = decode(EXAMPLE);
-  detach(multihash.bytes);
-  assert.equal(`${multihash}`, hex(EXAMPLE));
 });
 
 test('a digest without its memory', () => {
