@@ -30,7 +30,7 @@ export class CIDError extends Error {
     return { name: this.name, message: this.message, status: this.status };
   }
 }
-Object.defineProperty(CIDError.prototype, 'name', { value: 'CIDError', writable: true, configurable: true });
+CIDError.prototype.name = 'CIDError';
 
 /** Returns what `call` returns, which decodes or encodes a part of a CID. Throws a CIDError for its MultihashError. */
 function ofPart(part, call) {

@@ -34,8 +34,7 @@ export class MultihashError extends Error {
     return texts.INCOMPLETE.includes(this.status);
   }
 }
-Object.defineProperty(MultihashError.prototype, 'name',
-  { value: 'MultihashError', writable: true, configurable: true });
+MultihashError.prototype.name = 'MultihashError'; // a static block would need Safari 16.4
 
 /** The message for a varint that is too long or not minimal; `varint` names it. */
 const malformed = (varint, status) => (status === 'overflow' ? texts.overflow(varint) : texts.notMinimal(varint));

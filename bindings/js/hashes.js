@@ -23,8 +23,7 @@ export class UnsupportedHashError extends RangeError {
     this.code = code;
   }
 }
-Object.defineProperty(UnsupportedHashError.prototype, 'name',
-  { value: 'UnsupportedHashError', writable: true, configurable: true });
+UnsupportedHashError.prototype.name = 'UnsupportedHashError';
 
 /** Hashes pieces with WebCrypto, which takes all of them in one call, and rejects shared and resizable memory. */
 function byWeb(algorithm) {
