@@ -27,16 +27,16 @@ export function unhex(text, name = 'text') {
 }
 
 const BASE16 = Uint8Array.from('0123456789abcdef', (digit) => digit.charCodeAt(0));
-const digits = new Uint8Array(2 * (1 + VARINT_LENGTH_MAX + LENGTH_MAX)); // as many as a CID can have
+const hexBuffer = new Uint8Array(2 * (1 + VARINT_LENGTH_MAX + LENGTH_MAX)); // as many as a CID can have
 const decoder = new TextDecoder();
 
 /** The bytes of a multihash or a CID in hexadecimal. To append each digit to a text would take several times as long. */
 export function hex(bytes) {
   for (let index = 0; index < bytes.length; index++) {
-    digits[2 * index] = BASE16[bytes[index] >> 4];
-    digits[2 * index + 1] = BASE16[bytes[index] & 15];
+    hexBuffer[2 * index] = BASE16[bytes[index] >> 4];
+    hexBuffer[2 * index + 1] = BASE16[bytes[index] & 15];
   }
-  return decoder.decode(digits.subarray(0, 2 * bytes.length));
+  return decoder.decode(hexBuffer.subarray(0, 2 * bytes.length));
 }
 
 // ---- base32 and base58btc

@@ -99,7 +99,7 @@ async function reading(content, call) {
 }
 
 /** Returns the digest of the content: of bytes, or of the chunks of the source that `open` returns. */
-async function digestOf(create, content, open) {
+async function hashOf(create, content, open) {
   const hash = create();
   if (isBytes(content)) {
     const length = checkedLength(content, 'content');
@@ -127,9 +127,9 @@ function byOwn(create, name) {
     update: (piece) => hash.update(piece),
     async digest() {
       // objects of hash-wasm, which have `init`, return a text without 'binary', and those of node:crypto with it
-      const digest = await (hash.init ? hash.digest('binary') : hash.digest());
-      if (!isBytes(digest)) throw new TypeError(`${name} must make a digest that is a Uint8Array, got ${received(digest)}`);
-      return digest;
+      const made = await (hash.init ? hash.digest('binary') : hash.digest());
+      if (!isBytes(made)) throw new TypeError(`${name} must make a digest that is a Uint8Array, got ${received(made)}`);
+      return made;
     },
   };
 }
@@ -173,7 +173,7 @@ function multihashOf(code, whole, truncate) {
 export const digest = (content, hash, options = {}) => reading(content, async (open) => {
   const { truncate, functions } = checkedOptions(options, ['truncate', 'functions']);
   const code = codeOf(hash);
-  return multihashOf(code, await digestOf(creatorOf(code, functions), content, open), truncate);
+  return multihashOf(code, await hashOf(creatorOf(code, functions), content, open), truncate);
 });
 
 /** Makes the multihash of bytes that are passed in parts. */
@@ -221,11 +221,11 @@ function claimOf(multihash) {
 export const verify = (multihash, content, options = {}) => reading(content, async (open) => {
   const { functions } = checkedOptions(options, ['functions']);
   if (!isBytes(content)) open(); // before the multihash is checked, so that the error of swapped arguments names the content
-  const { code, digest } = claimOf(multihash);
-  const wanted = await digestOf(creatorOf(code, functions), content, open);
-  if (digest.length === 0) checkedLength(digest, 'the digest');
-  if (digest.length !== wanted.length) return false;
+  const claim = claimOf(multihash);
+  const made = await hashOf(creatorOf(claim.code, functions), content, open);
+  if (claim.digest.length === 0) checkedLength(claim.digest, 'the digest');
+  if (claim.digest.length !== made.length) return false;
   let difference = 0; // of all bytes, so that the time does not depend on them
-  for (let index = 0; index < wanted.length; index++) difference |= wanted[index] ^ digest[index];
+  for (let index = 0; index < made.length; index++) difference |= made[index] ^ claim.digest[index];
   return difference === 0;
 });

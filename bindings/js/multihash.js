@@ -54,7 +54,7 @@ export class Multihash {
 
   /** The digest in hexadecimal. */
   get digestHex() {
-    return hex(digestOf(this, 'this multihash'));
+    return hex(checkedDigest(this, 'this multihash'));
   }
 
   /** The encoding in hexadecimal. */
@@ -75,7 +75,7 @@ export class Multihash {
 
   /** Returns whether another value, such as a digest of js-multiformats, has the same code and digest. */
   equals(other) {
-    const digest = digestOf(this, 'this multihash');
+    const digest = checkedDigest(this, 'this multihash');
     if (!isBytes(other?.digest) || (typeof other.code !== 'number' && typeof other.code !== 'bigint')) return false;
     const length = checkedLength(other.digest, 'the other digest');
     // a number and a bigint of the same value are the same code
@@ -90,14 +90,14 @@ export class Multihash {
 }
 
 /** Makes the multihash that format.js found in the bytes. Its digest is a copy. */
-export const multihashOf = (bytes, { code, size, next }) => new Multihash(MAKING, code, copyOf(bytes, next - size, next));
+export const foundMultihash = (bytes, { code, size, next }) => new Multihash(MAKING, code, copyOf(bytes, next - size, next));
 
 /** Decodes the multihash whose encoding is the whole of the bytes. */
 export function decode(bytes) {
   const length = checkedLength(bytes, 'bytes');
   const found = decodeMultihash(bytes, length);
   if (found.status !== 'ok') throw errorOf(found, bytes, 0, length, DIGEST_MAX);
-  return multihashOf(bytes, found);
+  return foundMultihash(bytes, found);
 }
 
 /** Returns the maximum length of a digest for the argument `limit`, which may be larger. */
@@ -109,7 +109,7 @@ export function read(bytes, limit) {
   const length = checkedLength(bytes, 'bytes');
   const found = readMultihash(bytes, 0, length, most);
   if (found.status !== 'ok') throw errorOf(found, bytes, 0, length, most);
-  return { multihash: multihashOf(bytes, found), consumed: found.next };
+  return { multihash: foundMultihash(bytes, found), consumed: found.next };
 }
 
 /** Decodes the multihash whose SCALE encoding is a prefix of the bytes. */
@@ -117,12 +117,12 @@ export function scaleDecode(bytes) {
   const length = checkedLength(bytes, 'bytes');
   const found = readScale(bytes, length);
   const { status, code, next } = found;
-  if (status === 'ok') return { multihash: multihashOf(bytes, found), consumed: next };
+  if (status === 'ok') return { multihash: foundMultihash(bytes, found), consumed: next };
   throw new MultihashError(scaleReasonOf(found, bytes, length), { status, code: code || undefined, consumed: next });
 }
 
 /** Returns the digest of a Multihash. Throws a TypeError if its length has changed. */
-function digestOf({ digest, size }, name) {
+function checkedDigest({ digest, size }, name) {
   if (digest.length !== size) throw new TypeError(`the digest of ${name} is detached or was replaced`);
   return digest;
 }
@@ -131,6 +131,6 @@ function digestOf({ digest, size }, name) {
 export function compare(left, right) {
   if (!(left instanceof Multihash)) throw wrongType('left', 'a Multihash', left);
   if (!(right instanceof Multihash)) throw wrongType('right', 'a Multihash', right);
-  const [one, other] = [digestOf(left, 'left'), digestOf(right, 'right')];
+  const [one, other] = [checkedDigest(left, 'left'), checkedDigest(right, 'right')];
   return compareMultihashes(left.code, one, left.size, right.code, other, right.size);
 }

@@ -3,7 +3,7 @@ import { checkedLength, checkedOptions, checkedWide, copyOf } from './arguments.
 import { MultihashError, errorOf, frameReasonOf } from './errors.js';
 import { readMultihash, varintAt } from './format.js';
 import { DIGEST_MAX } from './limits.js';
-import { checkedLimit, multihashOf } from './multihash.js';
+import { checkedLimit, foundMultihash } from './multihash.js';
 import { sourceOf } from './sources.js';
 import { INCOMPLETE } from './statuses.js';
 
@@ -188,7 +188,7 @@ export class MultihashReader extends ItemReader {
     const most = checkedLimit(limit);
     super(source, rest, (bytes, at, end) => readMultihash(bytes, at, end, most), (found, bytes, at, end) => {
       if (found.status !== 'ok') throw errorOf(found, bytes, at, end, most);
-      return multihashOf(bytes, found);
+      return foundMultihash(bytes, found);
     });
   }
 }
