@@ -42,48 +42,51 @@ export function hex(bytes) {
 // ---- base32 and base58btc
 
 const BASE32 = 'abcdefghijklmnopqrstuvwxyz234567';
+const BASE58 = '123456789ABCDEFGHJKLMNPQRSTUVWXYZabcdefghijkmnopqrstuvwxyz';
 
-function toBase32(bytes) {
-  let text = '', kept = 0, count = 0;
-  for (const byte of bytes) {
-    kept = (kept << 8) | byte;
-    for (count += 8; count >= 5; kept &= (1 << count) - 1) text += BASE32[kept >> (count -= 5)];
+const textOf = (values, digits) => values.map((value) => digits[value]).join('');
+const valuesOf = (text, digits) => Array.from(text, (digit) => digits.indexOf(digit));
+
+/** Regroups the bits of values, with zeros after the last bit. */
+function regrouped(values, fromBits, toBits) {
+  const made = [];
+  let kept = 0; // the bits of no value yet
+  let count = 0; // their number
+  for (const value of values) {
+    kept = (kept << fromBits) | value;
+    count += fromBits;
+    while (count >= toBits) {
+      count -= toBits;
+      made.push(kept >> count);
+      kept &= (1 << count) - 1;
+    }
   }
-  return count === 0 ? text : text + BASE32[kept << (5 - count)];
+  if (count > 0) made.push(kept << (toBits - count));
+  return made;
 }
 
 function fromBase32(text) {
-  const bytes = new Uint8Array((text.length * 5) >> 3);
-  let length = 0, kept = 0, count = 0;
-  for (const digit of text) {
-    kept = (kept << 5) | BASE32.indexOf(digit);
-    count += 5;
-    if (count < 8) continue;
-    bytes[length++] = kept >> (count -= 8);
-    kept &= (1 << count) - 1;
-  }
-  return count < 5 && kept === 0 ? bytes : undefined;
+  const bytes = regrouped(valuesOf(text, BASE32), 5, 8);
+  const trailing = (text.length * 5) % 8; // the number of bits after the last byte
+  if (trailing > 0 && (bytes.pop() !== 0 || trailing >= 5)) return undefined;
+  return Uint8Array.from(bytes);
 }
 
-const BASE58 = '123456789ABCDEFGHJKLMNPQRSTUVWXYZabcdefghijkmnopqrstuvwxyz';
-
-/** Converts the digits of a number, most significant first, to another base. Each leading zero stays a leading zero. */
-function inBase(digits, from, to) {
+/** Converts a number to another base, from and to values with the most significant first. Leading zeros stay. */
+function inBase(values, from, to) {
   const made = []; // least significant first
-  for (let carry of digits) {
+  for (const value of values) {
+    let carry = value;
     for (let at = 0; at < made.length; at++) {
       carry += made[at] * from;
       made[at] = carry % to;
-      carry = (carry / to) | 0;
+      carry = Math.floor(carry / to);
     }
-    for (; carry > 0; carry = (carry / to) | 0) made.push(carry % to);
+    for (; carry > 0; carry = Math.floor(carry / to)) made.push(carry % to);
   }
-  for (let at = 0; digits[at] === 0; at++) made.push(0);
+  for (let at = 0; values[at] === 0; at++) made.push(0);
   return made.reverse();
 }
-
-const toBase58 = (bytes) => inBase(bytes, 256, 58).map((value) => BASE58[value]).join('');
-const fromBase58 = (text) => new Uint8Array(inBase([...text].map((digit) => BASE58.indexOf(digit)), 58, 256));
 
 /**
  * The bases, by the prefixes of texts. `other` matches a character that is no digit. `encode` returns digits without the
@@ -92,9 +95,22 @@ const fromBase58 = (text) => new Uint8Array(inBase([...text].map((digit) => BASE
  */
 export const BASES = {
   __proto__: null,
-  b: { name: 'base32', other: /[^a-z2-7]/, encode: toBase32, decode: fromBase32 },
-  f: {
-    name: 'base16', other: /[^0-9a-f]/, encode: hex, decode: (text) => (text.length % 2 === 0 ? unhex(text) : undefined),
+  b: {
+    name: 'base32',
+    other: /[^a-z2-7]/,
+    encode: (bytes) => textOf(regrouped(bytes, 8, 5), BASE32),
+    decode: fromBase32,
   },
-  z: { name: 'base58btc', other: /[^1-9A-HJ-NP-Za-km-z]/, encode: toBase58, decode: fromBase58 },
+  f: {
+    name: 'base16',
+    other: /[^0-9a-f]/,
+    encode: hex,
+    decode: (text) => (text.length % 2 === 0 ? unhex(text) : undefined),
+  },
+  z: {
+    name: 'base58btc',
+    other: /[^1-9A-HJ-NP-Za-km-z]/,
+    encode: (bytes) => textOf(inBase(bytes, 256, 58), BASE58),
+    decode: (text) => Uint8Array.from(inBase(valuesOf(text, BASE58), 58, 256)),
+  },
 };

@@ -103,7 +103,8 @@ export function readMany(bytes) {
   let { codes, offsets, lengths } = columnsOf(Math.min(Math.ceil(length / 34), 2 ** 20));
   let halves = new Uint32Array(codes.buffer);
   const low = new Uint8Array(Uint32Array.of(1).buffer)[0] === 1 ? 0 : 1; // the index of the low half of 64 bits
-  let [consumed, count] = [0, 0];
+  let consumed = 0;
+  let count = 0;
   let error;
   while (consumed < length) {
     const found = format.readMultihash(view, consumed, length, DIGEST_MAX);

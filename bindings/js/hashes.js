@@ -57,7 +57,8 @@ function byNothing() {
 
 /** Hashes the pieces, and then their digest. */
 function twice(create) {
-  const [first, second] = [create(), create()];
+  const first = create();
+  const second = create();
   return {
     update: (piece) => first.update(piece),
     async digest() {
@@ -93,7 +94,11 @@ async function reading(content, call) {
     if (content?.readableEnded) throw new TypeError('content is a stream that was read before: open it again');
     return await call(open);
   } catch (error) {
-    await (async () => open().close())().catch(() => {}); // the first error is thrown, not one of cancelling
+    try {
+      await open().close();
+    } catch {
+      // the first error is thrown, not one of cancelling
+    }
     throw error;
   }
 }
@@ -110,9 +115,11 @@ async function hashOf(create, content, open) {
     return hash.digest();
   }
   const source = open();
-  for (let chunk; !(chunk = await source.next()).done; ) {
-    checkedLength(chunk.value, 'a chunk of the stream');
-    hash.update(new Uint8Array(chunk.value)); // a copy, since a source may reuse its memory
+  while (true) {
+    const { done, value } = await source.next();
+    if (done) break;
+    checkedLength(value, 'a chunk of the stream');
+    hash.update(new Uint8Array(value)); // a copy, since a source may reuse its memory
   }
   source.release();
   return hash.digest();
@@ -198,7 +205,12 @@ export class Hasher {
 
   /** Returns the multihash of all bytes. */
   multihash() {
-    return (this.#multihash ??= (async () => multihashOf(this.#code, await this.#hash.digest()))());
+    this.#multihash ??= this.#finish();
+    return this.#multihash;
+  }
+
+  async #finish() {
+    return multihashOf(this.#code, await this.#hash.digest());
   }
 }
 

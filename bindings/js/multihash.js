@@ -131,6 +131,7 @@ function checkedDigest({ digest, size }, name) {
 export function compare(left, right) {
   if (!(left instanceof Multihash)) throw wrongType('left', 'a Multihash', left);
   if (!(right instanceof Multihash)) throw wrongType('right', 'a Multihash', right);
-  const [one, other] = [checkedDigest(left, 'left'), checkedDigest(right, 'right')];
-  return compareMultihashes(left.code, one, left.size, right.code, other, right.size);
+  const leftDigest = checkedDigest(left, 'left');
+  const rightDigest = checkedDigest(right, 'right');
+  return compareMultihashes(left.code, leftDigest, left.size, right.code, rightDigest, right.size);
 }
