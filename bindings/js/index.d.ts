@@ -185,6 +185,8 @@ export interface ItemReader<Item> extends AsyncIterable<Item> {
    * next item starts, or after a `MultihashError` the invalid one.
    */
   readonly consumed: number;
+  /** The number of items returned so far: the number of the next one, or after a `MultihashError` of the invalid one. */
+  readonly count: number;
   /**
    * Returns the next item, or null if the source has ended after the last one. After an error every call rejects with
    * that error. After an error or null the source is released. An error of a Node.js `Readable` before the first call
@@ -231,10 +233,7 @@ export class FrameReader {
    */
   constructor(source: ByteStream | AsyncIterable<Uint8Array>, options?: { limit?: Wide; rest?: Uint8Array });
 }
-export interface FrameReader extends ItemReader<Uint8Array> {
-  /** The number of frames returned so far: the number of the next one, or after a `MultihashError` of the invalid one. */
-  readonly count: number;
-}
+export interface FrameReader extends ItemReader<Uint8Array> {}
 
 declare global {
   interface SymbolConstructor {

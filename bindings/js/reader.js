@@ -1,5 +1,5 @@
 // The classes that read a stream's multihashes or frames, one after the other.
-import { checkedLength, checkedOptions, checkedWide, copyOf } from './arguments.js';
+import { checkedLength, checkedOptions, checkedWide } from './arguments.js';
 import { MultihashError, errorOf, frameReasonOf } from './errors.js';
 import { readMultihash, varintAt } from './format.js';
 import { DIGEST_MAX } from './limits.js';
@@ -7,20 +7,40 @@ import { checkedLimit, foundMultihash } from './multihash.js';
 import { sourceOf } from './sources.js';
 import { INCOMPLETE } from './statuses.js';
 
+/** The bytes that were received, and what the items consumed of them. */
+class Received {
+  bytes = new Uint8Array(); // with capacity for more
+  at = 0; // the index after the last item
+  end = 0; // the index after the bytes received
+  consumed = 0; // the number of bytes of the items
+  count = 0; // the number of items
+
+  /** Appends a copy of bytes. Throws a TypeError if they are no Uint8Array, or detached. */
+  append(bytes, name) {
+    const length = checkedLength(bytes, name);
+    if (this.end + length > this.bytes.length) {
+      const rest = this.bytes.subarray(this.at, this.end);
+      // at least doubled, so that a long item in short chunks takes linear time
+      this.bytes = new Uint8Array(rest.length + Math.max(rest.length, length));
+      this.bytes.set(rest);
+      this.end = rest.length;
+      this.at = 0;
+    }
+    this.bytes.set(bytes, this.end);
+    this.end += length;
+  }
+}
+
 /** Reads items from a `ReadableStream` or an async iterable of `Uint8Array`. */
 class ItemReader {
-  #source;
+  #source; // undefined after `release`
   #find;
   #make;
-  #bytes = new Uint8Array(); // the bytes received, and room for more
-  #at = 0; // the index in #bytes after the last item that was returned
-  #end = 0; // the index in #bytes after the bytes received
-  #consumed = 0; // the number of bytes of the items returned so far
-  #calls = 0; // the number of pending calls
+  #received = new Received();
+  #pending = 0; // the number of calls that wait
   #last = Promise.resolve(); // settles with the last of them
-  #isReleased = false; // whether `release` was called
+  #outcome; // after the end null, or the error that each call throws
   #stop; // ends the wait for a chunk
-  #over; // set when the reader ends: returns null or throws an error, for each call from then on
 
   /**
    * `rest` holds bytes that precede those of the source. `find(bytes, at, end)` returns the status of the item that starts
@@ -29,58 +49,81 @@ class ItemReader {
   constructor(source, rest, find, make) {
     this.#find = find;
     this.#make = make;
-    this.#append(rest, 'rest');
+    this.#received.append(rest, 'rest');
     this.#source = sourceOf(source, 'source');
   }
 
   /** A copy of the bytes received that belong to no item returned so far. */
   get rest() {
-    return this.#bytes.slice(this.#at, this.#end);
+    const { bytes, at, end } = this.#received;
+    return bytes.slice(at, end);
   }
 
   /** The number of bytes of the items returned so far. */
   get consumed() {
-    return this.#consumed;
+    return this.#received.consumed;
+  }
+
+  /** The number of items returned so far. */
+  get count() {
+    return this.#received.count;
   }
 
   /** Returns the next item, or null after the last one. Calls that overlap run one after the other. */
   read() {
     const item = this.#ready();
     if (item) return Promise.resolve(item);
-    const next = this.#calls++ === 0 ? this.#next() : this.#last.then(() => this.#next());
+    const next = this.#pending++ === 0 ? this.#next() : this.#last.then(() => this.#next());
     this.#last = next.catch(() => {});
     return next;
   }
 
   /** Waits for the next item and returns it. At an error or the end of the source the reader ends. */
   async #next() {
-    let isLast = false;
     try {
-      while (!this.#over) {
-        const item = this.#received(isLast);
+      let isLast = false;
+      while (this.#outcome === undefined) {
+        const item = this.#take(isLast);
         if (item) return item;
         isLast = await this.#more();
-        if (isLast && this.#at === this.#end) this.#over ??= () => null;
+        if (isLast && this.#received.at === this.#received.end) this.#finish(null);
       }
     } catch (error) {
-      this.#over ??= () => {
-        throw error;
-      };
+      this.#finish(error ?? new Error('the source failed without a reason'));
     } finally {
-      this.#calls--;
+      this.#pending--;
     }
-    this.#source.release();
-    return this.#over();
+    this.#source?.release();
+    if (this.#outcome === null) return null;
+    throw this.#outcome;
+  }
+
+  /** Ends the reader, if it has not ended before. */
+  #finish(outcome) {
+    if (this.#outcome === undefined) this.#outcome = outcome;
   }
 
   /** Returns the next item, or undefined if more of it may follow. Throws an error if the item is invalid or truncated. */
-  #received(isLast = false) {
-    const found = this.#find(this.#bytes, this.#at, this.#end);
+  #take(isLast) {
+    const received = this.#received;
+    const { bytes, at, end } = received;
+    const found = this.#find(bytes, at, end);
     if (!isLast && INCOMPLETE.includes(found.status)) return undefined;
-    const item = this.#make(found, this.#bytes, this.#at, this.#end);
-    this.#consumed += found.next - this.#at;
-    this.#at = found.next;
+    const item = this.#make(found, bytes, at, end);
+    received.at = found.next;
+    received.consumed += found.next - at;
+    received.count++;
     return item;
+  }
+
+  /** Returns the next item if it was received and no call waits, and otherwise undefined. `#next` throws the errors. */
+  #ready() {
+    if (this.#pending > 0 || this.#outcome !== undefined) return undefined;
+    try {
+      return this.#take(false);
+    } catch {
+      return undefined;
+    }
   }
 
   /** Waits for a chunk of the source, or until `cancel` is called. Returns whether the source has ended. */
@@ -94,47 +137,21 @@ class ItemReader {
 
   async #receive() {
     const { done, value } = await this.#source.next();
-    if (!done) this.#append(value, 'a chunk of the stream');
+    if (!done) this.#received.append(value, 'a chunk of the stream');
     return done;
-  }
-
-  /** Copies bytes to the end of `rest`. Throws a TypeError if they are no Uint8Array, or detached. */
-  #append(bytes, name) {
-    const length = checkedLength(bytes, name);
-    if (this.#end + length > this.#bytes.length) {
-      const rest = this.#bytes.subarray(this.#at, this.#end);
-      // at least doubled, so that a long item in short chunks takes linear time
-      this.#bytes = new Uint8Array(rest.length + Math.max(rest.length, length));
-      this.#bytes.set(rest);
-      this.#end = rest.length;
-      this.#at = 0;
-    }
-    this.#bytes.set(bytes, this.#end);
-    this.#end += length;
-  }
-
-  /** Returns the next item if it was received and no call is pending, and otherwise undefined. `#next` throws the errors. */
-  #ready() {
-    try {
-      return this.#calls === 0 && !this.#over ? this.#received() : undefined;
-    } catch {
-      return undefined;
-    }
   }
 
   /** Unlocks a `ReadableStream` for another reader. From then on `read` rejects. */
   release() {
-    this.#over ??= () => {
-      throw new TypeError('release() was called, so this reader reads no more');
-    };
-    this.#isReleased = true;
-    this.#source.release();
+    this.#finish(new TypeError('release() was called, so this reader reads no more'));
+    this.#source?.release();
+    this.#source = undefined;
   }
 
   /** Cancels the source, if it was not released. From then on `read` returns null, even if it is pending. */
   async cancel(reason) {
-    this.#over ??= () => null;
-    if (this.#isReleased) return;
+    this.#finish(null);
+    if (!this.#source) return;
     this.#stop?.();
     await this.#source.close(reason);
   }
@@ -203,24 +220,14 @@ function frameAt(bytes, at, end, limit) {
 
 /** Reads frames. */
 export class FrameReader extends ItemReader {
-  #count = 0;
-
   constructor(source, options = {}) {
     const { limit = 2 ** 22, rest = new Uint8Array() } = checkedLimits(options);
     const most = checkedWide(limit, 'limit');
     super(source, rest, (bytes, at, end) => frameAt(bytes, at, end, most), (found, bytes, at, end) => {
       const { status, size, next } = found;
-      if (status === 'ok') {
-        this.#count++;
-        return copyOf(bytes, next - size, next);
-      }
-      const reason = `frame ${this.#count} at offset ${this.consumed}: ${frameReasonOf(found, end, most)}`;
+      if (status === 'ok') return bytes.slice(next - size, next);
+      const reason = `frame ${this.count} at offset ${this.consumed}: ${frameReasonOf(found, end, most)}`;
       throw new MultihashError(reason, { status, size: status === 'invalid_size' ? size : undefined, consumed: next - at });
     });
-  }
-
-  /** The number of frames returned so far. */
-  get count() {
-    return this.#count;
   }
 }

@@ -63,7 +63,8 @@ async function cutAt(cut, { Reader, items, encodings }, starts) {
   const reader = new Reader(chunks(parts[0]));
   const { found, error } = await drained(reader);
   assert.deepEqual(found, items.slice(0, count));
-  assert.deepEqual([reader.consumed, hex(reader.rest)], [starts[count], hex(bytes.subarray(starts[count], cut))]);
+  const rest = hex(bytes.subarray(starts[count], cut));
+  assert.deepEqual([reader.count, reader.consumed, hex(reader.rest)], [count, starts[count], rest]);
   assert.equal(error?.isIncomplete, cut === starts[count] ? undefined : true);
   if (error && Reader === FrameReader) checkFrame(reader, error, count, cut - starts[count]);
   const other = new Reader(chunks(parts[1]), { rest: reader.rest });
@@ -76,7 +77,7 @@ function checkFrame(reader, error, count, there) {
   const varint = PREFIXES[count].length / 2;
   const words = there < varint ? 'inside varint' : `${there - varint} of ${FRAMES[count].length / 2}`;
   fails(MultihashError, () => { throw error; }, `frame ${count} offset ${reader.consumed} ${words}`);
-  assert.deepEqual([reader.count, error.consumed], [count, Math.min(varint, there)]);
+  assert.equal(error.consumed, Math.min(varint, there));
 }
 
 for (const reader of READERS)
@@ -133,6 +134,8 @@ test('a source that fails, and a chunk that is no bytes', async () => {
     [Error, streamOf([part], (controller) => controller.error(new Error('broken'))), 'broken'],
     [TypeError, Readable.from([part, 'text']), 'chunk stream Uint8Array string encoding'],
     [TypeError, Readable.from([part, moved]), 'chunk stream detached'],
+    [Error, streamOf([part], (controller) => controller.error()), 'the source failed without a reason'],
+    [Error, streamOf([part], (controller) => controller.error(null)), 'the source failed without a reason'],
   ];
   for (const [kind, source, words] of sources) {
     const reader = new MultihashReader(source);
