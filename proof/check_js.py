@@ -185,18 +185,18 @@ def functions() -> dict[str, Function]:
     ones = lambda: [Array("one", rest, at), Array("two", rest, at), left]
     both = lambda: [code, LEFT, left, other, RIGHT, right]
     return {
-        "varintAt": Function(definitions.get_varint, "length", decoded, lambda: [INPUT, at, end]),
-        "readHead": Function(head, "length", decoded, lambda: [INPUT, at, end]),
-        "readMultihash": Function(read_limit, "length limit", decoded, lambda: [INPUT, at, end, limit]),
-        "decodeMultihash": Function(from_bytes, "length", decoded, lambda: [WHOLE, length]),
-        "readScale": Function(definitions.scale_decode, "length", decoded, lambda: [WHOLE, length]),
+        "readVarint": Function(definitions.get_varint, "length", decoded, lambda: [INPUT, at, end]),
+        "head": Function(head, "length", decoded, lambda: [INPUT, at, end]),
+        "read": Function(read_limit, "length limit", decoded, lambda: [INPUT, at, end, limit]),
+        "decode": Function(from_bytes, "length", decoded, lambda: [WHOLE, length]),
+        "scaleDecode": Function(definitions.scale_decode, "length", decoded, lambda: [WHOLE, length]),
         "encodingStatus": Function(fitting, "code other", status, lambda: [code, other]),
         "varintLength": Function(varint, "code", length_of, lambda: [code], is_valid),
-        "putVarint": Function(varint, "code", varint_end, place, z3.And(is_valid, has_room)),
+        "writeVarint": Function(varint, "code", varint_end, place, z3.And(is_valid, has_room)),
         "encodedLength": Function(pair, "code size", length_of, lambda: [code, size], is_valid),
-        "encodeMultihash": Function(pair, "code size", encoding, lambda: [code, DIGEST, size], is_valid),
-        "encodeScale": Function(scale, "code size", encoding, lambda: [code, DIGEST, size], is_valid),
-        "compareMultihashes": Function(definitions.compare, "code left other right", order, both),
+        "encode": Function(pair, "code size", encoding, lambda: [code, DIGEST, size], is_valid),
+        "scaleEncode": Function(scale, "code size", encoding, lambda: [code, DIGEST, size], is_valid),
+        "compare": Function(definitions.compare, "code left other right", order, both),
         "compareBytes": Function(turn, "at left", order, ones, z3.ULE(bits("at"), bits("left")), Turn),
     }
 
@@ -212,7 +212,7 @@ def result(name: str) -> str:
         solver.add(*RANGES, function.when)
 
         def end(path: Run) -> Wrong:
-            path.summaries = {"varintAt": varint_at, "compareBytes": compare_bytes}
+            path.summaries = {"readVarint": varint_at, "compareBytes": compare_bytes}
             path.summaries.pop(name, None)
             given = function.arguments()
             found = path.call(name, given)

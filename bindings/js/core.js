@@ -21,7 +21,7 @@ export function encode(code, digest) {
   const number = checkedWide(code, 'code');
   const length = checkedLength(digest, 'digest');
   checkPair(number, length);
-  return format.encodeMultihash(number, digest, length);
+  return format.encode(number, digest, length);
 }
 
 /** Returns the SCALE encoding of a code and a digest. */
@@ -29,7 +29,7 @@ export function scaleEncode(code, digest) {
   const number = checkedWide(code, 'code');
   const length = checkedLength(digest, 'digest');
   checkPair(number, length);
-  return format.encodeScale(number, digest, length);
+  return format.scaleEncode(number, digest, length);
 }
 
 /** Returns the length of the encoding of a code and a digest of that length. */
@@ -43,7 +43,7 @@ export function encodedLength(code, digestLength) {
 /** Decodes the two varints before a digest. */
 export function head(bytes) {
   const length = checkedLength(bytes, 'bytes');
-  const found = format.readHead(bytes, 0, length);
+  const found = format.head(bytes, 0, length);
   if (found.status !== 'ok') throw errorOf(found, bytes, 0, length, DIGEST_MAX);
   return { code: found.code, digestLength: found.size, consumed: found.next };
 }
@@ -61,7 +61,7 @@ function checkedValue(value) {
 export function encodeVarint(value) {
   const number = checkedValue(value);
   const bytes = new Uint8Array(format.varintLength(number));
-  format.putVarint(number, bytes, 0);
+  format.writeVarint(number, bytes, 0);
   return bytes;
 }
 
@@ -73,14 +73,14 @@ export function writeVarint(value, bytes, at = 0) {
   if (typeof at !== 'number') throw wrongType('at', 'a number', at);
   if (!Number.isInteger(at) || at < 0 || length > room - at)
     throw new RangeError(`at must be an index with room for ${length} more in bytes, got ${at} of ${room}`);
-  format.putVarint(number, bytes, at);
+  format.writeVarint(number, bytes, at);
   return length;
 }
 
 /** Decodes the varint at the start of the bytes. */
 export function readVarint(bytes) {
   const length = checkedLength(bytes, 'bytes');
-  const { status, value, next } = format.varintAt(bytes, 0, length);
+  const { status, value, next } = format.readVarint(bytes, 0, length);
   if (status !== 'ok') throw new MultihashError(varintReasonOf(status, length), { status });
   return { value, consumed: next };
 }
@@ -107,7 +107,7 @@ export function readMany(bytes) {
   let count = 0;
   let error;
   while (consumed < length) {
-    const found = format.readMultihash(view, consumed, length, DIGEST_MAX);
+    const found = format.read(view, consumed, length, DIGEST_MAX);
     const { status, code, size, next } = found;
     if (status !== 'ok') {
       error = errorOf(found, view, consumed, length, DIGEST_MAX);

@@ -1,5 +1,5 @@
 // MultihashError, the error for invalid input, and the functions that choose its message.
-import { readHead, varintAt } from './format.js';
+import * as format from './format.js';
 import * as texts from './statuses.js';
 
 const ALL = [...texts.STATUSES.slice(1), 'not_hexadecimal'];
@@ -41,12 +41,12 @@ const malformed = (varint, status) => (status === 'overflow' ? texts.overflow(va
 
 /** The message for bytes that, from the index `at` on, are no multihash with a digest of at most `limit` bytes. */
 function reasonOf(status, bytes, at, end, limit) {
-  const { size, next } = readHead(bytes, at, end);
+  const { size, next } = format.head(bytes, at, end);
   const rest = end - next;
   if (status === 'unexpected_eof') return texts.truncated('digest', rest, size);
   if (size > limit) return texts.tooLong('digest', size, limit);
   if (status === 'invalid_size') return texts.trailing(rest - size);
-  const code = varintAt(bytes, at, end);
+  const code = format.readVarint(bytes, at, end);
   const name = code.status === 'ok' ? "digest's length" : 'code';
   if (status !== 'insufficient') return malformed(`varint of the ${name}`, status);
   if (at === end) return texts.empty();

@@ -1,5 +1,5 @@
 // The format: decodes, encodes and compares bytes. Each function that is exported is checked for all inputs, by
-// proof/check_js.py of the repository.
+// proof/check_js.py of the repository. The public function of the same name checks the arguments, and throws the errors.
 //
 // Bytes are a Uint8Array, whose length is a separate argument, since a subclass may redefine `length`. Codes, sizes and the
 // values of varints are numbers up to 2^53 - 1, where numbers are exact, and bigints above.
@@ -28,11 +28,11 @@ const highPart = (value, bits) =>
 
 // ---- decoding
 // A result has a status, and `next`, the index after the bytes that were consumed, for an error too. A digest that was read
-// ends at `next`. The other fields of an error are 0, except a size or a code that is invalid. The public
-// functions return the number of bytes consumed instead, as `consumed`.
+// ends at `next`. The other fields of an error are 0, except a size or a code that is invalid. The public functions return
+// `consumed` instead, the number of bytes.
 
 /** Reads the varint that starts at an index, of the bytes before `end`. */
-export function varintAt(bytes, at, end) {
+export function readVarint(bytes, at, end) {
   const most = Math.min(end, at + VARINT_LENGTH_MAX);
   const middle = at + LOW_BYTES;
   let low = 0;
@@ -53,22 +53,22 @@ export function varintAt(bytes, at, end) {
 const failed = (status, next) => ({ status, code: 0, size: 0, next });
 
 /** Reads the two varints before a digest: a code, and the digest's size. */
-export function readHead(bytes, at, end) {
+export function head(bytes, at, end) {
   if (end - at >= 2) {
     const first = bytes[at];
     const second = bytes[at + 1];
     if (first < 128 && second < 128) return { status: 'ok', code: first, size: second, next: at + 2 }; // the most common
   }
-  const code = varintAt(bytes, at, end);
+  const code = readVarint(bytes, at, end);
   if (code.status !== 'ok') return failed(code.status, code.next);
-  const size = varintAt(bytes, code.next, end);
+  const size = readVarint(bytes, code.next, end);
   if (size.status !== 'ok') return failed(size.status, size.next);
   return { status: 'ok', code: code.value, size: size.value, next: size.next };
 }
 
 /** Reads the multihash that starts at an index, with a digest of at most `limit` bytes. */
-export function readMultihash(bytes, at, end, limit) {
-  const { status, code, size, next } = readHead(bytes, at, end);
+export function read(bytes, at, end, limit) {
+  const { status, code, size, next } = head(bytes, at, end);
   if (status !== 'ok') return failed(status, next);
   if (size > limit) return { status: 'invalid_size', code: 0, size, next };
   if (end - next < size) return failed('unexpected_eof', next);
@@ -76,8 +76,8 @@ export function readMultihash(bytes, at, end, limit) {
 }
 
 /** Decodes the multihash whose encoding is all of the bytes. */
-export function decodeMultihash(bytes, length) {
-  const found = readMultihash(bytes, 0, length, DIGEST_MAX);
+export function decode(bytes, length) {
+  const found = read(bytes, 0, length, DIGEST_MAX);
   const { status, size, next } = found;
   if (status !== 'ok') return { status, code: 0, size, next: length };
   if (next < length) return { status: 'invalid_size', code: 0, size: length - next, next: length };
@@ -87,7 +87,7 @@ export function decodeMultihash(bytes, length) {
 const wordAt = (bytes, at) => bytes[at] + bytes[at + 1] * 2 ** 8 + bytes[at + 2] * 2 ** 16 + bytes[at + 3] * 2 ** 24;
 
 /** Reads the multihash whose SCALE encoding the bytes start with. */
-export function readScale(bytes, length) {
+export function scaleDecode(bytes, length) {
   if (length < 8) return failed('unexpected_eof', 0);
   const high = wordAt(bytes, 4);
   const code = joined(wordAt(bytes, 0), high, 32);
@@ -116,7 +116,7 @@ export function varintLength(value) {
 }
 
 /** Writes the varint of a number below 2^63 at an index of bytes that have room for it. Returns the index after it. */
-export function putVarint(value, bytes, at) {
+export function writeVarint(value, bytes, at) {
   let index = at;
   let rest = value;
   if (typeof value === 'bigint') {
@@ -139,9 +139,9 @@ export function putVarint(value, bytes, at) {
 export const encodedLength = (code, size) => varintLength(code) + varintLength(size) + size;
 
 /** Returns the encoding of a code and a digest of that size. */
-export function encodeMultihash(code, digest, size) {
+export function encode(code, digest, size) {
   const bytes = new Uint8Array(encodedLength(code, size));
-  bytes.set(digest, putVarint(size, bytes, putVarint(code, bytes, 0)));
+  bytes.set(digest, writeVarint(size, bytes, writeVarint(code, bytes, 0)));
   return bytes;
 }
 
@@ -150,7 +150,7 @@ function writeWord(word, bytes, at) {
 }
 
 /** Returns the SCALE encoding of a code and a digest of that size. */
-export function encodeScale(code, digest, size) {
+export function scaleEncode(code, digest, size) {
   const bytes = new Uint8Array(9 + size);
   writeWord(lowPart(code, 32), bytes, 0);
   writeWord(highPart(code, 32), bytes, 4);
@@ -162,7 +162,7 @@ export function encodeScale(code, digest, size) {
 // ---- order
 
 /** Returns the order of two multihashes, -1, 0 or 1: by code, then by size, then by the first digest byte that differs. */
-export function compareMultihashes(leftCode, left, leftSize, rightCode, right, rightSize) {
+export function compare(leftCode, left, leftSize, rightCode, right, rightSize) {
   if (leftCode !== rightCode) return leftCode < rightCode ? -1 : 1;
   if (leftSize !== rightSize) return leftSize < rightSize ? -1 : 1;
   return compareBytes(left, right, leftSize);

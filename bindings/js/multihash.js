@@ -3,7 +3,7 @@ import { checkedLength, checkedWide, copyOf, isBytes, shown, wrongType } from '.
 import { hex, unhex } from './bases.js';
 import { checkPair, encode } from './core.js';
 import { MultihashError, errorOf, forJSON, scaleReasonOf } from './errors.js';
-import { compareBytes, compareMultihashes, decodeMultihash, readMultihash, readScale } from './format.js';
+import * as format from './format.js';
 import { DIGEST_MAX } from './limits.js';
 
 /** The first argument of the constructors. It is not exported by the package, so its users call `of`, which checks. */
@@ -79,7 +79,7 @@ export class Multihash {
     if (!isBytes(other?.digest) || (typeof other.code !== 'number' && typeof other.code !== 'bigint')) return false;
     const length = checkedLength(other.digest, 'the other digest');
     // a number and a bigint of the same value are the same code
-    return other.code == this.code && length === digest.length && compareBytes(digest, other.digest, length) === 0;
+    return other.code == this.code && length === digest.length && format.compareBytes(digest, other.digest, length) === 0;
   }
 
   /** Returns this multihash, whose code is a number. Throws a RangeError if the code is a bigint. */
@@ -95,7 +95,7 @@ export const foundMultihash = (bytes, { code, size, next }) => new Multihash(MAK
 /** Decodes the multihash whose encoding is the whole of the bytes. */
 export function decode(bytes) {
   const length = checkedLength(bytes, 'bytes');
-  const found = decodeMultihash(bytes, length);
+  const found = format.decode(bytes, length);
   if (found.status !== 'ok') throw errorOf(found, bytes, 0, length, DIGEST_MAX);
   return foundMultihash(bytes, found);
 }
@@ -107,7 +107,7 @@ export const checkedLimit = (limit) => Math.min(Number(checkedWide(limit, 'limit
 export function read(bytes, limit) {
   const most = limit === undefined ? DIGEST_MAX : checkedLimit(limit);
   const length = checkedLength(bytes, 'bytes');
-  const found = readMultihash(bytes, 0, length, most);
+  const found = format.read(bytes, 0, length, most);
   if (found.status !== 'ok') throw errorOf(found, bytes, 0, length, most);
   return { multihash: foundMultihash(bytes, found), consumed: found.next };
 }
@@ -115,7 +115,7 @@ export function read(bytes, limit) {
 /** Decodes the multihash whose SCALE encoding is a prefix of the bytes. */
 export function scaleDecode(bytes) {
   const length = checkedLength(bytes, 'bytes');
-  const found = readScale(bytes, length);
+  const found = format.scaleDecode(bytes, length);
   const { status, code, next } = found;
   if (status === 'ok') return { multihash: foundMultihash(bytes, found), consumed: next };
   throw new MultihashError(scaleReasonOf(found, bytes, length), { status, code: code || undefined, consumed: next });
@@ -133,5 +133,5 @@ export function compare(left, right) {
   if (!(right instanceof Multihash)) throw wrongType('right', 'a Multihash', right);
   const leftDigest = checkedDigest(left, 'left');
   const rightDigest = checkedDigest(right, 'right');
-  return compareMultihashes(left.code, leftDigest, left.size, right.code, rightDigest, right.size);
+  return format.compare(left.code, leftDigest, left.size, right.code, rightDigest, right.size);
 }

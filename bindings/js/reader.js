@@ -1,7 +1,7 @@
 // The classes that read a stream's multihashes or frames, one after the other.
 import { checkedLength, checkedOptions, checkedWide } from './arguments.js';
 import { MultihashError, errorOf, frameReasonOf } from './errors.js';
-import { readMultihash, varintAt } from './format.js';
+import * as format from './format.js';
 import { DIGEST_MAX } from './limits.js';
 import { checkedLimit, foundMultihash } from './multihash.js';
 import { sourceOf } from './sources.js';
@@ -203,7 +203,7 @@ export class MultihashReader extends ItemReader {
   constructor(source, options = {}) {
     const { limit = DIGEST_MAX, rest = new Uint8Array() } = checkedLimits(options);
     const most = checkedLimit(limit);
-    super(source, rest, (bytes, at, end) => readMultihash(bytes, at, end, most), (found, bytes, at, end) => {
+    super(source, rest, (bytes, at, end) => format.read(bytes, at, end, most), (found, bytes, at, end) => {
       if (found.status !== 'ok') throw errorOf(found, bytes, at, end, most);
       return foundMultihash(bytes, found);
     });
@@ -212,7 +212,7 @@ export class MultihashReader extends ItemReader {
 
 /** Finds the frame that starts at an index: a varint, and then that many bytes. */
 function frameAt(bytes, at, end, limit) {
-  const { status, value: size, next } = varintAt(bytes, at, end);
+  const { status, value: size, next } = format.readVarint(bytes, at, end);
   if (status !== 'ok') return { status, next };
   if (size > limit) return { status: 'invalid_size', size, next };
   return end - next < size ? { status: 'unexpected_eof', size, next } : { status, size, next: next + size };
