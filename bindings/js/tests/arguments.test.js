@@ -1,39 +1,49 @@
-// Arguments of wrong types and ranges: the error names the argument, what was expected and what came.
+// Arguments of wrong types and ranges: the error names the argument, what was expected and what was passed.
 import assert from 'node:assert/strict';
 import { test } from 'node:test';
 import { CID } from '../cid.js';
 import { FrameReader, Hasher, Multihash, MultihashReader, compare, decode, digest, encode, encodeVarint, encodedLength,
   head, read, readMany, readVarint, scaleDecode, scaleEncode, sha256, verify, writeVarint } from '../index.js';
-import { fails, rejects, unhex, withoutMemory } from './support.js';
+import { unhex, withoutMemory } from './support.js';
 
 const EXAMPLE = unhex('1620644bcc7e564373040999aac89e7622f3ca71fba1d972fd94a31c3bfbf24e3938');
 const MULTIHASH = decode(EXAMPLE);
 const NOTHING = { [Symbol.asyncIterator]: () => ({ next() {} }) };
 const READERS = [MultihashReader, FrameReader];
+const DECODING = ': Multihash.fromHex(text) and CID.parse(text) decode it';
+const ENCODING = ': new TextEncoder().encode(text) makes bytes';
+const OF_ARRAY = 'Array: Uint8Array.from(array) makes bytes';
+const OF_VIEW = 'new Uint8Array(view.buffer, view.byteOffset, view.byteLength) makes bytes';
 
-/** Values that are no bytes, and what an error says of each, of `bytes` with a hint. */
+const typeError = (call, message) => assert.throws(call, { name: 'TypeError', message });
+const rangeError = (call, message) => assert.throws(call, { name: 'RangeError', message });
+
+/** Values that are no bytes, and how an error ends for each. */
 const NO_BYTES = [
-  [null, 'null'], [undefined, 'undefined'], [true, 'true'], [34, '34'], [34n, 'bigint'], [Symbol('bytes'), 'symbol'],
-  ['1620', 'string Multihash.fromHex'], [() => 0, 'function'], [Promise.resolve(), 'Promise await'], [{}, 'Object'],
-  [{ __proto__: null }, 'Object'], [new (class Own {})(), 'Own'], [[22, 0], 'Array Uint8Array.from'],
-  [MULTIHASH, 'Multihash bytes'], [new ArrayBuffer(4), 'ArrayBuffer new Uint8Array buffer'],
-  [new DataView(new ArrayBuffer(4)), 'DataView view.byteLength'], [new Int8Array(2), 'Int8Array view.byteLength'],
-  [new Proxy(new Uint8Array(2), {}), 'Proxy'], [Object.create(Uint8Array.prototype), ''],
-  ...withoutMemory().map((bytes) => [bytes, 'detached']),
+  [null, 'null'], [true, 'true'], [34, '34'], [34n, 'bigint'], [Symbol('bytes'), 'symbol'], [() => 0, 'function'],
+  [{}, 'Object'], [{ __proto__: null }, 'Object'], [new (class Own {})(), 'Own'], [Promise.resolve(), 'Promise: await it'],
+  [MULTIHASH, 'Multihash: its bytes are the encoding'], [[22, 0], OF_ARRAY],
+  [new ArrayBuffer(4), 'ArrayBuffer: new Uint8Array(buffer) makes bytes'],
+  [new DataView(new ArrayBuffer(4)), `DataView: ${OF_VIEW}`], [new Uint8ClampedArray(2), `Uint8ClampedArray: ${OF_VIEW}`],
+  [new Proxy(new Uint8Array(2), {}), 'a Proxy of a Uint8Array'],
+  [Object.create(Uint8Array.prototype), 'a Proxy of a Uint8Array'],
 ];
 const OF_BYTES = [
-  ...[decode, read, head, readVarint, readMany, scaleDecode, CID.decode, CID.read].map((call) => ['bytes', call]),
-  ['bytes', (bytes) => writeVarint(1, bytes)],
-  ...[encode, scaleEncode, Multihash.of].map((call) => ['digest', (bytes) => call(18, bytes)]),
-  ...READERS.map((Reader) => ['rest', (bytes) => new Reader(NOTHING, { rest: bytes ?? null })]),
-  ['content', (bytes) => new Hasher('sha1').update(bytes)],
+  ...[decode, read, head, readVarint, readMany, scaleDecode, CID.decode, CID.read].map((call) => ['bytes', call, DECODING]),
+  ['bytes', (bytes) => writeVarint(1, bytes), DECODING],
+  ...[encode, scaleEncode, Multihash.of].map((call) => ['digest', (bytes) => call(18, bytes), '']),
+  ...READERS.map((Reader) => ['rest', (bytes) => new Reader(NOTHING, { rest: bytes }), '']),
+  ['content', (bytes) => new Hasher('sha1').update(bytes), ENCODING],
 ];
 
 test('bytes', () => {
-  for (const [value, words] of NO_BYTES)
-    for (const [name, call] of OF_BYTES)
-      fails(TypeError, () => call(value), `${name} Uint8Array ${name === 'bytes' || words === 'detached' ? words : ''}`);
-  fails(TypeError, () => new Hasher('sha1').update('abc'), 'content string TextEncoder');
+  for (const [name, call, hint] of OF_BYTES) {
+    typeError(() => call('1620'), `${name} must be a Uint8Array, got string${hint}`);
+    for (const [value, got] of NO_BYTES) typeError(() => call(value), `${name} must be a Uint8Array, got ${got}`);
+    for (const bytes of withoutMemory())
+      typeError(() => call(bytes), `${name} is a Uint8Array that is detached or out of bounds`);
+  }
+  typeError(() => decode(), 'bytes must be a Uint8Array, got undefined');
 });
 
 const OF_NUMBERS = [
@@ -47,48 +57,54 @@ const OF_NUMBERS = [
 
 test('numbers', () => {
   for (const [name, call] of OF_NUMBERS) {
-    for (const [value, kind] of [['18', 'string'], [null, 'null'], [{}, 'Object'], [[18], 'Array'], [true, 'true']])
-      fails(TypeError, () => call(value), `${name} number bigint ${kind}`);
+    const ofName = name === 'code' ? ': CODES has the codes of names' : '';
+    for (const [value, got] of [['18', `string${ofName}`], [null, 'null'], [{}, 'Object'], [[18], OF_ARRAY], [true, 'true']])
+      typeError(() => call(value), `${name} must be a number or a bigint, got ${got}`);
     for (const value of [-1, 1.5, NaN, Infinity, 2 ** 53])
-      fails(RangeError, () => call(value), `${name} 2^53 - 1 or ${value}`);
-    const most = `${name} 2^${name === 'code' ? 63 : 64} - 1 got`;
-    for (const value of [-1n, 1n << 64n]) fails(RangeError, () => call(value), `${most} ${value}`);
+      rangeError(() => call(value), `${name} must be a whole number from 0 to 2^53 - 1, or a bigint, got ${value}`);
+    const most = `${name} must be from 0 to 2^${name === 'code' ? 63 : 64} - 1, got`;
+    for (const value of [-1n, 1n << 64n]) rangeError(() => call(value), `${most} ${value}`);
     // a number of many digits is cut
     for (const [digits, end] of [[40, ''], [41, '...']])
-      fails(RangeError, () => call(10n ** BigInt(digits - 1)), `${most} 1${'0'.repeat(39)}${end}`);
+      rangeError(() => call(10n ** BigInt(digits - 1)), `${most} 1${'0'.repeat(39)}${end}`);
   }
-  fails(TypeError, () => encode('sha1', EXAMPLE), 'code string CODES');
 });
 
 test('multihashes and CIDs', () => {
   const cid = CID.of(1, 0x55, MULTIHASH);
-  for (const [value, kind] of [[{ ...MULTIHASH }, 'Object'], [EXAMPLE, 'Uint8Array decode bytes'], [null, 'null']]) {
-    fails(TypeError, () => compare(value, MULTIHASH), `left Multihash ${kind}`);
-    fails(TypeError, () => compare(MULTIHASH, value), `right Multihash ${kind}`);
-    fails(TypeError, () => CID.of(1, 0x55, value), `multihash Multihash ${kind}`);
+  const ofBytes = 'Uint8Array: decode(bytes) and read(bytes) decode it';
+  for (const [value, got] of [[{ ...MULTIHASH }, 'Object'], [EXAMPLE, ofBytes], [null, 'null']]) {
+    typeError(() => compare(value, MULTIHASH), `left must be a Multihash, got ${got}`);
+    typeError(() => compare(MULTIHASH, value), `right must be a Multihash, got ${got}`);
+    typeError(() => CID.of(1, 0x55, value), `multihash must be a Multihash, got ${got}`);
   }
-  fails(TypeError, () => new Multihash(Symbol('making'), 22, EXAMPLE), 'Multihash.of');
-  fails(TypeError, () => new CID(1, 0x55, MULTIHASH), 'CID.of');
-  for (const value of [undefined, 5, EXAMPLE, new String('b'), cid]) {
-    fails(TypeError, () => CID.parse(value), 'text string');
-    fails(TypeError, () => Multihash.fromHex(value), 'text string');
-  }
-  for (const base of ['m', 'base32', '__proto__', null, Symbol('b')]) fails(RangeError, () => cid.toString(base), 'base');
+  typeError(() => new Multihash(Symbol('making'), 22, EXAMPLE), 'Multihash.of(code, digest) makes a multihash');
+  typeError(() => new CID(1, 0x55, MULTIHASH), 'CID.of(version, codec, multihash) makes a CID');
+  for (const [value, got] of [[undefined, 'undefined'], [EXAMPLE, ofBytes], [new String('b'), 'String'], [cid, 'CID']])
+    for (const call of [CID.parse, Multihash.fromHex]) typeError(() => call(value), `text must be a string, got ${got}`);
+  for (const base of ['m', 'base32', '__proto__', null, Symbol('b')])
+    rangeError(() => cid.toString(base), `base must be 'b', 'f' or 'z', and 'z' for version 0, got ${String(base)}`);
 });
 
 test('sources and options of readers', () => {
+  const ofBlob = 'its stream() is a ReadableStream';
   const sources = [
-    [null, 'null'], [3, '3'], ['path', 'string createReadStream'], [[EXAMPLE], 'Array'], [EXAMPLE, 'Uint8Array new Blob'],
-    [new Response(), 'Response body'], [new Blob([]), 'Blob stream'], [new File([], ''), 'File stream'],
-    [new (class {})(), 'Object'], [{ [Symbol.asyncIterator]: () => null }, 'Object'],
-    [{ [Symbol.asyncIterator]: () => ({}) }, 'Object'],
+    [null, 'null'], [3, '3'], ['path', 'string: createReadStream(path) opens a file'], [[EXAMPLE], OF_ARRAY],
+    [EXAMPLE, 'Uint8Array: new Blob([bytes]).stream() makes one'],
+    [new Response(), 'Response: its body is a ReadableStream'], [new Blob([]), `Blob: ${ofBlob}`], [new File([], ''), `File: ${ofBlob}`], [new (class {})(), 'Object'],
+    [{ [Symbol.asyncIterator]: () => null }, 'Object'], [{ [Symbol.asyncIterator]: () => ({}) }, 'Object'],
+  ];
+  const options = [
+    [null, 'must be an object, got null'], [2, 'must be an object, got 2'], [[], `must be an object, got ${OF_ARRAY}`],
+    [new Map(), 'must be an object, got Map: Object.fromEntries(map) makes one'],
+    [{ limit: 1, max: 2 }, 'can have limit and rest, got max'],
   ];
   for (const Reader of READERS) {
-    for (const [source, words] of sources)
-      fails(TypeError, () => new Reader(source), `source a ReadableStream iterable ${words}`);
-    for (const options of [null, 2, [], new Map(), { limit: 1, max: 2 }]) {
+    for (const [source, got] of sources)
+      typeError(() => new Reader(source), `source must be a ReadableStream or an async iterable, got ${got}`);
+    for (const [value, message] of options) {
       const stream = new ReadableStream();
-      fails(TypeError, () => new Reader(stream, options), 'options');
+      typeError(() => new Reader(stream, value), `options ${message}`);
       assert.ok(!stream.locked);
     }
   }
@@ -97,22 +113,32 @@ test('sources and options of readers', () => {
 test('content, claims, names and options of hash functions', async () => {
   const abc = new TextEncoder().encode('abc');
   const whole = await sha256.digest(abc);
-  const calls = [
-    [TypeError, digest('abc', 18), 'content Uint8Array ReadableStream string TextEncoder'],
-    [TypeError, verify(whole, null), 'content Uint8Array ReadableStream null'],
-    [TypeError, verify(abc, whole), 'content Multihash'], // swapped
-    [TypeError, verify('1200', abc), 'multihash Multihash got string Multihash.fromHex'],
-    ...[{}, null, new Blob()].map((claim) => [TypeError, verify(claim, abc), 'multihash Multihash got']),
-    [TypeError, verify({ code: '18', digest: abc }, abc), 'code number string'],
-    [RangeError, digest(abc, 'sha3'), 'hash CODES sha3'], [RangeError, digest(abc, 'toString'), 'hash CODES toString'],
-    [TypeError, digest(abc, undefined), 'hash CODES undefined'], [RangeError, digest(abc, -1), 'hash -1'],
-    ...[null, 20, [], new Map()].map((options) => [TypeError, verify(whole, abc, options), 'options object']),
-    [TypeError, verify(whole, abc, { truncate: 20 }), 'options functions truncate'],
-    [TypeError, digest(abc, 18, { length: 20 }), 'options truncate functions length'],
-    [TypeError, (async () => new Hasher('sha1', { truncate: 2 }))(), 'options functions truncate'],
-    [RangeError, (async () => new Hasher('sha3'))(), 'hash CODES'],
-    ...['20', 20n].map((truncate) => [TypeError, digest(abc, 18, { truncate }), `truncate number ${typeof truncate}`]),
-    ...[33, -1, 1.5, NaN].map((truncate) => [RangeError, digest(abc, 18, { truncate }), `truncate 0 32 ${truncate}`]),
+  const noContent = 'content must be a Uint8Array, a ReadableStream or an async iterable, got';
+  const noClaim = 'multihash must be a Multihash or its encoding, got';
+  const noHash = 'hash must be a name in CODES or a code, got';
+  const typeErrors = [
+    [digest('abc', 18), `${noContent} string${ENCODING}`],
+    [verify(whole, null), `${noContent} null`],
+    [verify(abc, whole), `${noContent} Multihash: its bytes are the encoding`], // swapped
+    [verify('1200', abc), `${noClaim} string${DECODING}`],
+    [verify({}, abc), `${noClaim} Object`],
+    [verify(null, abc), `${noClaim} null`],
+    [verify({ code: null, digest: abc }, abc), 'code must be a number or a bigint, got null'],
+    [digest(abc, undefined), `${noHash} undefined`],
+    [verify(whole, abc, null), 'options must be an object, got null'],
+    [verify(whole, abc, { truncate: 20 }), 'options can have functions, got truncate'],
+    [digest(abc, 18, { length: 20 }), 'options can have truncate and functions, got length'],
+    [digest(abc, 18, { truncate: '20' }), 'truncate must be a number, got string'],
+    [digest(abc, 18, { truncate: 20n }), 'truncate must be a number, got bigint'],
   ];
-  for (const [kind, promise, words] of calls) await rejects(kind, promise, words);
+  for (const [promise, message] of typeErrors) await assert.rejects(promise, { name: 'TypeError', message });
+  const rangeErrors = [
+    [digest(abc, 'sha3'), `${noHash} sha3`], [digest(abc, 'toString'), `${noHash} toString`],
+    [digest(abc, -1), 'hash must be a whole number from 0 to 2^53 - 1, or a bigint, got -1'],
+    ...[33, -1, 1.5, NaN].map((truncate) =>
+      [digest(abc, 18, { truncate }), `truncate must be a whole number from 0 to 32, got ${truncate}`]),
+  ];
+  for (const [promise, message] of rangeErrors) await assert.rejects(promise, { name: 'RangeError', message });
+  typeError(() => new Hasher('sha1', { truncate: 2 }), 'options can have functions, got truncate');
+  rangeError(() => new Hasher('sha3'), `${noHash} sha3`);
 });

@@ -4,7 +4,7 @@ import { test } from 'node:test';
 import { inspect } from 'node:util';
 import { CID, CIDError, CODECS } from '../cid.js';
 import { Multihash, MultihashError } from '../index.js';
-import { KINDS, detach, fails, hex, rowsOf, unhex } from './support.js';
+import { KINDS, detach, hex, rowsOf, unhex } from './support.js';
 
 const HELLO = Multihash.fromHex('1220b94d27b9934d3e08a52e52d7da7dabfac484efe37a5380ee9088f7ace2efcde9');
 const RAW = CID.of(1, CODECS.raw, HELLO);
@@ -57,7 +57,7 @@ test('messages', () => {
     ['f0255', 'unknown_version', 'the version must be 1, not 2'],
   ];
   for (const [text, status, message] of rows) {
-    const error = fails(CIDError, () => CID.parse(text), message);
+    const [, error] = told(() => CID.parse(text));
     assert.equal(JSON.stringify(error), JSON.stringify({ name: 'CIDError', message, status }));
   }
 });
@@ -66,7 +66,7 @@ test('fields that make no CID', () => {
   const short = Multihash.of(0x12, HELLO.digest.subarray(1));
   const rows = [['unknown_version', 2, 0x55, HELLO], ['not_version_0', 0, 0x55, HELLO], ['not_version_0', 0, 0x70, short],
     ['not_version_0', 0, 0x70, Multihash.of(0x13, HELLO.digest)], ['overflow', 1, 2n ** 63n, HELLO]];
-  for (const [status, ...fields] of rows) assert.equal(fails(CIDError, () => CID.of(...fields), '').status, status);
+  for (const [status, ...fields] of rows) assert.throws(() => CID.of(...fields), { name: 'CIDError', status });
 });
 
 test('values', () => {
@@ -83,8 +83,9 @@ test('values', () => {
   assert.ok(CID.of(1n, 0x55n, HELLO).equals(RAW));
   const proxy = new Proxy(RAW, {});
   assert.equal(`${proxy} ${hex(proxy.bytes)} ${proxy.equals(RAW)}`, `${RAW} ${hex(RAW.bytes)} true`);
-  fails(RangeError, () => OLD.toString('b'), 'base version 0 b');
+  const message = "base must be 'b', 'f' or 'z', and 'z' for version 0, got b";
+  assert.throws(() => OLD.toString('b'), { name: 'RangeError', message });
   const moved = CID.of(1, CODECS.raw, Multihash.of(0, Uint8Array.of(5)));
   detach(moved.multihash.digest);
-  fails(TypeError, () => `${moved}`, 'digest detached');
+  assert.throws(() => `${moved}`, { message: 'digest is a Uint8Array that is detached or out of bounds' });
 });

@@ -6,9 +6,9 @@ import { Readable } from 'node:stream';
 import { test } from 'node:test';
 import { clearImmediate, setImmediate } from 'node:timers';
 import { fileURLToPath } from 'node:url';
-import { CODES, Hasher, Multihash, MultihashError, NAMES, UnsupportedHashError, digest, hashers, identity, sha256,
+import { CODES, Hasher, Multihash, NAMES, UnsupportedHashError, digest, hashers, identity, sha256,
   sha384, sha512, verify } from '../index.js';
-import { KINDS, detach, fails, hex, rejects, rowsOf, withoutMemory } from './support.js';
+import { KINDS, detach, hex, rowsOf, withoutMemory } from './support.js';
 
 const ABC = new TextEncoder().encode('abc');
 const CONTENT = new Uint8Array(2500).map((_, index) => index);
@@ -66,7 +66,7 @@ test('content of streams, and in parts', async () => {
       for await (const chunk of chunks(CONTENT)) assert.equal(hasher.update(chunk), hasher);
       assert.deepEqual(await hasher.multihash(), wanted);
       assert.equal(hasher.multihash(), hasher.multihash());
-      fails(TypeError, () => hasher.update(ABC), 'multihash hasher');
+      assert.throws(() => hasher.update(ABC), TypeError('multihash() was called, so this hasher takes no more bytes'));
     }
   }
   const empty = await sha256.digest(new Uint8Array());
@@ -84,8 +84,8 @@ test('identity has at most 255 bytes of content', async () => {
   assert.equal((await identity.digest(new Uint8Array(255).fill(1))).digestHex, '01'.repeat(255));
   const parts = new Hasher('identity').update(new Uint8Array(200)).update(new Uint8Array(100));
   for (const [promise, length] of [[identity.digest(new Uint8Array(256)), 256], [parts.multihash(), 300]]) {
-    const { status, size } = await rejects(MultihashError, promise, `identity 255 ${length}`);
-    assert.deepEqual([status, size], ['invalid_size', length]);
+    const message = `identity takes at most 255 bytes of content, got ${length}`;
+    await assert.rejects(promise, { name: 'MultihashError', message, status: 'invalid_size', size: length });
   }
   assert.equal(await verify(Multihash.of(0, new Uint8Array(255)), new Uint8Array(300)), false);
 });
@@ -100,9 +100,10 @@ test('a digest that is truncated, or another', async () => {
   for (const other of others) assert.equal(await verify(Multihash.of(18, other), ABC), false);
   const moved = Multihash.of(0, ABC);
   detach(moved.digest);
-  await rejects(TypeError, verify(moved, new Uint8Array()), 'digest detached');
-  for (const gone of withoutMemory())
-    for (const call of [sha256.digest(gone), verify(whole, gone)]) await rejects(TypeError, call, 'content detached');
+  const gone = (name) => TypeError(`${name} is a Uint8Array that is detached or out of bounds`);
+  await assert.rejects(verify(moved, new Uint8Array()), gone('the digest'));
+  for (const content of withoutMemory())
+    for (const call of [sha256.digest(content), verify(whole, content)]) await assert.rejects(call, gone('content'));
 });
 
 test('as many bytes of a digest are read, whichever of them differs', async () => {
@@ -155,30 +156,33 @@ test("a caller's functions are found by code and by name, before those of the pl
 
 test('a function that is missing or wrong', async () => {
   const claim = Multihash.of(0x1e, ABC);
+  const noObject = 'functions must be an object, got';
+  const noHash = 'functions[blake3] must return an object with the methods update and digest, got';
+  const missing = { message: 'this platform has no function for the code 0x1e (blake3): the option functions takes one' };
+  Object.assign(missing, { name: 'UnsupportedHashError', code: 0x1e });
   const wrong = [
-    [TypeError, new Map([[30, summing]]), 'functions object Map Object.fromEntries'],
-    [TypeError, [summing], 'functions Array'],
-    [TypeError, null, 'functions object null'], [TypeError, summing, 'functions object function'],
-    [TypeError, { blake3: ABC }, 'functions[blake3] function Uint8Array'],
-    [TypeError, { 30: null }, 'functions[30] function null'],
-    [TypeError, { blake3: () => ({ update() {} }) }, 'functions[blake3] update digest Object'],
-    [TypeError, { blake3: () => ({ digest() {} }) }, 'functions[blake3] update digest Object'],
-    [TypeError, { blake3: async () => summing() }, 'functions[blake3] update digest Promise'],
-    [TypeError, { blake3: () => ({ ...summing(), digest: () => 'ab' }) }, 'functions[blake3] Uint8Array string'],
-    [UnsupportedHashError, { __proto__: { blake3: summing } }, '0x1e blake3 functions'],
-    [Error, { blake3: () => { throw new Error('broken'); } }, 'broken'],
+    [new Map([[30, summing]]), TypeError(`${noObject} Map: Object.fromEntries(map) makes one`)],
+    [null, TypeError(`${noObject} null`)], [summing, TypeError(`${noObject} function`)],
+    [{ 30: null }, TypeError('functions[30] must be a function, got null')],
+    [{ blake3: () => ({ update() {} }) }, TypeError(`${noHash} Object`)],
+    [{ blake3: () => ({ digest() {} }) }, TypeError(`${noHash} Object`)],
+    [{ blake3: async () => summing() }, TypeError(`${noHash} Promise`)],
+    [{ blake3: () => ({ ...summing(), digest: () => 'ab' }) },
+      TypeError('functions[blake3] must make a digest that is a Uint8Array, got string')],
+    [{ blake3: () => { throw Error('broken'); } }, Error('broken')],
+    [{ __proto__: { blake3: summing } }, missing],
   ];
-  for (const [kind, functions, words] of wrong) {
-    await rejects(kind, verify(claim, ABC, { functions }), words);
-    for (const content of [ABC, chunks(ABC)]) await rejects(kind, digest(content, 'blake3', { functions }), words);
+  for (const [functions, error] of wrong) {
+    await assert.rejects(verify(claim, ABC, { functions }), error);
+    for (const content of [ABC, chunks(ABC)]) await assert.rejects(digest(content, 'blake3', { functions }), error);
   }
   const long = () => ({ update() {}, digest: () => new Uint8Array(256) });
-  await rejects(MultihashError, digest(ABC, 'blake3', { functions: { blake3: long } }), 'digest 256 255');
+  await assert.rejects(digest(ABC, 'blake3', { functions: { blake3: long } }), { status: 'invalid_size', size: 256 });
   Object.prototype.blake3 = 'SHA-256';
-  const verified = rejects(UnsupportedHashError, verify(claim, ABC), '0x1e blake3');
-  const error = await verified.finally(() => delete Object.prototype.blake3);
-  assert.ok(error instanceof RangeError && error.code === 0x1e);
-  fails(UnsupportedHashError, () => new Hasher(0x5555), '0x5555');
+  await assert.rejects(verify(claim, ABC), missing).finally(() => delete Object.prototype.blake3);
+  assert.ok(new UnsupportedHashError(0x1e) instanceof RangeError);
+  const message = 'this platform has no function for the code 0x5555: the option functions takes one';
+  assert.throws(() => new Hasher(0x5555), { message });
 });
 
 test('a source is cancelled after an error, even if nothing was read', async () => {
@@ -202,22 +206,23 @@ test('a source is cancelled after an error, even if nothing was read', async () 
       await new Promise((resolve) => (file.closed ? resolve() : file.once('close', resolve))); // its error ends no process
     }
   }
-  await rejects(TypeError, sha256.digest(iterable), 'chunk stream Uint8Array string encoding');
+  const ofText = 'a chunk of the stream must be a Uint8Array, got string: open the stream without an encoding';
+  await assert.rejects(sha256.digest(iterable), TypeError(ofText));
   assert.equal(reasons.length, 1);
-  for (const [kind, content, words] of [
-    [Error, new ReadableStream({ pull: () => Promise.reject(new Error('broken')) }), 'broken'],
-    [Error, createReadStream('missing'), 'ENOENT'],
-  ]) await rejects(kind, sha256.digest(content), words);
+  const failing = new ReadableStream({ pull: () => Promise.reject(Error('broken')) });
+  await assert.rejects(sha256.digest(failing), Error('broken'));
+  await assert.rejects(sha256.digest(createReadStream('missing')), { code: 'ENOENT' });
   for (const read of [Readable.from([ABC]), createReadStream(FILE)]) {
     await sha256.digest(read);
-    await rejects(TypeError, sha256.digest(read), 'content');
+    await assert.rejects(sha256.digest(read), TypeError('content is a stream that was read before: open it again'));
   }
 });
 
 test('WebCrypto is missing', { skip: byNode }, async () => {
   const { crypto } = globalThis;
   Object.defineProperty(globalThis, 'crypto', { value: undefined, configurable: true });
-  await rejects(TypeError, sha256.digest(ABC), 'WebCrypto HTTPS').finally(() =>
+  const message = 'WebCrypto is missing: a page has it only over HTTPS or on localhost';
+  await assert.rejects(sha256.digest(ABC), TypeError(message)).finally(() =>
     Object.defineProperty(globalThis, 'crypto', { value: crypto, configurable: true }));
 });
 
@@ -235,7 +240,7 @@ test('large content leaves time for other work, and identity copies none', { ski
   const start = process.cpuUsage();
   const larger = new Uint8Array(2 ** 29); // no memory is touched
   assert.equal(await verify(Multihash.of(0, Uint8Array.of(1)), larger), false);
-  await rejects(MultihashError, identity.digest(larger), 'identity');
+  await assert.rejects(identity.digest(larger), { status: 'invalid_size', size: 2 ** 29 });
   const { user, system } = process.cpuUsage(start);
   assert.ok(user + system < 3e5);
 });

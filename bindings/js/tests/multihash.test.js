@@ -3,10 +3,19 @@ import assert from 'node:assert/strict';
 import { test } from 'node:test';
 import { inspect } from 'node:util';
 import { Multihash, MultihashError, compare, decode, encode, head, read } from '../index.js';
-import { KINDS, detach, fails, hex, unhex, withoutMemory } from './support.js';
+import { KINDS, detach, hex, unhex, withoutMemory } from './support.js';
 
 const EXAMPLE = unhex('1620644bcc7e564373040999aac89e7622f3ca71fba1d972fd94a31c3bfbf24e3938');
+const EMPTY = new Uint8Array();
 const LONG = 2n ** 53n; // the least code that is a bigint
+
+function thrown(call) {
+  try {
+    return call();
+  } catch (error) {
+    return error;
+  }
+}
 
 test('fields', () => {
   const multihash = decode(EXAMPLE);
@@ -15,10 +24,10 @@ test('fields', () => {
   assert.deepEqual(multihash.bytes, EXAMPLE);
   assert.equal(multihash.digestHex, hex(EXAMPLE.subarray(2)));
   assert.equal(`${multihash}`, hex(EXAMPLE));
-  assert.equal(Multihash.of(18, new Uint8Array()).digestHex, '');
+  assert.equal(Multihash.of(18, EMPTY).digestHex, '');
   assert.ok(Object.is(Multihash.of(-0, EXAMPLE.subarray(2)).code, 0));
   assert.equal(inspect(multihash), `Multihash(0x16, ${multihash.digestHex})`);
-  assert.equal(inspect(Multihash.of(2n ** 63n - 1n, new Uint8Array())), 'Multihash(0x7fffffffffffffff, empty)');
+  assert.equal(inspect(Multihash.of(2n ** 63n - 1n, EMPTY)), 'Multihash(0x7fffffffffffffff, empty)');
 });
 
 test('a multihash has a copy of the bytes, of each kind of memory', () => {
@@ -49,7 +58,7 @@ test('a code is a number if that is exact', () => {
       assert.equal(JSON.stringify(each), json);
       assert.equal(typeof each.code, code < LONG ? 'number' : 'bigint');
       if (code < LONG) assert.equal(each.narrow(), each);
-      else fails(RangeError, () => each.narrow(), 'code 9007199254740992 2^53 bigint');
+      else assert.throws(() => each.narrow(), RangeError('the code 9007199254740992 is 2^53 or more, so it is a bigint'));
     }
   }
   const { code, digestLength } = head(encode(LONG, EXAMPLE));
@@ -59,27 +68,29 @@ test('a code is a number if that is exact', () => {
 test('texts and JSON', () => {
   for (const text of [hex(EXAMPLE), hex(EXAMPLE).toUpperCase()])
     assert.deepEqual(Multihash.fromHex(text), decode(EXAMPLE));
-  const noHex = [['162', '3'], ['1g01', '"g" index 1'], ['0x16', '"x" 1'], ['\n160', '\\n 0'], ['1\u{1f600}', '\u{1f600} 1']];
-  for (const [text, words] of noHex)
-    assert.equal(fails(MultihashError, () => Multihash.fromHex(text), words).status, 'not_hexadecimal');
+  const noHex = [['1g01', 'g', 1], ['0x16', 'x', 1], ['\n160', '\\n', 0], ['1\u{1f600}', '\u{1f600}', 1]]
+    .map(([text, digit, at]) => [text, `the text has "${digit}" at index ${at}, which is no hexadecimal digit`]);
+  for (const [text, message] of [['162', 'the text has an odd number of digits, 3'], ...noHex])
+    assert.throws(() => Multihash.fromHex(text), { name: 'MultihashError', status: 'not_hexadecimal', message });
   const json = { code: 18, size: 2, digest: '00ab' };
   for (const each of [json, { code: '18', digest: '00AB' }, { ...json, code: 18n }])
     assert.equal(`${Multihash.fromJSON(each)}`, '120200ab');
+  const most = 'code must be from 0 to 2^63 - 1, got';
   const wrong = [
-    [TypeError, '{}', 'json object string JSON.parse'], [TypeError, null, 'json object null'],
-    [TypeError, {}, 'digest string undefined'],
-    [TypeError, { ...json, code: undefined }, 'code number undefined'], [TypeError, { ...json, code: '' }, 'code string'],
-    [TypeError, { ...json, code: '0x12' }, 'code string CODES'], [RangeError, { ...json, code: -1 }, 'code 2^53 -1'],
-    [RangeError, { ...json, code: '9'.repeat(99) }, `code 2^63 ${'9'.repeat(40)}...`],
-    [RangeError, { ...json, code: '18'.padStart(21, '0') }, `code 2^63 ${'18'.padStart(21, '0')}`],
-    [TypeError, { ...json, digest: EXAMPLE }, 'digest string Uint8Array'],
-    [MultihashError, { ...json, digest: '00a' }, 'digest odd 3'],
-    [RangeError, { ...json, size: 3 }, 'size 2 3'], [RangeError, { ...json, size: '2' }, 'size 2 2'],
-    [MultihashError, { code: 18, digest: '00'.repeat(256) }, 'digest 256 255'],
-    [MultihashError, { ...json, code: `${2n ** 64n - 1n}` }, `code ${2n ** 64n - 1n} 2^63`],
-    [TypeError, { ...json, code: ['18'] }, 'code number Array'],
+    ['{}', TypeError('json must be an object, got string: JSON.parse(text) makes one')],
+    [null, TypeError('json must be an object, got null')],
+    [{}, TypeError('digest must be a string, got undefined')],
+    [{ ...json, code: undefined }, TypeError('code must be a number or a bigint, got undefined')],
+    [{ ...json, code: '' }, TypeError('code must be a number or a bigint, got string: CODES has the codes of names')],
+    [{ ...json, code: '9'.repeat(99) }, RangeError(`${most} ${'9'.repeat(40)}...`)],
+    [{ ...json, code: '18'.padStart(21, '0') }, RangeError(`${most} ${'18'.padStart(21, '0')}`)],
+    [{ ...json, size: 3 }, RangeError('size must be 2, the length of the digest, got 3')],
+    [{ ...json, size: '2' }, RangeError('size must be 2, the length of the digest, got 2')],
+    [{ ...json, digest: '00a' }, { status: 'not_hexadecimal', message: 'the digest has an odd number of digits, 3' }],
+    [{ code: 18, digest: '00'.repeat(256) }, { status: 'invalid_size', size: 256 }],
+    [{ ...json, code: `${2n ** 64n - 1n}` }, { status: 'invalid_code', code: 2n ** 64n - 1n }],
   ];
-  for (const [kind, each, words] of wrong) fails(kind, () => Multihash.fromJSON(each), words);
+  for (const [each, error] of wrong) assert.throws(() => Multihash.fromJSON(each), error);
 });
 
 test('what has the same code and the same digest is equal', () => {
@@ -105,14 +116,16 @@ test('a digest without its memory', () => {
   const [moved, whole] = [decode(EXAMPLE), decode(EXAMPLE)];
   detach(moved.digest);
   const calls = [
-    [() => compare(moved, whole), 'left'], [() => compare(whole, moved), 'right'], [() => moved.equals(whole), 'detached'],
-    [() => whole.equals(moved), 'detached'], [() => moved.equals({ code: 22, digest: new Uint8Array() }), 'detached'],
-    [() => moved.digestHex, 'detached'], [() => `${moved}`, 'detached'], [() => JSON.stringify(moved), 'detached'],
+    ['left', () => compare(moved, whole)], ['right', () => compare(whole, moved)],
+    ['this multihash', () => moved.equals(whole)], ['this multihash', () => moved.equals({ code: 22, digest: EMPTY })],
+    ['this multihash', () => moved.digestHex], ['this multihash', () => JSON.stringify(moved)],
   ];
-  for (const [call, words] of calls) fails(TypeError, call, `digest ${words}`);
+  for (const [name, call] of calls) assert.throws(call, TypeError(`the digest of ${name} is detached or was replaced`));
+  assert.throws(() => `${moved}`, TypeError('digest is a Uint8Array that is detached or out of bounds'));
   assert.equal(inspect(moved), 'Multihash(0x16, detached)');
-  for (const digest of withoutMemory())
-    fails(TypeError, () => Multihash.of(18, new Uint8Array()).equals({ code: 18, digest }), 'other digest detached');
+  for (const digest of [moved.digest, ...withoutMemory()])
+    assert.throws(() => Multihash.of(18, EMPTY).equals({ code: 18, digest }),
+      TypeError('the other digest is a Uint8Array that is detached or out of bounds'));
 });
 
 test('errors have fields that are exact, and are restored from a clone', () => {
@@ -128,7 +141,7 @@ test('errors have fields that are exact, and are restored from a clone', () => {
     [() => Multihash.fromHex(''), '"insufficient","consumed":0'],
   ];
   for (const [call, rest] of cases) {
-    const error = fails(MultihashError, call, '');
+    const error = thrown(call);
     const start = `{"name":"MultihashError","message":${JSON.stringify(error.message)},"status":`;
     assert.equal(JSON.stringify(error), `${start}${rest}}`);
     assert.deepEqual(Object.keys(error), ['status', 'size', 'code', 'consumed']); // what console.log shows
@@ -145,7 +158,7 @@ test('errors have fields that are exact, and are restored from a clone', () => {
 test('the fields of an error are its own, whatever Object.prototype has', () => {
   Object.assign(Object.prototype, { size: 5, code: 6 });
   try {
-    const { size, code, consumed } = fails(MultihashError, () => head(unhex('8000')), '');
+    const { size, code, consumed } = thrown(() => head(unhex('8000')));
     assert.equal(`${size} ${code} ${consumed}`, 'undefined undefined 2');
   } finally {
     delete Object.prototype.size;

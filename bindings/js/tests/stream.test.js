@@ -5,7 +5,7 @@ import { Readable } from 'node:stream';
 import { test } from 'node:test';
 import { setImmediate, setTimeout } from 'node:timers/promises';
 import { FrameReader, MultihashError, MultihashReader, encode, encodeVarint } from '../index.js';
-import { detach, fails, hex, rejects, unhex } from './support.js';
+import { detach, hex, unhex } from './support.js';
 
 const DIGESTS = [[0x12, new Uint8Array(32).fill(7)], [0, new Uint8Array()], [2n ** 62n, new Uint8Array(255).fill(9)]];
 const MULTIHASHES = DIGESTS.map(([code, digest]) => hex(encode(code, digest)));
@@ -18,6 +18,8 @@ const READERS = [
   { Reader: MultihashReader, items: MULTIHASHES, encodings: MULTIHASHES },
   { Reader: FrameReader, items: FRAMES, encodings: FRAMES.map((frame, at) => PREFIXES[at] + frame) },
 ];
+
+const RELEASED = 'release() was called, so this reader reads no more';
 
 const textOf = (item) => item && hex(item.bytes ?? item);
 
@@ -75,8 +77,10 @@ async function cutAt(cut, { Reader, items, encodings }, starts) {
 /** The error of a frame of which that many bytes are there names its number and its offset. */
 function checkFrame(reader, error, count, there) {
   const varint = PREFIXES[count].length / 2;
-  const words = there < varint ? 'inside varint' : `${there - varint} of ${FRAMES[count].length / 2}`;
-  fails(MultihashError, () => { throw error; }, `frame ${count} offset ${reader.consumed} ${words}`);
+  const [found, size] = [there - varint, FRAMES[count].length / 2];
+  const place = `${found > 0 ? 'inside' : 'before'} the frame (${found} of ${size} byte${size === 1 ? '' : 's'})`;
+  const reason = `the input ends ${there < varint ? 'inside the varint' : place}`;
+  assert.equal(error.message, `frame ${count} at offset ${reader.consumed}: ${reason}`);
   assert.equal(error.consumed, Math.min(varint, there));
 }
 
@@ -90,19 +94,26 @@ for (const reader of READERS)
 test('an item that is too long, before its bytes arrive, or malformed', async () => {
   const [long, most] = [2 ** 22 + 1, 2n ** 63n - 1n];
   const cases = [
-    [FrameReader, '0103', { limit: 0 }, ['invalid_size', 1, 1], 'frame 0 offset 0 1 byte limit 0'],
-    [FrameReader, '0301020304', { limit: 3 }, ['invalid_size', 4, 1], 'frame 1 offset 4 4 bytes limit 3'],
-    [FrameReader, `00${hex(encodeVarint(long))}`, {}, ['invalid_size', long, 4], `frame 1 ${long} bytes limit ${long - 1}`],
-    [FrameReader, hex(encodeVarint(most)), { limit: 2n ** 53n }, ['invalid_size', most, 9], `${most} bytes`],
-    [FrameReader, '0102ff00', {}, ['not_minimal', undefined, 2], 'frame 1 offset 2 varint minimal'],
-    [FrameReader, 'ff'.repeat(9), {}, ['overflow', undefined, 9], 'frame 0 offset 0 varint nine bytes'],
-    [MultihashReader, '1220', { limit: 31 }, ['invalid_size', 32, 2], 'digest 32 31'],
-    [MultihashReader, '12ac02', { limit: 2n ** 63n }, ['invalid_size', 300, 3], 'digest 300 255'],
+    [FrameReader, '0103', { limit: 0 }, ['invalid_size', 1, 1],
+      'frame 0 at offset 0: the frame has 1 byte, and the limit is 0'],
+    [FrameReader, '0301020304', { limit: 3 }, ['invalid_size', 4, 1],
+      'frame 1 at offset 4: the frame has 4 bytes, and the limit is 3'],
+    [FrameReader, `00${hex(encodeVarint(long))}`, {}, ['invalid_size', long, 4],
+      `frame 1 at offset 1: the frame has ${long} bytes, and the limit is ${long - 1}`],
+    [FrameReader, hex(encodeVarint(most)), { limit: 2n ** 53n }, ['invalid_size', most, 9],
+      `frame 0 at offset 0: the frame has ${most} bytes, and the limit is ${2n ** 53n}`],
+    [FrameReader, '0102ff00', {}, ['not_minimal', undefined, 2],
+      'frame 1 at offset 2: the varint is not minimal: it ends in a zero byte'],
+    [FrameReader, 'ff'.repeat(9), {}, ['overflow', undefined, 9],
+      'frame 0 at offset 0: the varint has more than nine bytes'],
+    [MultihashReader, '1220', { limit: 31 }, ['invalid_size', 32, 2], 'the digest has 32 bytes, and the limit is 31'],
+    [MultihashReader, '12ac02', { limit: 2n ** 63n }, ['invalid_size', 300, 3],
+      'the digest has 300 bytes, and the limit is 255'],
   ];
-  for (const [Reader, text, options, fields, words] of cases) {
+  for (const [Reader, text, options, fields, message] of cases) {
     const { error } = await drained(new Reader(streamOf([unhex(text)], () => {}), options));
-    fails(MultihashError, () => { throw error; }, words);
-    assert.deepEqual([error.status, error.size, error.consumed], fields);
+    assert.ok(error instanceof MultihashError);
+    assert.deepEqual([error.status, error.size, error.consumed, error.message], [...fields, message]);
   }
 });
 
@@ -130,18 +141,19 @@ test('a source that fails, and a chunk that is no bytes', async () => {
   const moved = new Uint8Array(1);
   detach(moved);
   const sources = [
-    [Error, failing(), 'broken'], [Error, Readable.from(failing()), 'broken'],
-    [Error, streamOf([part], (controller) => controller.error(new Error('broken'))), 'broken'],
-    [TypeError, Readable.from([part, 'text']), 'chunk stream Uint8Array string encoding'],
-    [TypeError, Readable.from([part, moved]), 'chunk stream detached'],
-    [Error, streamOf([part], (controller) => controller.error()), 'the source failed without a reason'],
-    [Error, streamOf([part], (controller) => controller.error(null)), 'the source failed without a reason'],
+    [failing(), Error('broken')], [Readable.from(failing()), Error('broken')],
+    [streamOf([part], (controller) => controller.error(Error('broken'))), Error('broken')],
+    [streamOf([part], (controller) => controller.error()), Error('the source failed without a reason')],
+    [streamOf([part], (controller) => controller.error(null)), Error('the source failed without a reason')],
+    [Readable.from([part, 'text']),
+      TypeError('a chunk of the stream must be a Uint8Array, got string: open the stream without an encoding')],
+    [Readable.from([part, moved]), TypeError('a chunk of the stream is a Uint8Array that is detached or out of bounds')],
   ];
-  for (const [kind, source, words] of sources) {
+  for (const [source, error] of sources) {
     const reader = new MultihashReader(source);
-    await rejects(kind, reader.read(), words);
+    await assert.rejects(reader.read(), error);
     reader.release();
-    await rejects(kind, reader.read(), words); // the same from then on
+    await assert.rejects(reader.read(), error); // the same from then on
     reader.rest.fill(0); // a copy
     assert.deepEqual(reader.rest, part);
   }
@@ -160,7 +172,7 @@ test('an error releases a stream for another reader, and a loop that it ends can
   const { rest } = ended;
   const loop = new MultihashReader(left, { limit: 31, rest })[Symbol.asyncIterator]();
   rest.fill(0); // the reader has a copy
-  await rejects(MultihashError, loop.next(), 'digest 32 31');
+  await assert.rejects(loop.next(), { name: 'MultihashError', message: 'the digest has 32 bytes, and the limit is 31' });
   assert.deepEqual([cancelled, left.locked], [1, false]);
 });
 
@@ -168,7 +180,7 @@ test('a loop ends as that over an async generator, and cancels the source unless
   const end = { done: true, value: undefined };
   const endings = [
     [true, async (loop) => assert.deepEqual(await loop.return(7), { done: true, value: 7 })],
-    [true, (loop) => rejects(Error, loop.throw(new Error('left')), 'left')],
+    [true, (loop) => assert.rejects(loop.throw(Error('left')), Error('left'))],
     [true, async (loop) => { for await (const item of loop) if (item) break; }],
     [true, (loop) => loop[Symbol.asyncDispose ?? 'return']()],
     [false, async (loop, reader) => { reader.release(); await loop.return(); }],
@@ -183,7 +195,7 @@ test('a loop ends as that over an async generator, and cancels the source unless
     assert.deepEqual([isCancelled, source.locked], [cancels, false]);
     assert.deepEqual([await loop.next(), await loop.next()], [end, end]);
     if (cancels) assert.equal(await reader.read(), null);
-    else await rejects(TypeError, reader[Symbol.asyncIterator]().next(), 'release');
+    else await assert.rejects(reader[Symbol.asyncIterator]().next(), TypeError(RELEASED));
   }
   const waiting = new MultihashReader(new ReadableStream())[Symbol.asyncIterator]();
   const next = waiting.next();
@@ -267,14 +279,14 @@ test("a source's error at a cancellation is that of the call, if that has no oth
   for (const [sourceOf, text] of [[(bytes) => streamOf([bytes], () => {}, fail), 'why'], [iterable, 'stuck']]) {
     const [first, second, left] = [[0x80, 0], [0x80, 0], [1, 0]].map((bytes) => sourceOf(Uint8Array.from(bytes)));
     const reader = new MultihashReader(first);
-    await rejects(MultihashError, reader.read(), 'minimal');
-    await rejects(Error, reader.cancel('why'), text);
+    await assert.rejects(reader.read(), { status: 'not_minimal' });
+    await assert.rejects(reader.cancel('why'), Error(text));
     hasEnded = false;
-    await rejects(MultihashError, new MultihashReader(second)[Symbol.asyncIterator]().next(), 'minimal');
+    await assert.rejects(new MultihashReader(second)[Symbol.asyncIterator]().next(), { status: 'not_minimal' });
     assert.ok(hasEnded);
     const loop = new MultihashReader(left)[Symbol.asyncIterator]();
     await loop.next();
-    await rejects(Error, loop.return(), 'stuck');
+    await assert.rejects(loop.return(), Error('stuck'));
     assert.ok(!left.locked);
   }
 });
@@ -292,6 +304,6 @@ test('streams of Node.js', async () => {
   new MultihashReader(early); // adds no listener, and removes none
   await new Promise((resolve) => early.once('close', resolve));
   assert.equal(early.listenerCount('error'), 2);
-  await rejects(Error, reader.read(), 'ENOENT');
+  await assert.rejects(reader.read(), { code: 'ENOENT' });
   await setImmediate(); // an error without a listener would have ended the process
 });

@@ -1,5 +1,4 @@
 // What the tests share: the test vectors, and bytes in memory of each kind.
-import assert from 'node:assert/strict';
 import { readFileSync } from 'node:fs';
 import { dirname, join } from 'node:path';
 import { fileURLToPath } from 'node:url';
@@ -15,28 +14,6 @@ export function rowsOf(name) {
   const text = readFileSync(name === 'verdicts' ? vectors : join(dirname(vectors), `${name}.tsv`), 'utf8');
   const [columns, ...lines] = text.trimEnd().split('\n').map((line) => line.split('\t'));
   return lines.map((words) => Object.fromEntries(columns.map((column, at) => [column, words[at]])));
-}
-
-/** Returns the error of a call: of that class, with these words in this order in its text, whatever the sentence. */
-export function fails(kind, call, words) {
-  let error;
-  assert.throws(call, (found) => checkError((error = found), kind, words));
-  return error;
-}
-
-/** The same of a promise. */
-export async function rejects(kind, promise, words) {
-  let error;
-  await assert.rejects(promise, (found) => checkError((error = found), kind, words));
-  return error;
-}
-
-function checkError({ name, message }, kind, words) {
-  assert.equal(name, kind.name, message);
-  const parts = words.split(' ').map((word) => word.replace(/[.*+?^${}()|[\]\\]/g, '\\$&'));
-  assert.match(message, new RegExp(parts.map((part) => part && `(?<![\\w.])${part}(?![\\w.])`).join('.*')));
-  assert.doesNotMatch(message, /[:(] ?undefined/); // a hint or a name that is missing
-  return true;
 }
 
 /** A subclass that says something else of itself than its bytes are. */
