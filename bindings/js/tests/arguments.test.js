@@ -91,7 +91,8 @@ test('sources and options of readers', () => {
   const sources = [
     [null, 'null'], [3, '3'], ['path', 'string: createReadStream(path) opens a file'], [[EXAMPLE], OF_ARRAY],
     [EXAMPLE, 'Uint8Array: new Blob([bytes]).stream() makes one'],
-    [new Response(), 'Response: its body is a ReadableStream'], [new Blob([]), `Blob: ${ofBlob}`], [new File([], ''), `File: ${ofBlob}`], [new (class {})(), 'Object'],
+    [new Response(), 'Response: its body is a ReadableStream'],
+    [new Blob([]), `Blob: ${ofBlob}`], [new File([], ''), `File: ${ofBlob}`], [new (class {})(), 'Object'],
     [{ [Symbol.asyncIterator]: () => null }, 'Object'], [{ [Symbol.asyncIterator]: () => ({}) }, 'Object'],
   ];
   const options = [

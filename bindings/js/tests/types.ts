@@ -23,6 +23,8 @@ new Multihash();
 found.code = 18;
 // @ts-expect-error bytes are no text
 decode('1200');
+// @ts-expect-error bytes are no other view
+decode(new Uint8ClampedArray(2));
 // @ts-expect-error a limit is a number
 read(bytes, '9');
 
