@@ -101,10 +101,8 @@ export class CID {
     if (text.length > CID_TEXT_MAX) throw new CIDError('too_long', `the text has more than ${CID_TEXT_MAX} characters`);
     const bytes = base.decode(text.slice(start));
     if (!bytes) throw new CIDError('trailing_bits', `the last digit of ${base.name} has bits of no byte`);
-    if (isVersion0(bytes) && !hasNoPrefix)
-      throw new CIDError('wrong_prefix', 'a CID of version 0 has the text Qm.., without a prefix');
-    if (hasNoPrefix && !isVersion0(bytes))
-      throw new CIDError('wrong_prefix', 'a text that starts with Qm must be of a CID of version 0');
+    if (isVersion0(bytes) !== hasNoPrefix)
+      throw new CIDError('wrong_prefix', 'a CID of version 0 has the text Qm.., and no other has');
     return CID.decode(bytes);
   }
 
