@@ -1,31 +1,25 @@
-// Content identifiers (CIDs), as bytes and as texts.
+// Content identifiers (CIDs), as bytes and as texts. cid.d.ts documents what is public.
 import { checkedLength, checkedWide, shown, viewOf, wrongType } from './arguments.js';
 import { BASES } from './bases.js';
 import { encodeVarint, readVarint } from './core.js';
 import { LENGTH_MAX, VARINT_LENGTH_MAX } from './limits.js';
 import { MAKING, Multihash, decode, read } from './multihash.js';
 
-/** The codecs that most CIDs have, by their names in the multicodec table. */
 export const CODECS = Object.freeze({
   __proto__: null, raw: 0x55, 'dag-pb': 0x70, 'dag-cbor': 0x71, 'libp2p-key': 0x72, 'dag-json': 0x129,
 });
 
-/** The maximum length of an encoding, in bytes. */
 export const CID_LENGTH_MAX = 1 + VARINT_LENGTH_MAX + LENGTH_MAX;
-/**
- * The maximum length of a text, in characters: that of base16, whose texts are the longest. A longer text is not decoded,
- * since the time for base58 grows with the square of the length.
- */
+// The length of a text in base16, whose texts are the longest. A longer text is not decoded, since the time for base58 grows
+// with the square of the length.
 export const CID_TEXT_MAX = 1 + 2 * CID_LENGTH_MAX;
 
-/** The error for a text, bytes or fields that are no CID. */
 export class CIDError extends Error {
   constructor(status, message, options) {
     super(message, options);
     this.status = status;
   }
 
-  /** Returns the name, the message and the status, for JSON.stringify. */
   toJSON() {
     return { name: this.name, message: this.message, status: this.status };
   }
@@ -53,7 +47,6 @@ function headOf(bytes, length) {
   return { version: 1, codec: codec.value, start: version.consumed + codec.consumed };
 }
 
-/** A version, a codec and a multihash. */
 export class CID {
   constructor(making, version, codec, multihash) {
     if (making !== MAKING) throw new TypeError('CID.of(version, codec, multihash) makes a CID');
@@ -62,7 +55,6 @@ export class CID {
     this.multihash = multihash;
   }
 
-  /** Makes the CID of a version, a codec and a multihash. */
   static of(version, codec, multihash) {
     const number = checkedWide(codec, 'codec');
     if (!(multihash instanceof Multihash)) throw wrongType('multihash', 'a Multihash', multihash);
@@ -73,14 +65,12 @@ export class CID {
     return new CID(MAKING, Number(version), number, multihash);
   }
 
-  /** Decodes the CID whose encoding is the whole of the bytes. */
   static decode(bytes) {
     const length = checkedLength(bytes, 'bytes');
     const { version, codec, start } = headOf(bytes, length);
     return CID.of(version, codec, ofPart('multihash', () => decode(viewOf(bytes, start, length - start))));
   }
 
-  /** Decodes the CID whose encoding is a prefix of the bytes. */
   static read(bytes) {
     const length = checkedLength(bytes, 'bytes');
     const { version, codec, start } = headOf(bytes, length);
@@ -88,7 +78,6 @@ export class CID {
     return { cid: CID.of(version, codec, multihash), consumed: start + consumed };
   }
 
-  /** Decodes the text of a CID. */
   static parse(text) {
     if (typeof text !== 'string') throw wrongType('text', 'a string', text);
     if (text === '') throw new CIDError('insufficient', 'the text is empty');
@@ -106,13 +95,11 @@ export class CID {
     return CID.decode(bytes);
   }
 
-  /** The encoding, which is made each time. */
   get bytes() {
     const { bytes } = this.multihash;
     return this.version === 0 ? bytes : Uint8Array.of(1, ...encodeVarint(this.codec), ...bytes);
   }
 
-  /** Returns the text in the base that has this prefix. */
   toString(base = this.version === 0 ? 'z' : 'b') {
     if (!BASES[base] || (this.version === 0 && base !== 'z'))
       throw new RangeError(`base must be 'b', 'f' or 'z', and 'z' for version 0, got ${shown(base)}`);
@@ -120,7 +107,6 @@ export class CID {
     return this.version === 0 ? digits : base + digits;
   }
 
-  /** Returns the text, for JSON.stringify. */
   toJSON() {
     return this.toString();
   }
@@ -130,7 +116,6 @@ export class CID {
     return `CID(${this})`;
   }
 
-  /** Returns whether another value is a CID with the same version, codec and multihash. */
   equals(other) {
     return other instanceof CID && other.version === this.version && other.codec === this.codec &&
       this.multihash.equals(other.multihash);

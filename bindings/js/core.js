@@ -1,4 +1,5 @@
-// The public functions over bytes and numbers: they check the arguments, call format.js, and throw an error if that fails.
+// The public functions over bytes and numbers, which index.d.ts documents: they check the arguments, call format.js, and
+// throw an error if that fails.
 import { checkedLength, checkedWide, viewOf, wrongType } from './arguments.js';
 import { MultihashError, errorOf, varintReasonOf } from './errors.js';
 import * as format from './format.js';
@@ -16,7 +17,6 @@ function encodingError(status, code, length) {
   return new MultihashError(tooLong('digest', length, DIGEST_MAX), { status, size: length });
 }
 
-/** Returns the encoding of a code and a digest. */
 export function encode(code, digest) {
   const number = checkedWide(code, 'code');
   const length = checkedLength(digest, 'digest');
@@ -24,7 +24,6 @@ export function encode(code, digest) {
   return format.encode(number, digest, length);
 }
 
-/** Returns the SCALE encoding of a code and a digest. */
 export function scaleEncode(code, digest) {
   const number = checkedWide(code, 'code');
   const length = checkedLength(digest, 'digest');
@@ -32,7 +31,6 @@ export function scaleEncode(code, digest) {
   return format.scaleEncode(number, digest, length);
 }
 
-/** Returns the length of the encoding of a code and a digest of that length. */
 export function encodedLength(code, digestLength) {
   const number = checkedWide(code, 'code');
   const length = checkedWide(digestLength, 'digestLength');
@@ -40,7 +38,6 @@ export function encodedLength(code, digestLength) {
   return format.encodedLength(number, length);
 }
 
-/** Decodes the two varints before a digest. */
 export function head(bytes) {
   const length = checkedLength(bytes, 'bytes');
   const found = format.head(bytes, 0, length);
@@ -57,7 +54,6 @@ function checkedValue(value) {
   throw new MultihashError(tooLarge('value', value), { status: 'overflow' });
 }
 
-/** Returns the varint of a number. */
 export function encodeVarint(value) {
   const number = checkedValue(value);
   const bytes = new Uint8Array(format.varintLength(number));
@@ -65,7 +61,6 @@ export function encodeVarint(value) {
   return bytes;
 }
 
-/** Writes the varint of a number to bytes, from an index on, and returns its length. */
 export function writeVarint(value, bytes, at = 0) {
   const room = checkedLength(bytes, 'bytes');
   const number = checkedValue(value);
@@ -77,7 +72,6 @@ export function writeVarint(value, bytes, at = 0) {
   return length;
 }
 
-/** Decodes the varint at the start of the bytes. */
 export function readVarint(bytes) {
   const length = checkedLength(bytes, 'bytes');
   const { status, value, next } = format.readVarint(bytes, 0, length);
@@ -95,7 +89,6 @@ function columnsOf(capacity, others = {}) {
   return columns;
 }
 
-/** Decodes the multihashes at the start of the bytes, one after the other, into columns. */
 export function readMany(bytes) {
   const length = checkedLength(bytes, 'bytes');
   const view = viewOf(bytes, 0, length);

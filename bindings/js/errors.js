@@ -1,4 +1,4 @@
-// MultihashError, the error for invalid input, and the functions that choose its message.
+// MultihashError, which index.d.ts documents, and the functions that choose its message.
 import * as format from './format.js';
 import * as texts from './statuses.js';
 
@@ -7,29 +7,25 @@ const ALL = [...texts.STATUSES.slice(1), 'not_hexadecimal'];
 /** Returns what JSON.stringify accepts: a bigint as decimal text, a number as it is. */
 export const forJSON = (number) => (typeof number === 'bigint' ? `${number}` : number);
 
-/** The error for invalid input. `cause` repeats the fields, since `structuredClone` keeps it and drops them: see `from`. */
 export class MultihashError extends Error {
   constructor(message, details) {
     const { status, size, code, consumed } = { __proto__: null, ...details };
     const fields = { status, size, code, consumed };
-    super(message, { cause: fields });
+    super(message, { cause: fields }); // `structuredClone` keeps the cause, and drops other fields
     Object.assign(this, fields);
   }
 
-  /** Returns the name, the message and the fields, for JSON.stringify. */
   toJSON() {
     const { name, message, status, size, code, consumed } = this;
     return { name, message, status, size: forJSON(size), code: forJSON(code), consumed };
   }
 
-  /** Restores an error from its clone. Returns a MultihashError as it is, and undefined for other values. */
   static from(value) {
     if (value instanceof MultihashError) return value;
     const cause = value?.cause;
     return ALL.includes(cause?.status) ? new MultihashError(value.message, cause) : undefined;
   }
 
-  /** Whether the input is truncated. In every call but `decode`, more input can change the result only then. */
   get isIncomplete() {
     return texts.INCOMPLETE.includes(this.status);
   }

@@ -1,4 +1,4 @@
-// Makes and verifies multihashes with the hash functions of node:crypto or WebCrypto.
+// Makes and verifies multihashes with the hash functions of node:crypto or WebCrypto. hashes.d.ts documents what is public.
 import {
   bufferOf, checkedLength, checkedObject, checkedOptions, checkedWide, isBytes, received, shown, viewOf, wrongType,
 } from './arguments.js';
@@ -15,7 +15,6 @@ const node = globalThis.process?.getBuiltinModule?.('node:crypto');
 
 const PIECE = node ? 2 ** 20 : Infinity; // bytes that are hashed at once: all by WebCrypto, which has another thread
 
-/** The error for a hash function that neither the platform nor the option `functions` has. Nothing was hashed. */
 export class UnsupportedHashError extends RangeError {
   constructor(code) {
     const name = NAMES[code] ? ` (${NAMES[code]})` : '';
@@ -176,14 +175,12 @@ function multihashOf(code, whole, truncate) {
   return Multihash.of(code, whole.subarray(0, size));
 }
 
-/** Hashes the content with the function of a name or a code, and returns the multihash. */
 export const digest = (content, hash, options = {}) => reading(content, async (open) => {
   const { truncate, functions } = checkedOptions(options, ['truncate', 'functions']);
   const code = codeOf(hash);
   return multihashOf(code, await hashOf(creatorOf(code, functions), content, open), truncate);
 });
 
-/** Makes the multihash of bytes that are passed in parts. */
 export class Hasher {
   #code;
   #hash;
@@ -195,7 +192,6 @@ export class Hasher {
     this.#hash = creatorOf(this.#code, functions)();
   }
 
-  /** Appends bytes, and returns this hasher. */
   update(content) {
     const length = checkedLength(content, 'content');
     if (this.#multihash) throw new TypeError('multihash() was called, so this hasher takes no more bytes');
@@ -203,7 +199,6 @@ export class Hasher {
     return this;
   }
 
-  /** Returns the multihash of all bytes. */
   multihash() {
     this.#multihash ??= this.#finish();
     return this.#multihash;
@@ -214,7 +209,6 @@ export class Hasher {
   }
 }
 
-/** The functions that this platform has, by their names. */
 export const hashers = { __proto__: null };
 for (const name of Object.keys(creators))
   hashers[name] = Object.freeze({ name, code: CODES[name], digest: (content, options) => digest(content, name, options) });
@@ -229,7 +223,6 @@ function claimOf(multihash) {
   return Multihash.of(multihash.code, multihash.digest);
 }
 
-/** Returns whether a multihash, or its encoding, is that of the content. */
 export const verify = (multihash, content, options = {}) => reading(content, async (open) => {
   const { functions } = checkedOptions(options, ['functions']);
   if (!isBytes(content)) open(); // before the multihash is checked, so that the error of swapped arguments names the content

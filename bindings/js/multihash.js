@@ -1,4 +1,4 @@
-// The class Multihash, and the functions that decode and compare multihashes.
+// The class Multihash, and the functions that decode and compare multihashes. index.d.ts documents what is public.
 import { checkedLength, checkedWide, copyOf, isBytes, shown, wrongType } from './arguments.js';
 import { hex, unhex } from './bases.js';
 import { checkPair, encode } from './core.js';
@@ -9,18 +9,15 @@ import { DIGEST_MAX } from './limits.js';
 /** The first argument of the constructors. It is not exported by the package, so its users call `of`, which checks. */
 export const MAKING = Symbol('making');
 
-/**
- * A code, which names a hash function, and a digest. The fields are not frozen: that would double the time of `decode`.
- */
 export class Multihash {
   constructor(making, code, digest) {
     if (making !== MAKING) throw new TypeError('Multihash.of(code, digest) makes a multihash');
+    // the fields are not frozen: that would double the time of `decode`
     this.code = code;
     this.size = digest.length;
     this.digest = digest;
   }
 
-  /** Makes the multihash of a code and a digest, which is copied. */
   static of(code, digest) {
     const length = checkedLength(digest, 'digest');
     const number = checkedWide(code, 'code');
@@ -29,12 +26,10 @@ export class Multihash {
     return new Multihash(MAKING, number, copy.length === length ? copy : copy.slice(0, length)); // shared memory may grow
   }
 
-  /** Decodes a multihash from hexadecimal. */
   static fromHex(text) {
     return decode(unhex(text));
   }
 
-  /** Makes the multihash of what `toJSON` returned. */
   static fromJSON(json) {
     if (typeof json !== 'object' || json === null) throw wrongType('json', 'an object', json);
     const { code, size, digest } = json;
@@ -47,22 +42,18 @@ export class Multihash {
     return Multihash.of(isText ? BigInt(code) : code, bytes);
   }
 
-  /** The encoding, which is made each time. */
   get bytes() {
     return encode(this.code, this.digest);
   }
 
-  /** The digest in hexadecimal. */
   get digestHex() {
     return hex(checkedDigest(this, 'this multihash'));
   }
 
-  /** The encoding in hexadecimal. */
   toString() {
     return hex(this.bytes);
   }
 
-  /** Returns the code, the size, and the digest in hexadecimal, for JSON.stringify. */
   toJSON() {
     return { code: forJSON(this.code), size: this.size, digest: this.digestHex };
   }
@@ -73,7 +64,6 @@ export class Multihash {
     return `Multihash(0x${this.code.toString(16)}, ${digest})`;
   }
 
-  /** Returns whether another value, such as a digest of js-multiformats, has the same code and digest. */
   equals(other) {
     const digest = checkedDigest(this, 'this multihash');
     if (!isBytes(other?.digest) || (typeof other.code !== 'number' && typeof other.code !== 'bigint')) return false;
@@ -82,7 +72,6 @@ export class Multihash {
     return other.code == this.code && length === digest.length && format.compareBytes(digest, other.digest, length) === 0;
   }
 
-  /** Returns this multihash, whose code is a number. Throws a RangeError if the code is a bigint. */
   narrow() {
     if (typeof this.code !== 'number') throw new RangeError(`the code ${this.code} is 2^53 or more, so it is a bigint`);
     return this;
@@ -92,7 +81,6 @@ export class Multihash {
 /** Makes the multihash that format.js found in the bytes. Its digest is a copy. */
 export const foundMultihash = (bytes, { code, size, next }) => new Multihash(MAKING, code, copyOf(bytes, next - size, next));
 
-/** Decodes the multihash whose encoding is the whole of the bytes. */
 export function decode(bytes) {
   const length = checkedLength(bytes, 'bytes');
   const found = format.decode(bytes, length);
@@ -103,7 +91,6 @@ export function decode(bytes) {
 /** Returns the maximum length of a digest for the argument `limit`, which may be larger. */
 export const checkedLimit = (limit) => Math.min(Number(checkedWide(limit, 'limit')), DIGEST_MAX);
 
-/** Decodes the multihash whose encoding is a prefix of the bytes, with a digest of at most `limit` bytes. */
 export function read(bytes, limit) {
   const most = limit === undefined ? DIGEST_MAX : checkedLimit(limit);
   const length = checkedLength(bytes, 'bytes');
@@ -112,7 +99,6 @@ export function read(bytes, limit) {
   return { multihash: foundMultihash(bytes, found), consumed: found.next };
 }
 
-/** Decodes the multihash whose SCALE encoding is a prefix of the bytes. */
 export function scaleDecode(bytes) {
   const length = checkedLength(bytes, 'bytes');
   const found = format.scaleDecode(bytes, length);
@@ -127,7 +113,6 @@ function checkedDigest({ digest, size }, name) {
   return digest;
 }
 
-/** Compares by code, then by digest length, then by the first digest byte that differs: -1, 0 or 1. */
 export function compare(left, right) {
   if (!(left instanceof Multihash)) throw wrongType('left', 'a Multihash', left);
   if (!(right instanceof Multihash)) throw wrongType('right', 'a Multihash', right);

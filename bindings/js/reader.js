@@ -1,4 +1,4 @@
-// The classes that read a stream's multihashes or frames, one after the other.
+// The classes that read a stream's multihashes or frames, one after the other. index.d.ts documents what is public.
 import { checkedLength, checkedOptions, checkedWide } from './arguments.js';
 import { MultihashError, errorOf, frameReasonOf } from './errors.js';
 import * as format from './format.js';
@@ -31,7 +31,6 @@ class Received {
   }
 }
 
-/** Reads items from a `ReadableStream` or an async iterable of `Uint8Array`. */
 class ItemReader {
   #source; // undefined after `release`
   #find;
@@ -53,23 +52,20 @@ class ItemReader {
     this.#source = sourceOf(source, 'source');
   }
 
-  /** A copy of the bytes received that belong to no item returned so far. */
   get rest() {
     const { bytes, at, end } = this.#received;
     return bytes.slice(at, end);
   }
 
-  /** The number of bytes of the items returned so far. */
   get consumed() {
     return this.#received.consumed;
   }
 
-  /** The number of items returned so far. */
   get count() {
     return this.#received.count;
   }
 
-  /** Returns the next item, or null after the last one. Calls that overlap run one after the other. */
+  // Calls that overlap run one after the other.
   read() {
     const item = this.#ready();
     if (item) return Promise.resolve(item);
@@ -141,14 +137,12 @@ class ItemReader {
     return done;
   }
 
-  /** Unlocks a `ReadableStream` for another reader. From then on `read` rejects. */
   release() {
     this.#finish(new TypeError('release() was called, so this reader reads no more'));
     this.#source?.release();
     this.#source = undefined;
   }
 
-  /** Cancels the source, if it was not released. From then on `read` returns null, even if it is pending. */
   async cancel(reason) {
     this.#finish(null);
     if (!this.#source) return;
@@ -156,10 +150,7 @@ class ItemReader {
     await this.#source.close(reason);
   }
 
-  /**
-   * Returns an iterator over the items, which cancels the source when the loop is left. An async generator would do the
-   * same, but takes twice as long for an item that was already received.
-   */
+  // An async generator would do the same, but takes twice as long for an item that was already received.
   [Symbol.asyncIterator]() {
     let isOver = false;
     const awaited = async () => {
@@ -198,7 +189,6 @@ if (Symbol.asyncDispose) ItemReader.prototype[Symbol.asyncDispose] = ItemReader.
 /** The options: the maximum length of an item, and bytes that precede those of the source. */
 const checkedLimits = (options) => checkedOptions(options, ['limit', 'rest']);
 
-/** Reads concatenated encodings. */
 export class MultihashReader extends ItemReader {
   constructor(source, options = {}) {
     const { limit = DIGEST_MAX, rest = new Uint8Array() } = checkedLimits(options);
@@ -218,7 +208,6 @@ function frameAt(bytes, at, end, limit) {
   return end - next < size ? { status: 'unexpected_eof', size, next } : { status, size, next: next + size };
 }
 
-/** Reads frames. */
 export class FrameReader extends ItemReader {
   constructor(source, options = {}) {
     const { limit = 2 ** 22, rest = new Uint8Array() } = checkedLimits(options);
