@@ -83,29 +83,26 @@ if (node) {
 creators['dbl-sha2-256'] = () => twice(creators['sha2-256']);
 
 /**
- * Returns what `call(open)` returns; `open()` returns the source of the content, the same each time. After an error the
- * source is cancelled, even if it was not read.
+ * Returns what `call(source)` returns, with the source of the content, or undefined if the content is bytes. After an error
+ * the source is cancelled, even if it was not read.
  */
 async function reading(content, call) {
-  let source;
-  const open = () => (source ??= sourceOf(content, 'content', 'a Uint8Array, '));
+  if (content?.readableEnded) throw new TypeError('content is a stream that was read before: open it again');
+  const source = isBytes(content) ? undefined : sourceOf(content, 'content', 'a Uint8Array, ');
   try {
-    if (content?.readableEnded) throw new TypeError('content is a stream that was read before: open it again');
-    return await call(open);
+    return await call(source);
   } catch (error) {
     try {
-      await open().close();
-    } catch {
-      // the first error is thrown, not one of cancelling
-    }
+      await source?.close();
+    } catch {} // the first error is thrown, not one of cancelling
     throw error;
   }
 }
 
-/** Returns the digest of the content: of bytes, or of the chunks of the source that `open` returns. */
-async function hashOf(create, content, open) {
+/** Returns the digest of the content: of the chunks of its source, or of bytes. */
+async function hashOf(create, content, source) {
   const hash = create();
-  if (isBytes(content)) {
+  if (source === undefined) {
     const length = checkedLength(content, 'content');
     for (let at = 0; at < length; at += PIECE) {
       if (at > 0) await new Promise((resolve) => globalThis.setImmediate(resolve)); // other tasks can run
@@ -113,7 +110,6 @@ async function hashOf(create, content, open) {
     }
     return hash.digest();
   }
-  const source = open();
   while (true) {
     const { done, value } = await source.next();
     if (done) break;
@@ -175,10 +171,10 @@ function multihashOf(code, whole, truncate) {
   return Multihash.of(code, whole.subarray(0, size));
 }
 
-export const digest = (content, hash, options = {}) => reading(content, async (open) => {
+export const digest = (content, hash, options = {}) => reading(content, async (source) => {
   const { truncate, functions } = checkedOptions(options, ['truncate', 'functions']);
   const code = codeOf(hash);
-  return multihashOf(code, await hashOf(creatorOf(code, functions), content, open), truncate);
+  return multihashOf(code, await hashOf(creatorOf(code, functions), content, source), truncate);
 });
 
 export class Hasher {
@@ -223,11 +219,10 @@ function claimOf(multihash) {
   return Multihash.of(multihash.code, multihash.digest);
 }
 
-export const verify = (multihash, content, options = {}) => reading(content, async (open) => {
+export const verify = (multihash, content, options = {}) => reading(content, async (source) => {
   const { functions } = checkedOptions(options, ['functions']);
-  if (!isBytes(content)) open(); // before the multihash is checked, so that the error of swapped arguments names the content
   const claim = claimOf(multihash);
-  const made = await hashOf(creatorOf(claim.code, functions), content, open);
+  const made = await hashOf(creatorOf(claim.code, functions), content, source);
   if (claim.digest.length === 0) checkedLength(claim.digest, 'the digest');
   if (claim.digest.length !== made.length) return false;
   let difference = 0; // of all bytes, so that the time does not depend on them
