@@ -1,9 +1,7 @@
 // Content identifiers (CIDs), as bytes and as texts.
 import type { Multihash, Status as MultihashStatus, Wide } from './index.js';
 
-/**
- * The codecs that most CIDs have, by their names in the multicodec table. Any other number below 2^63 is a codec too.
- */
+/** The codecs that most CIDs have, by their names in the multicodec table. Any other number below 2^63 is a codec too. */
 export const CODECS: {
   readonly raw: 0x55;
   readonly 'dag-pb': 0x70;
@@ -43,7 +41,7 @@ export type CIDStatus =
 export class CIDError extends Error {
   constructor(status: CIDStatus, message: string, options?: { cause?: unknown });
   readonly status: CIDStatus;
-  /** Returns the name, the text and the status. */
+  /** Returns the name, the message and the status. */
   toJSON(): { name: string; message: string; status: CIDStatus };
 }
 

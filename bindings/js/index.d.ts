@@ -36,7 +36,7 @@ export interface Details {
   readonly consumed?: number;
 }
 
-/** The error of invalid input. Arguments of a wrong type or range throw a `TypeError` or a `RangeError` instead. */
+/** The error of invalid input. An argument of a wrong type or range throws a `TypeError` or a `RangeError` instead. */
 export class MultihashError extends Error {
   constructor(message: string, details: Details);
   /**
@@ -46,20 +46,11 @@ export class MultihashError extends Error {
   readonly isIncomplete: boolean;
   /** The same fields as a plain object, which `structuredClone` and `postMessage` keep in most engines. */
   readonly cause: Details;
-  /**
-   * Restores an error from its clone, by the clone's `cause`. Returns `value` itself if it is a `MultihashError`, and
-   * undefined if it has no such `cause`.
-   */
+  /** Restores an error from its clone. Returns a `MultihashError` itself, and undefined for other values. */
   static from(value: unknown): MultihashError | undefined;
-  /** Returns the name, the text and the fields, a bigint as decimal text. */
-  toJSON(): {
-    name: string;
-    message: string;
-    status: Status;
-    size?: number | string;
-    code?: number | string;
-    consumed?: number;
-  };
+  /** Returns the name, the message and the fields, a bigint as decimal text. */
+  toJSON(): { name: string; message: string; status: Status; size?: number | string; code?: number | string;
+    consumed?: number };
 }
 export interface MultihashError extends Details {}
 
@@ -143,9 +134,7 @@ export function read(bytes: Uint8Array, limit?: Wide): Read;
 export function readMany(bytes: Uint8Array): Columns;
 /** Decodes the two varints before a digest. */
 export function head(bytes: Uint8Array): Head;
-/**
- * Decodes the varint at the start of `bytes`, such as a CID's version or a block's length. `consumed` is the varint's length.
- */
+/** Decodes the varint at the start of `bytes`. `consumed` is the varint's length. */
 export function readVarint(bytes: Uint8Array): { readonly value: Wide; readonly consumed: number };
 /** Returns the varint of a number. Throws a `MultihashError` with the status `overflow` if that is 2^63 or more. */
 export function encodeVarint(value: Wide): Uint8Array;
