@@ -21,12 +21,3 @@ test('names and numbers of *.d.ts, and package.json', () => {
       assert.equal(codes[name], Number(code), name);
   }
 });
-
-test('no module imports itself by way of others, of which bundlers warn', () => {
-  const follow = (file, path) => {
-    assert.ok(!path.includes(file), `${path} imports ${file}`);
-    for (const [, other] of textOf(file).matchAll(/ from '\.\/(.*)';/g)) follow(other, [...path, file]);
-  };
-  follow('index.js', []);
-  follow('cid.js', []);
-});
