@@ -81,7 +81,7 @@ test('content of streams, and in parts', async () => {
 test('identity has at most 255 bytes of content', async () => {
   assert.equal(`${await identity.digest(chunks(ABC))}`, '0003616263');
   assert.equal(`${await new Hasher('identity').update(ABC).update(ABC).multihash()}`, '0006616263616263');
-  assert.equal((await identity.digest(new Uint8Array(255).fill(1))).digestHex, '01'.repeat(255));
+  assert.equal((await identity.digest(new Uint8Array(255))).size, 255);
   const parts = new Hasher('identity').update(new Uint8Array(200)).update(new Uint8Array(100));
   for (const [promise, length] of [[identity.digest(new Uint8Array(256)), 256], [parts.multihash(), 300]]) {
     const message = `identity takes at most 255 bytes of content, got ${length}`;
@@ -129,11 +129,11 @@ function summing() {
   };
 }
 
-/** The same as others have it: @noble/hashes, and hash-wasm, which returns hexadecimal if it is not asked for bytes. */
+// The same function as @noble/hashes and hash-wasm have theirs, of which the latter returns hexadecimal by default.
 const noble = Object.assign(() => ABC, { create: summing });
 const hashWasm = () => {
-  const { digest: end, ...rest } = summing();
-  return { ...rest, init() {}, digest: (type) => (type === 'binary' ? end() : hex(end())) };
+  const { update, digest: end } = summing();
+  return { init() {}, update, digest: (type) => (type === 'binary' ? end() : hex(end())) };
 };
 const delayed = () => ({ ...summing(), digest: async () => Uint8Array.of(38, 1, 0, 0) });
 
