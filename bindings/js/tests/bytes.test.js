@@ -3,19 +3,14 @@ import assert from 'node:assert/strict';
 import { test } from 'node:test';
 import { Multihash, MultihashError, compare, decode, encode, encodeVarint, encodedLength, head, read, readMany,
   readVarint, scaleDecode, scaleEncode, writeVarint } from '../index.js';
-import { KINDS, hex, rowsOf, unhex } from './support.js';
+import { KINDS, hex, outcome, rowsOf, unhex } from './support.js';
 
 /** The result of a call as a row has it, and the multihash or the error. */
 function told(call) {
-  try {
-    const result = call();
-    const found = result.multihash ?? result;
-    return [`pair ${found.code} ${hex(found.digest) || '-'}`, found, result.consumed];
-  } catch (error) {
-    if (!(error instanceof MultihashError)) throw error;
-    const { status, size, code, consumed } = error;
-    return [[status, size ?? code ?? []].flat().join(' '), error, consumed];
-  }
+  const result = outcome(call);
+  const { status, size, code, consumed, multihash = result } = result;
+  if (result instanceof MultihashError) return [[status, size ?? code ?? []].flat().join(' '), result, consumed];
+  return [`pair ${multihash.code} ${hex(multihash.digest) || '-'}`, multihash, consumed];
 }
 
 /** Compares the result of a call that decodes the start of its input, and the number of bytes that it consumed. */
@@ -48,13 +43,11 @@ test('vectors of decoding', () => {
   }
 });
 
-const valueOf = (call) => {
-  try {
-    return hex(call());
-  } catch (error) {
-    return [error.status, error.size ?? error.code].join(' ');
-  }
-};
+/** The encoding as a row has it, or the error. */
+function valueOf(call) {
+  const made = outcome(call);
+  return made instanceof MultihashError ? `${made.status} ${made.size ?? made.code}` : hex(made);
+}
 
 test('vectors of encoding, and of order', () => {
   for (const { kind, limit, code, digest, encoding, scale } of rowsOf('values')) {

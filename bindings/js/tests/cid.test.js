@@ -4,7 +4,7 @@ import { test } from 'node:test';
 import { inspect } from 'node:util';
 import { CID, CIDError, CODECS } from '../cid.js';
 import { Multihash, MultihashError } from '../index.js';
-import { KINDS, detach, hex, rowsOf, unhex } from './support.js';
+import { KINDS, detach, hex, outcome, rowsOf, unhex } from './support.js';
 
 const HELLO = Multihash.fromHex('1220b94d27b9934d3e08a52e52d7da7dabfac484efe37a5380ee9088f7ace2efcde9');
 const RAW = CID.of(1, CODECS.raw, HELLO);
@@ -19,14 +19,10 @@ function textOf(column) {
 
 /** The result as a row has it, and the CID or the error. */
 function told(call) {
-  try {
-    const cid = call();
-    const { version, codec, multihash } = cid;
-    return [`cid ${version} ${codec} ${multihash.code} ${multihash.digestHex || '-'}`, cid];
-  } catch (error) {
-    if (!(error instanceof CIDError)) throw error;
-    return [error.status, error];
-  }
+  const found = outcome(call);
+  if (found instanceof CIDError) return [found.status, found];
+  const { version, codec, multihash } = found;
+  return [`cid ${version} ${codec} ${multihash.code} ${multihash.digestHex || '-'}`, found];
 }
 
 test('vectors of content identifiers', () => {
@@ -60,7 +56,7 @@ test('messages', () => {
     ['f0255', 'unknown_version', 'the version must be 1, not 2'],
   ];
   for (const [text, status, message] of rows) {
-    const [, error] = told(() => CID.parse(text));
+    const error = outcome(() => CID.parse(text));
     assert.equal(JSON.stringify(error), JSON.stringify({ name: 'CIDError', message, status }));
   }
 });

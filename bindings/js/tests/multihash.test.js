@@ -3,19 +3,11 @@ import assert from 'node:assert/strict';
 import { test } from 'node:test';
 import { inspect } from 'node:util';
 import { Multihash, MultihashError, compare, decode, encode, head, read } from '../index.js';
-import { KINDS, detach, hex, unhex, withoutMemory } from './support.js';
+import { KINDS, detach, hex, outcome, unhex, withoutMemory } from './support.js';
 
 const EXAMPLE = unhex('1620644bcc7e564373040999aac89e7622f3ca71fba1d972fd94a31c3bfbf24e3938');
 const EMPTY = new Uint8Array();
 const LONG = 2n ** 53n; // the least code that is a bigint
-
-function thrown(call) {
-  try {
-    return call();
-  } catch (error) {
-    return error;
-  }
-}
 
 test('fields', () => {
   const multihash = decode(EXAMPLE);
@@ -136,7 +128,7 @@ test('errors have fields that are exact, and are restored from a clone', () => {
     [() => Multihash.fromHex(''), '"insufficient","consumed":0'],
   ];
   for (const [call, rest] of cases) {
-    const error = thrown(call);
+    const error = outcome(call);
     const start = `{"name":"MultihashError","message":${JSON.stringify(error.message)},"status":`;
     assert.equal(JSON.stringify(error), `${start}${rest}}`);
     assert.deepEqual(Object.keys(error), ['status', 'size', 'code', 'consumed']); // what console.log shows
@@ -153,7 +145,7 @@ test('errors have fields that are exact, and are restored from a clone', () => {
 test('the fields of an error are its own, whatever Object.prototype has', () => {
   Object.assign(Object.prototype, { size: 5, code: 6 });
   try {
-    const { size, code, consumed } = thrown(() => head(unhex('8000')));
+    const { size, code, consumed } = outcome(() => head(unhex('8000')));
     assert.equal(`${size} ${code} ${consumed}`, 'undefined undefined 2');
   } finally {
     delete Object.prototype.size;

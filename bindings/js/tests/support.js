@@ -16,6 +16,15 @@ export function rowsOf(name) {
   return lines.map((words) => Object.fromEntries(columns.map((column, at) => [column, words[at]])));
 }
 
+/** Returns what a call returns or throws. */
+export function outcome(call) {
+  try {
+    return call();
+  } catch (error) {
+    return error;
+  }
+}
+
 /** A subclass that says something else of itself than its bytes are. */
 class Lying extends Uint8Array {}
 Object.defineProperty(Lying, Symbol.species, { value: Array });

@@ -43,23 +43,18 @@ export const iterable = (chunks: AsyncIterable<Uint8Array>): MultihashReader => 
 // @ts-expect-error chunks are no texts
 export const texts = (stream: ReadableStream<string>): MultihashReader => new MultihashReader(stream);
 
-/** As in js-multiformats, whose `CID.create` takes it. */
-interface MultihashDigest<Code extends number = number> {
-  code: Code;
-  size: number;
-  digest: Uint8Array;
-  bytes: Uint8Array;
-}
-interface MultihashHasher<Code extends number = number> {
+/** A digest and a hasher as in js-multiformats, whose `CID.create` takes the digest. */
+interface Digest { code: number; size: number; digest: Uint8Array; bytes: Uint8Array }
+interface TheirHasher {
   name: string;
-  code: Code;
-  digest(input: Uint8Array, options?: { truncate?: number }): Promise<MultihashDigest<Code>> | MultihashDigest<Code>;
+  code: number;
+  digest(input: Uint8Array, options?: { truncate?: number }): Promise<Digest> | Digest;
 }
-export const theirs: MultihashDigest[] = [found.narrow(), Multihash.of(0x12, bytes)];
-export const theirHashers: MultihashHasher[] = [sha256, identity];
+export const theirs: Digest[] = [found.narrow(), Multihash.of(0x12, bytes)];
+export const theirHashers: TheirHasher[] = [sha256, identity];
 verify(theirs[0]!, stream);
 // @ts-expect-error the code may be a bigint
-export const wide: MultihashDigest = found;
+export const wide: Digest = found;
 is<Multihash<0x11>>()(await hashers.sha1.digest(bytes));
 is<Promise<Multihash<number>>>()(digest(bytes, 'sha2-256'));
 is<Promise<Multihash>>()(new Hasher('sha2-256').update(bytes).multihash());
@@ -77,11 +72,7 @@ interface HashWasm {
   update(bytes: Uint8Array | string): HashWasm;
   digest: { (type: 'binary'): Uint8Array; (type?: 'hex'): string };
 }
-interface NodeHash {
-  update(bytes: Uint8Array): NodeHash;
-  digest(): Uint8Array;
-  digest(encoding: 'hex' | 'binary'): string;
-}
+interface NodeHash { update(bytes: Uint8Array): NodeHash; digest(): Uint8Array; digest(encoding: 'hex' | 'binary'): string }
 declare const [noble, wasm, ofNode]: [Noble, HashWasm, NodeHash];
 export const functions: Functions = { blake3: noble, 0x1b: () => wasm.init(), 'blake2b-256': () => ofNode,
   0xb220: () => noble.create({ dkLen: 32 }) };
