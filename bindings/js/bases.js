@@ -65,13 +65,6 @@ function regrouped(values, fromBits, toBits) {
   return made;
 }
 
-function fromBase32(text) {
-  const bytes = regrouped(valuesOf(text, BASE32), 5, 8);
-  const trailing = (text.length * 5) % 8; // the number of bits after the last byte
-  if (trailing > 0 && (bytes.pop() !== 0 || trailing >= 5)) return undefined;
-  return Uint8Array.from(bytes);
-}
-
 /** Converts a number to another base, from and to values with the most significant first. Leading zeros stay. */
 function inBase(values, from, to) {
   const made = []; // least significant first
@@ -88,6 +81,18 @@ function inBase(values, from, to) {
   return made.reverse();
 }
 
+const toBase32 = (bytes) => textOf(regrouped(bytes, 8, 5), BASE32);
+const toBase58 = (bytes) => textOf(inBase(bytes, 256, 58), BASE58);
+const fromBase16 = (text) => (text.length % 2 === 0 ? unhex(text) : undefined);
+const fromBase58 = (text) => Uint8Array.from(inBase(valuesOf(text, BASE58), 58, 256));
+
+function fromBase32(text) {
+  const bytes = regrouped(valuesOf(text, BASE32), 5, 8);
+  const trailing = (text.length * 5) % 8; // the number of bits after the last byte
+  if (trailing > 0 && (bytes.pop() !== 0 || trailing >= 5)) return undefined;
+  return Uint8Array.from(bytes);
+}
+
 /**
  * The bases, by the prefixes of texts. `other` matches a character that is no digit. `encode` returns digits without the
  * prefix, and `decode` expects digits without it. `decode` returns undefined if the last digit is superfluous, or if its
@@ -95,22 +100,7 @@ function inBase(values, from, to) {
  */
 export const BASES = {
   __proto__: null,
-  b: {
-    name: 'base32',
-    other: /[^a-z2-7]/,
-    encode: (bytes) => textOf(regrouped(bytes, 8, 5), BASE32),
-    decode: fromBase32,
-  },
-  f: {
-    name: 'base16',
-    other: /[^0-9a-f]/,
-    encode: hex,
-    decode: (text) => (text.length % 2 === 0 ? unhex(text) : undefined),
-  },
-  z: {
-    name: 'base58btc',
-    other: /[^1-9A-HJ-NP-Za-km-z]/,
-    encode: (bytes) => textOf(inBase(bytes, 256, 58), BASE58),
-    decode: (text) => Uint8Array.from(inBase(valuesOf(text, BASE58), 58, 256)),
-  },
+  b: { name: 'base32', other: /[^a-z2-7]/, encode: toBase32, decode: fromBase32 },
+  f: { name: 'base16', other: /[^0-9a-f]/, encode: hex, decode: fromBase16 },
+  z: { name: 'base58btc', other: /[^1-9A-HJ-NP-Za-km-z]/, encode: toBase58, decode: fromBase58 },
 };

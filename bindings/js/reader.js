@@ -153,34 +153,32 @@ class ItemReader {
   // An async generator would do the same, but takes twice as long for an item that was already received.
   [Symbol.asyncIterator]() {
     let isOver = false;
+    const finish = async (value) => {
+      if (!isOver) {
+        isOver = true;
+        await this.cancel();
+      }
+      return { done: true, value };
+    };
+    const fail = async (error) => {
+      await finish().catch(() => {}); // the first error is thrown, not one of cancelling
+      throw error;
+    };
     const awaited = async () => {
       if (isOver) return { done: true, value: undefined };
       try {
         const value = await this.read();
-        return value === null ? loop.return() : { done: false, value };
+        return value === null ? finish() : { done: false, value };
       } catch (error) {
-        return loop.throw(error);
+        return fail(error);
       }
     };
-    const loop = {
-      next: () => {
-        const value = this.#ready(); // undefined after the end, since `return` cancels
-        return value ? Promise.resolve({ done: false, value }) : awaited();
-      },
-      return: async (value) => {
-        if (!isOver) {
-          isOver = true;
-          await this.cancel();
-        }
-        return { done: true, value };
-      },
-      throw: async (error) => {
-        await loop.return().catch(() => {}); // the first error is thrown, not one of cancelling
-        throw error;
-      },
-      [Symbol.asyncIterator]: () => loop,
+    const next = () => {
+      const value = this.#ready(); // undefined after the end, since `finish` cancels
+      return value ? Promise.resolve({ done: false, value }) : awaited();
     };
-    if (Symbol.asyncDispose) loop[Symbol.asyncDispose] = loop.return;
+    const loop = { next, return: finish, throw: fail, [Symbol.asyncIterator]: () => loop };
+    if (Symbol.asyncDispose) loop[Symbol.asyncDispose] = finish;
     return loop;
   }
 }
