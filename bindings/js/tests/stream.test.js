@@ -93,28 +93,27 @@ for (const reader of READERS)
 
 test('an item that is too long, before its bytes arrive, or malformed', async () => {
   const [long, most] = [2 ** 22 + 1, 2n ** 63n - 1n];
-  const cases = [
-    [FrameReader, '0103', { limit: 0 }, ['invalid_size', 1, 1],
-      'frame 0 at offset 0: the frame has 1 byte, and the limit is 0'],
-    [FrameReader, '0301020304', { limit: 3 }, ['invalid_size', 4, 1],
-      'frame 1 at offset 4: the frame has 4 bytes, and the limit is 3'],
-    [FrameReader, `00${hex(encodeVarint(long))}`, {}, ['invalid_size', long, 4],
+  const ofFrames = [
+    ['0103', { limit: 0 }, ['invalid_size', 1, 1], 'frame 0 at offset 0: the frame has 1 byte, and the limit is 0'],
+    ['0301020304', { limit: 3 }, ['invalid_size', 4, 1], 'frame 1 at offset 4: the frame has 4 bytes, and the limit is 3'],
+    [`00${hex(encodeVarint(long))}`, {}, ['invalid_size', long, 4],
       `frame 1 at offset 1: the frame has ${long} bytes, and the limit is ${long - 1}`],
-    [FrameReader, hex(encodeVarint(most)), { limit: 2n ** 53n }, ['invalid_size', most, 9],
+    [hex(encodeVarint(most)), { limit: 2n ** 53n }, ['invalid_size', most, 9],
       `frame 0 at offset 0: the frame has ${most} bytes, and the limit is ${2n ** 53n}`],
-    [FrameReader, '0102ff00', {}, ['not_minimal', undefined, 2],
+    ['0102ff00', {}, ['not_minimal', undefined, 2],
       'frame 1 at offset 2: the varint is not minimal: it ends in a zero byte'],
-    [FrameReader, 'ff'.repeat(9), {}, ['overflow', undefined, 9],
-      'frame 0 at offset 0: the varint has more than nine bytes'],
-    [MultihashReader, '1220', { limit: 31 }, ['invalid_size', 32, 2], 'the digest has 32 bytes, and the limit is 31'],
-    [MultihashReader, '12ac02', { limit: 2n ** 63n }, ['invalid_size', 300, 3],
-      'the digest has 300 bytes, and the limit is 255'],
+    ['ff'.repeat(9), {}, ['overflow', undefined, 9], 'frame 0 at offset 0: the varint has more than nine bytes'],
   ];
-  for (const [Reader, text, options, fields, message] of cases) {
-    const { error } = await drained(new Reader(streamOf([unhex(text)], () => {}), options));
-    assert.ok(error instanceof MultihashError);
-    assert.deepEqual([error.status, error.size, error.consumed, error.message], [...fields, message]);
-  }
+  const ofMultihashes = [
+    ['1220', { limit: 31 }, ['invalid_size', 32, 2], 'the digest has 32 bytes, and the limit is 31'],
+    ['12ac02', { limit: 2n ** 63n }, ['invalid_size', 300, 3], 'the digest has 300 bytes, and the limit is 255'],
+  ];
+  for (const [Reader, rows] of [[FrameReader, ofFrames], [MultihashReader, ofMultihashes]])
+    for (const [text, options, fields, message] of rows) {
+      const { error } = await drained(new Reader(streamOf([unhex(text)], () => {}), options));
+      assert.ok(error instanceof MultihashError);
+      assert.deepEqual([error.status, error.size, error.consumed, error.message], [...fields, message]);
+    }
 });
 
 test('time and memory are linear in the items, and in the chunks of an item', async () => {
@@ -140,11 +139,10 @@ test('a source that fails, and a chunk that is no bytes', async () => {
   };
   const moved = new Uint8Array(1);
   detach(moved);
+  const [broken, unknown] = [Error('broken'), Error('the source failed without a reason')];
   const sources = [
-    [failing(), Error('broken')], [Readable.from(failing()), Error('broken')],
-    [streamOf([part], (controller) => controller.error(Error('broken'))), Error('broken')],
-    [streamOf([part], (controller) => controller.error()), Error('the source failed without a reason')],
-    [streamOf([part], (controller) => controller.error(null)), Error('the source failed without a reason')],
+    [failing(), broken], [Readable.from(failing()), broken], [streamOf([part], (stream) => stream.error(broken)), broken],
+    [streamOf([part], (stream) => stream.error()), unknown], [streamOf([part], (stream) => stream.error(null)), unknown],
     [Readable.from([part, 'text']),
       TypeError('a chunk of the stream must be a Uint8Array, got string: open the stream without an encoding')],
     [Readable.from([part, moved]), TypeError('a chunk of the stream is a Uint8Array that is detached or out of bounds')],
