@@ -22,10 +22,7 @@ export interface Hash {
  */
 export type Functions = Readonly<Record<string | number, (() => Hash) | { create(options?: any): Hash }>>;
 
-/**
- * The error for a hash function that neither the platform nor `functions` has. Nothing was hashed, so the content is
- * neither right nor wrong.
- */
+/** The error for a hash function that neither the platform nor `functions` has. Nothing was hashed. */
 export class UnsupportedHashError extends RangeError {
   constructor(code: Wide);
   readonly code: Wide;
@@ -42,10 +39,7 @@ export interface MultihashHasher<Code extends number = number> {
   digest(content: Content, options?: { truncate?: number; functions?: Functions }): Promise<Multihash<Code>>;
 }
 
-/**
- * The functions that this platform has, by their names. Every platform has those listed here. Node.js also has those of
- * its OpenSSL.
- */
+/** The functions that this platform has, by their names: those listed here, and in Node.js those of its OpenSSL. */
 export const hashers: Readonly<Record<string, MultihashHasher | undefined>> & {
   readonly identity: MultihashHasher<0>;
   readonly sha1: MultihashHasher<0x11>;
@@ -77,15 +71,9 @@ export class Hasher {
    * `functions` nor the platform has the function.
    */
   constructor(hash: string | Wide, options?: { functions?: Functions });
-  /**
-   * Appends bytes, and returns this hasher. Throws a `TypeError` after `multihash` was called. WebCrypto, of browsers,
-   * hashes no parts: there all bytes are kept in memory.
-   */
+  /** Appends bytes, and returns this hasher. Throws a `TypeError` after `multihash`. A browser keeps all bytes in memory. */
   update(content: Uint8Array): this;
-  /**
-   * Returns the multihash of all bytes. Every call returns the same promise. Rejects with a `MultihashError` if `identity`
-   * got more than 255 bytes.
-   */
+  /** Returns the multihash of all bytes, by the same promise each time. With `identity` more than 255 bytes are an error. */
   multihash(): Promise<Multihash>;
 }
 

@@ -2,10 +2,7 @@
 export * from './hashes.js';
 export * from './limits.js';
 
-/**
- * A whole number of 64 bits. A result is a `number` up to `Number.MAX_SAFE_INTEGER`, and a `bigint` above. An argument
- * is a safe integer, or a `bigint`.
- */
+/** A whole number of 64 bits: a safe integer, or a `bigint`. A result above `Number.MAX_SAFE_INTEGER` is a `bigint`. */
 export type Wide = number | bigint;
 
 /** Why a call failed. */
@@ -39,10 +36,7 @@ export interface Details {
 /** The error of invalid input. An argument of a wrong type or range throws a `TypeError` or a `RangeError` instead. */
 export class MultihashError extends Error {
   constructor(message: string, details: Details);
-  /**
-   * Whether the input is truncated: it ends before or inside a varint, or before the end of the digest. In `read`,
-   * `readMany`, `readVarint`, `head`, `scaleDecode` and `MultihashReader` more input can change the result only then.
-   */
+  /** Whether the input is truncated. In all calls but `decode` and `fromHex` more input can change the result only then. */
   readonly isIncomplete: boolean;
   /** The same fields as a plain object, which `structuredClone` and `postMessage` keep in most engines. */
   readonly cause: Details;
@@ -189,8 +183,8 @@ export interface ItemReader<Item> extends AsyncIterable<Item> {
    */
   release(): void;
   /**
-   * Cancels the source. From then on every `read`, including a pending one, returns null. The promise waits for the
-   * source: an async generator ends only once what it awaits has arrived. A Node.js `Readable` is destroyed.
+   * Cancels the source, and a Node.js `Readable` is destroyed. From then on every `read`, including a pending one, returns
+   * null. The promise waits for the source: an async generator ends only once what it awaits has arrived.
    */
   cancel(reason?: unknown): Promise<void>;
   /** Calls `cancel`, in engines that have `Symbol.asyncDispose`. */
