@@ -140,30 +140,23 @@ test('heads and lengths', () => {
   assert.equal(read(unhex('0101aa'), 2n ** 64n - 1n).consumed, 3);
 });
 
-/** The columns of readMany by calls of read. */
-function oneByOne(bytes) {
-  const found = { codes: [], offsets: [], lengths: [], consumed: 0, error: undefined };
-  while (found.consumed < bytes.length) {
-    try {
-      const { multihash, consumed } = read(bytes.subarray(found.consumed));
-      found.consumed += consumed;
-      found.codes.push(BigInt(multihash.code));
-      found.offsets.push(found.consumed - multihash.size);
-      found.lengths.push(multihash.size);
-    } catch (error) {
-      return { ...found, error };
-    }
-  }
-  return found;
-}
-
+/** Compares the columns of readMany with calls of read. */
 function checkMany(bytes, kind = (each) => each) {
   const { codes, offsets, lengths, consumed, error } = readMany(kind(bytes));
-  const wanted = oneByOne(bytes);
-  assert.deepEqual({ codes: [...codes], offsets: [...offsets], lengths: [...lengths], consumed, error }, wanted);
-  const types = [BigUint64Array, Float64Array, Uint8Array];
-  assert.deepEqual([codes, offsets, lengths].map((column) => column.constructor), types);
-  for (const column of [codes, lengths]) assert.equal(column.buffer.byteLength, column.byteLength);
+  let end = 0;
+  for (const [index, code] of codes.entries()) {
+    const { multihash, consumed: length } = read(bytes.subarray(end));
+    end += length;
+    const wanted = [BigInt(multihash.code), end - multihash.size, multihash.size];
+    assert.deepEqual([code, offsets[index], lengths[index]], wanted);
+  }
+  assert.equal(consumed, end);
+  assert.deepEqual(error, end === bytes.length ? undefined : outcome(() => read(bytes.subarray(end))));
+  assert.ok(codes instanceof BigUint64Array && offsets instanceof Float64Array && lengths instanceof Uint8Array);
+  for (const column of [codes, offsets, lengths]) {
+    assert.equal(column.length, codes.length);
+    assert.equal(column.buffer.byteLength, column.byteLength);
+  }
   return codes.length;
 }
 

@@ -5,7 +5,7 @@ import { Readable } from 'node:stream';
 import { test } from 'node:test';
 import { setImmediate, setTimeout } from 'node:timers/promises';
 import { FrameReader, MultihashError, MultihashReader, encode, encodeVarint } from '../index.js';
-import { detach, hex, unhex } from './support.js';
+import { chunks, detach, hex, unhex } from './support.js';
 
 const DIGESTS = [[0x12, new Uint8Array(32).fill(7)], [0, new Uint8Array()], [2n ** 62n, new Uint8Array(255).fill(9)]];
 const MULTIHASHES = DIGESTS.map(([code, digest]) => hex(encode(code, digest)));
@@ -22,17 +22,6 @@ const READERS = [
 const RELEASED = 'release() was called, so this reader reads no more';
 
 const textOf = (item) => item && hex(item.bytes ?? item);
-
-/** A source may use the memory of a chunk again. A chunk may be empty, and what a generator returns is no chunk. */
-async function* chunks(...parts) {
-  const memory = new Uint8Array(1024);
-  for (const part of parts) {
-    memory.set(part);
-    yield memory.subarray(0, part.length);
-    yield memory.subarray(1024);
-  }
-  return memory;
-}
 
 /** A stream of chunks, which then closes or does something else. */
 const streamOf = (parts, after = (controller) => controller.close(), cancel = undefined) => new ReadableStream({

@@ -62,6 +62,17 @@ export const KINDS = [
   (bytes) => Buffer.from(amid(bytes).buffer, 3, bytes.length),
 ];
 
+/** Chunks in the same memory, and empty ones, as sources may have them. What a generator returns is no chunk. */
+export async function* chunks(...parts) {
+  const memory = new Uint8Array(2048);
+  for (const part of parts) {
+    memory.set(part);
+    yield memory.subarray(0, part.length);
+    yield memory.subarray(2048);
+  }
+  return memory;
+}
+
 /** Moves the memory of an array elsewhere. */
 export const detach = ({ buffer }) => structuredClone(buffer, { transfer: [buffer] });
 
