@@ -1,6 +1,8 @@
 // The sources that the readers and the hash functions read: a ReadableStream or an async iterable.
 import { wrongType } from './arguments.js';
 
+const ignore = () => {};
+
 /**
  * Returns an object that reads the chunks of a ReadableStream, which in Safari is no async iterable, or of an async
  * iterable. Its `next` is that of an iterator, `release` unlocks a stream for other readers, and `close` ends the source.
@@ -10,7 +12,11 @@ export function sourceOf(source, name, others = '') {
   const iterator = source?.[Symbol.asyncIterator]?.();
   if (typeof iterator?.next !== 'function')
     throw wrongType(name, `${others}a ReadableStream or an async iterable`, source);
-  if (typeof source.destroy === 'function') listen(source);
+  if (typeof source.destroy === 'function') {
+    // an error of a Node.js Readable must not be uncaught, since `next` throws it; the listener is added only once
+    source.off?.('error', ignore);
+    source.on?.('error', ignore);
+  }
   return {
     next: () => iterator.next(),
     release() {},
@@ -20,14 +26,6 @@ export function sourceOf(source, name, others = '') {
       return iterator.return?.();
     },
   };
-}
-
-const ignore = () => {};
-
-/** Keeps errors of a Node.js Readable from being uncaught: `next` throws them. Adds the listener only once. */
-function listen(source) {
-  source.off?.('error', ignore);
-  source.on?.('error', ignore);
 }
 
 function chunksOfStream(stream) {
