@@ -8,8 +8,8 @@ from typing import Any
 
 import z3
 from c_memory import Memory, Place, Pointer, Region, Value, Variable
-from path import Rejected, Return
 from c_tree import Node, Unit, type_of
+from execution import Rejected, Return
 
 ORDER = {"==": eq, "!=": ne, "<": lt, "<=": le, ">": gt, ">=": ge}
 UNSIGNED = {**ORDER, "<": z3.ULT, "<=": z3.ULE, ">": z3.UGT, ">=": z3.UGE}

@@ -7,8 +7,8 @@ import z3
 from c import Run
 from definitions import FIRST, OK, SECOND, Result, TwoVarints, widened
 from c_memory import Place, Pointer, Region, Value, Variable
-from path import Rejected, Wrong, check, miswritten
 from c_tree import Unit, type_of
+from execution import Rejected, Wrong, check, miswritten
 
 # Static functions of this type read a varint: of `bytes` with a length, the number and how many bytes it has. Each is
 # shown once. Where another function calls one it returns FIRST or SECOND.
@@ -36,7 +36,7 @@ class Function:
         self.solver = z3.SolverFor("QF_BV")
 
     def definition(self) -> Any:
-        name = "get_varint" if self.is_reader else self.name.removeprefix("multihash_")
+        name = "get_varint" if self.is_reader else self.name
         if not hasattr(definitions, name):
             raise Rejected("unknown: definitions.py does not have this function")
         return getattr(definitions, name)(*self.given.values())

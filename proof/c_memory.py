@@ -4,7 +4,7 @@ from dataclasses import dataclass, field
 from typing import Any
 
 import z3
-from path import Path, Rejected
+from execution import Execution, Rejected
 
 Value = Any  # a bit vector of the width of its type, a pointer, or the members of a structure by their names
 
@@ -49,7 +49,7 @@ class Pointer:
     offset: Any
 
 
-class Memory(Path):
+class Memory(Execution):
     """A path with its memory. `word` is the width of a size, `log` the accesses to variables: whether it was a write."""
 
     def __init__(self, solver: Any, prefix: list[bool], model: Any, word: int):

@@ -11,8 +11,8 @@ from c import Run
 from definitions import OK, Result, TwoVarints, widened
 from c_function import Function, different, differs
 from c_memory import Place, Region, Value
-from path import Rejected, Wrong
 from c_tree import Node, Unit
+from execution import Rejected, Wrong
 
 
 def invariant(count: Any, consumed: Any) -> dict[str, Any]:
@@ -85,7 +85,7 @@ class ReadMany(Function):
 
     def definition(self) -> TwoVarints:
         """What a turn does: nothing if nothing is left, else what `read` says of the bytes that are left."""
-        read = definitions.read(self.rest)
+        read = definitions.multihash_read(self.rest)
         nothing_left = z3.Or(self.room == 0, self.rest == 0)
         return read._replace(rows=[(nothing_left, Result({"status": OK})), (True, read.rows)])
 

@@ -3,10 +3,10 @@ or the machine, which the tree does not show."""
 import json
 import re
 import subprocess
-from pathlib import Path as File
+from pathlib import Path
 from typing import Any
 
-from path import Rejected
+from execution import Rejected
 
 Node = Any  # a node of the tree
 
@@ -45,7 +45,7 @@ def type_of(node: Node) -> str:
 class Unit:
     """The functions, structures and constants of a source file, for a machine with sizes of that many bits."""
 
-    def __init__(self, source: File, include: File, target: str, word: int):
+    def __init__(self, source: Path, include: Path, target: str, word: int):
         for file in (source, include / "multihash.h"):
             reject_machine(file.read_bytes().decode())
         headers = {source.parent / "multihash.h", *(include / f"{x}.h" for x in ("string", "stddef", "stdint"))}

@@ -6,16 +6,16 @@
 """
 import sys
 from functools import cache, partial
-from pathlib import Path as File
+from pathlib import Path
 
-from command import command
+import cli
 from c_function import Function, readers_of
-from path import Rejected, report
 from c_read_many import ReadMany
 from c_tree import Unit
+from execution import Rejected, report
 from wrong_c import EDITS
 
-C = File(__file__).parents[1] / "bindings/c"
+C = Path(__file__).parents[1] / "bindings/c"
 TARGETS = {"x86_64-linux-gnu": 64, "armv7-linux-gnueabi": 32}
 
 
@@ -45,4 +45,4 @@ def names() -> list[str]:
 if __name__ == "__main__":
     checks = {target: partial(result, target) for target in TARGETS}
     files = ["bindings/c/src/multihash.c", "bindings/c/include/multihash.h"]
-    sys.exit(command("check_c.py", files, checks, names, EDITS))
+    sys.exit(cli.main("check_c.py", files, checks, names, EDITS))

@@ -12,13 +12,13 @@ from functools import partial
 from pathlib import Path
 from typing import Any
 
+import cli
 import definitions
 import z3
-from command import command
 from definitions import FIRST, OK, SECOND, Result, Rows, is_code
+from execution import Rejected, Return, Wrong, check, miswritten, report
 from js import Node, Program, Run, Scope
 from js_values import SAFE, WIDTH, Array, Number, Value, known, symbol
-from path import Rejected, Return, Wrong, check, miswritten, report
 from wrong_js import EDITS
 
 FOLDER = Path(__file__).resolve().parents[1] / "bindings/js"
@@ -178,9 +178,13 @@ def functions() -> dict[str, Function]:
     end, rest = Number(at.x + length.x), Number(left.x - at.x)
     is_valid = is_code(bits("code"))
     has_room = z3.Or([z3.And(z3.UGE(bits("room"), i), z3.ULT(bits("code"), 1 << 7 * i)) for i in range(1, 10)])
-    head, read_limit, from_bytes = definitions.read_head, definitions.read_limit, definitions.from_bytes
+    head, read_limit, from_bytes = (
+        definitions.multihash_read_head,
+        definitions.multihash_read_limit,
+        definitions.multihash_from_bytes,
+    )
     fitting = lambda code, size: definitions.fitting(code, size, Result({"status": OK}))
-    scale = lambda code, size: definitions.scale_encode(code, size, 264)
+    scale = lambda code, size: definitions.multihash_scale_encode(code, size, 264)
     place = lambda: [code, Array("out", room, at, "output"), at]
     ones = lambda: [Array("one", rest, at), Array("two", rest, at), left]
     both = lambda: [code, LEFT, left, other, RIGHT, right]
@@ -189,14 +193,14 @@ def functions() -> dict[str, Function]:
         "head": Function(head, "length", decoded, lambda: [INPUT, at, end]),
         "read": Function(read_limit, "length limit", decoded, lambda: [INPUT, at, end, limit]),
         "decode": Function(from_bytes, "length", decoded, lambda: [WHOLE, length]),
-        "scaleDecode": Function(definitions.scale_decode, "length", decoded, lambda: [WHOLE, length]),
+        "scaleDecode": Function(definitions.multihash_scale_decode, "length", decoded, lambda: [WHOLE, length]),
         "encodingStatus": Function(fitting, "code other", status, lambda: [code, other]),
         "varintLength": Function(varint, "code", length_of, lambda: [code], is_valid),
         "writeVarint": Function(varint, "code", varint_end, place, z3.And(is_valid, has_room)),
         "encodedLength": Function(pair, "code size", length_of, lambda: [code, size], is_valid),
         "encode": Function(pair, "code size", encoding, lambda: [code, DIGEST, size], is_valid),
         "scaleEncode": Function(scale, "code size", encoding, lambda: [code, DIGEST, size], is_valid),
-        "compare": Function(definitions.compare, "code left other right", order, both),
+        "compare": Function(definitions.multihash_compare, "code left other right", order, both),
         "compareBytes": Function(turn, "at left", order, ones, z3.ULE(bits("at"), bits("left")), Turn),
     }
 
@@ -227,4 +231,4 @@ def result(name: str) -> str:
 
 if __name__ == "__main__":
     files = ["bindings/c/include/multihash.h", *(f"bindings/js/{x}.js" for x in ("format", "limits", "statuses"))]
-    sys.exit(command("check_js.py", files, {"format.js": result}, lambda: [*functions()], EDITS))
+    sys.exit(cli.main("check_js.py", files, {"format.js": result}, lambda: [*functions()], EDITS))

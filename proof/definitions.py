@@ -1,6 +1,6 @@
 """What each function of multihash.h returns and writes, for all arguments: docs/FORMAT.md as formulas, in its order.
-A function has the name and the parameters of the header, but for the pointers. What multihash_read_many returns is in
-c_read_many.py, by the definition of multihash_read."""
+A function of the header has its name and its parameters here, but for the pointers. What multihash_read_many returns is
+in c_read_many.py, by the definition of multihash_read."""
 import re
 from collections.abc import Callable
 from dataclasses import dataclass, field
@@ -115,7 +115,7 @@ def get_varint(length: Any) -> Rows:
     return [(when, Result({"status": status, "value": x, "consumed": end})) for when, (status, x, end) in rows]
 
 
-def read_varint(bytes_length: Any) -> Rows:
+def multihash_read_varint(bytes_length: Any) -> Rows:
     def result(status: int, number: Any, end: int) -> Result:
         return Result({"status": status, "value": number, "length": end if status == OK else 0})
 
@@ -130,12 +130,12 @@ def malformed(consumed: Any = None) -> Rows:
     ]
 
 
-def read_head(bytes_length: Any) -> TwoVarints:
+def multihash_read_head(bytes_length: Any) -> TwoVarints:
     both = Result({"status": OK, "code": CODE, "digest_length": SIZE, "consumed": END})
     return TwoVarints([*malformed(), (True, both)], "bytes", bytes_length)
 
 
-def read_limit(bytes_length: Any, limit: Value) -> TwoVarints:
+def multihash_read_limit(bytes_length: Any, limit: Value) -> TwoVarints:
     after = widened(END)
     pair = {"code": CODE, "digest_offset": END, "digest_length": SIZE, "consumed": after + SIZE}
     rows = [
@@ -147,8 +147,8 @@ def read_limit(bytes_length: Any, limit: Value) -> TwoVarints:
     return TwoVarints(rows, "bytes", bytes_length)
 
 
-def read(bytes_length: Any) -> TwoVarints:
-    return read_limit(bytes_length, 255)
+def multihash_read(bytes_length: Any) -> TwoVarints:
+    return multihash_read_limit(bytes_length, 255)
 
 
 def whole(name: str, length: Any, whole_length: Any) -> TwoVarints:
@@ -165,11 +165,11 @@ def whole(name: str, length: Any, whole_length: Any) -> TwoVarints:
     return TwoVarints(rows, name, length)
 
 
-def from_bytes(bytes_length: Any) -> TwoVarints:
+def multihash_from_bytes(bytes_length: Any) -> TwoVarints:
     return whole("bytes", bytes_length, bytes_length)
 
 
-def from_prefix(prefix_length: Any, whole_length: Any) -> TwoVarints:
+def multihash_from_prefix(prefix_length: Any, whole_length: Any) -> TwoVarints:
     is_less = z3.ULT(prefix_length, whole_length)
     return whole("prefix", z3.If(is_less, prefix_length, whole_length), whole_length)
 
@@ -193,7 +193,7 @@ def fitting(code: Any, digest_length: Any, pair: Any) -> Rows:
     ]
 
 
-def write_varint(value: Any, out_length: Any) -> Rows:
+def multihash_write_varint(value: Any, out_length: Any) -> Rows:
     varints = varint_of(value, lambda head: written(out_length, head, 0))
     return [(z3.Not(is_code(value)), Result({"status": OVERFLOW})), (True, varints)]
 
@@ -202,19 +202,19 @@ def encoding(code: Any, size: Any, then: Callable[[list[Any]], Any]) -> Rows:
     return varint_of(code, lambda first: varint_of(widened(size), lambda second: then(first + second)))
 
 
-def encode(code: Any, digest_length: Any, out_length: Any) -> Rows:
+def multihash_encode(code: Any, digest_length: Any, out_length: Any) -> Rows:
     pair = encoding(code, digest_length, lambda head: written(out_length, head, digest_length))
     return fitting(code, digest_length, pair)
 
 
-def encoded_length(code: Any, digest_length: Any) -> Rows:
+def multihash_encoded_length(code: Any, digest_length: Any) -> Rows:
     size = widened(digest_length)
     counted = encoding(code, size, lambda head: Result({"status": OK, "length": len(head) + size}))
     return fitting(code, digest_length, counted)
 
 
 # SCALE
-def scale_decode(bytes_length: Any) -> Rows:
+def multihash_scale_decode(bytes_length: Any) -> Rows:
     length, source = widened(bytes_length), [z3.BitVec(f"bytes[{i}]", 8) for i in range(9)]
     code, size = z3.Concat(*reversed(source[:8])), widened(source[8])
     return [
@@ -226,13 +226,13 @@ def scale_decode(bytes_length: Any) -> Rows:
     ]
 
 
-def scale_encode(code: Any, digest_length: Any, out_length: Any) -> Rows:
+def multihash_scale_encode(code: Any, digest_length: Any, out_length: Any) -> Rows:
     head = [z3.Extract(8 * i + 7, 8 * i, code) for i in range(8)] + [z3.Extract(7, 0, digest_length)]
     return fitting(code, digest_length, written(out_length, head, digest_length))
 
 
 # Equality and order
-def compare(left_code: Any, left_digest_length: Any, right_code: Any, right_digest_length: Any) -> Rows:
+def multihash_compare(left_code: Any, left_digest_length: Any, right_code: Any, right_digest_length: Any) -> Rows:
     digests = z3.BitVec("the order of left_digest and right_digest", 32)  # by the first byte that differs
     less, equal, greater = (Result({"": order}) for order in (-1, 0, 1))
     return [
@@ -247,11 +247,11 @@ def compare(left_code: Any, left_digest_length: Any, right_code: Any, right_dige
 
 
 # About the library
-def version() -> Rows:
+def multihash_version() -> Rows:
     return [(True, Result({"": int(re.findall(r"#define MULTIHASH_VERSION_NUMBER (\d+)", HEADER)[0])}))]
 
 
-def status_text(status: Any) -> Rows:
+def multihash_status_text(status: Any) -> Rows:
     """The texts are those of the source, in the order of the statuses; the last one is that of other numbers."""
     source = (C / "src/multihash.c").read_text("utf-8")
     *texts, other = re.findall(r'(?:case MULTIHASH_\w+|default):\s*return "(.*?)";', source)
@@ -259,6 +259,6 @@ def status_text(status: Any) -> Rows:
     return [*known, (True, Result({"": other.encode()}))]
 
 
-def is_incomplete(status: Any) -> Rows:
+def multihash_is_incomplete(status: Any) -> Rows:
     ends = z3.Or(status == INSUFFICIENT, status == UNEXPECTED_EOF)
     return [(ends, Result({"": 1})), (True, Result({"": 0}))]

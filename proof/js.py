@@ -7,12 +7,12 @@ from collections import ChainMap
 from collections.abc import Callable, Iterator
 from dataclasses import dataclass, replace
 from functools import partial
-from pathlib import Path as File
+from pathlib import Path
 from typing import Any
 
 import z3
+from execution import Rejected, Return
 from js_values import Array, Number, Operators, Value, known, related, symbol
-from path import Rejected, Return
 
 Node = dict[str, Any]  # of acorn's tree
 GLOBALS = frozenset(["BigInt", "Math", "Number", "Uint8Array"])
@@ -261,7 +261,7 @@ def unknown(node: Node, what: str) -> Rejected:
 class Program:
     """The functions and constants of a module."""
 
-    def __init__(self, path: File):
+    def __init__(self, path: Path):
         self.functions: dict[str, Node] = {}
         self.constants: dict[str, Value] = {}
         self.exports: set[str] = set()  # the functions that others can call
@@ -277,7 +277,7 @@ class Program:
         for function in self.functions.values():
             self.look(function)
 
-    def top(self, node: Node, folder: File) -> None:
+    def top(self, node: Node, folder: Path) -> None:
         """Reads a statement of the module: a function, or constants that cannot change."""
         match node:
             case {"type": "ExportNamedDeclaration", "declaration": {} as declaration}:

@@ -4,7 +4,7 @@ from dataclasses import dataclass, field
 from typing import Any
 
 import z3
-from path import Path, Rejected, formula
+from execution import Execution, Rejected, formula
 
 WIDTH = 72  # of bit vectors: all numbers are below 2^66, so that no sum wraps
 SAFE = 2**53 - 1  # numbers up to here are exact
@@ -70,7 +70,7 @@ def related(name: str, a: Number, b: Number) -> Any:
     return RELATIONS[name](z3.simplify(a.x - b.x), 0)
 
 
-class Operators(Path):
+class Operators(Execution):
     """A path on which values are computed."""
 
     def made(self, x: Any, type: str) -> Number:

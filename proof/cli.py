@@ -39,7 +39,7 @@ def verdict(check: str, files: Sequence[str], edit: Edit) -> tuple[bool, str]:
     return is_right, f"{because}{said[:200]}\n    for {new or 'nothing'} in place of {old}"
 
 
-def command(
+def main(
     check: str,
     files: Sequence[str],
     groups: Mapping[str, Callable[[str], str]],

@@ -28,7 +28,7 @@ def input_of(solver: Any, *conditions: Any) -> Any:
     return solver.model() if answer == z3.sat else None
 
 
-class Path:
+class Execution:
     """The decisions of `prefix`, which are known to be possible, and then one way of each condition. `open` has the
     prefixes of the other ways, each with an input that goes there."""
 
@@ -82,14 +82,14 @@ class Path:
             model = input_of(self.solver)
 
 
-SomePath = TypeVar("SomePath", bound=Path)
+SomeExecution = TypeVar("SomeExecution", bound=Execution)
 
 
 def check(
     solver: Any,
     definition: Rows | TwoVarints,
-    start: Callable[[list[bool], Any], SomePath],
-    run: Callable[[SomePath], Wrong],
+    start: Callable[[list[bool], Any], SomeExecution],
+    run: Callable[[SomeExecution], Wrong],
     what: str = "wrong result",
 ) -> int:
     """Compares each path with a definition. `start` makes one of a prefix and an input; `run` goes to its end, and returns what
