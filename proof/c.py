@@ -19,11 +19,7 @@ WIDE = 130  # bits, in which no sum or product of two numbers overflows
 
 
 class Break(Exception):
-    ...
-
-
-class Continue(Exception):
-    ...
+    """The end of a loop."""
 
 
 class Run(Memory):
@@ -72,14 +68,11 @@ class Run(Memory):
         return z3.simplify(result)
 
     def shifted(self, name: str, x: Value, by: Value, kind: str, by_kind: str) -> Value:
-        by, width = z3.simplify(self.extended(by, by_kind)), self.unit.width(kind)
-        if not z3.is_bv_value(by):
-            raise Rejected("unknown: a shift by a number that is not known")
-        self.must(0 <= by.as_signed_long() < width, "shift: by a negative number, or too far")
-        count = by.as_long()
-        if self.unit.is_signed(kind):
-            most = ((1 << width - 1) - 1) >> (count if name == "<<" else 0)
-            self.must(z3.And(x >= 0, x <= most), "shift: of a negative number, or into the sign")
+        by = z3.simplify(self.extended(by, by_kind))
+        if self.unit.is_signed(kind) or not z3.is_bv_value(by):
+            raise Rejected("shift: of a number that may be negative, or by one that is not known")
+        count = by.as_signed_long()
+        self.must(0 <= count < self.unit.width(kind), "shift: by a negative number, or too far")
         return z3.simplify(x << count if name == "<<" else z3.LShR(x, count))
 
     def operation(self, name: str, x: Value, y: Value, kind: str, other: str) -> Value:
@@ -189,8 +182,6 @@ class Run(Memory):
         """What a compound assignment assigns."""
         kind, of = type_of(left), type_of({"type": node["computeLHSType"]})
         x, y = self.each(lambda: self.load(self.place(left)), lambda: self.value(right))
-        if isinstance(x, Pointer):
-            return self.operation(node["opcode"][:-1], x, y, kind, type_of(right))
         x = self.operation(node["opcode"][:-1], self.converted(x, kind, of), y, of, type_of(right))
         return self.converted(x, of, kind)
 
@@ -201,8 +192,6 @@ class Run(Memory):
                 place = self.place(inner)
                 if isinstance(place, Place):
                     return place
-            case "!":
-                return self.number(not self.truth(inner), "int")
             case "-":
                 return self.binary("-", self.number(0, kind), self.value(inner), kind)
             case "++":
@@ -218,8 +207,6 @@ class Run(Memory):
         self.step(node["line"])
         type_of(node)
         match parts(node):
-            case ["ParenExpr", x]:
-                return self.place(x)
             case ["DeclRefExpr", *_] if (name := node["referencedDecl"].get("name")) in self.scope:
                 return Place(self.scope[name])
             case ["MemberExpr", x] if not node["isArrow"]:
@@ -278,9 +265,6 @@ class Run(Memory):
                     self.statement(each)
             case ["WhileStmt", test, body]:
                 self.loop(test, body, None)
-            case ["DoStmt", body, test]:
-                if self.turn(body):
-                    self.loop(test, body, None)
             case ["ForStmt", start, _, test, step, body]:
                 before = dict(self.scope)
                 if start:
@@ -289,8 +273,6 @@ class Run(Memory):
                 self.scope = before
             case ["BreakStmt", *_]:
                 raise Break
-            case ["ContinueStmt", *_]:
-                raise Continue
             case ["SwitchStmt", test, body]:
                 self.switch(self.value(test), body)
             case _:
@@ -325,8 +307,6 @@ class Run(Memory):
         """Whether a loop goes on after its body."""
         try:
             self.statement(body)
-        except Continue:
-            pass
         except Break:
             return False
         return True

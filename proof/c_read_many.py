@@ -49,10 +49,8 @@ class Turn(Run):
         return {name: self.load(self.place_of(name)) for name in [*invariant(0, 0), *self.arguments]}
 
     def loop(self, test: Node, body: Node, step: Node) -> None:
-        if self.calls != ["multihash_read_many"]:
-            return super().loop(test, body, step)
-        if self.is_in_turn:
-            raise Rejected("not shown: read_many: it has a second loop")
+        if self.is_in_turn or self.calls != ["multihash_read_many"]:
+            raise Rejected("not shown: read_many: it has another loop")
         wrong = violated(self.state(), self.arguments, 0, 0)
         self.must(z3.Not(z3.Or(list(wrong.values()))), "not shown: read_many: the invariant before the first turn")
         self.is_in_turn = True

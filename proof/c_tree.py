@@ -53,7 +53,7 @@ class Unit:
             raise Rejected(f"unknown: {found[0]}, which is read in place of another header")
         command = ["clang", f"--target={target}", "-std=c11", "-ffreestanding", "-fsyntax-only", f"-I{include}"]
         command += ["-pedantic-errors", "-Werror=initializer-overrides", "-Xclang", "-ast-dump=json", str(source)]
-        run = subprocess.run(command, stdout=-1, stderr=-1, text=True)
+        run = subprocess.run(command, capture_output=True, text=True)
         if run.returncode:
             raise Rejected(f"unknown: Clang says {' '.join(re.findall('error: .*', run.stderr))[:300]}")
         self.word = word
@@ -99,7 +99,7 @@ class Unit:
             of = node["type"].get("desugaredQualType", node["type"]["qualType"])
             if of in self.numbers:
                 self.numbers[name] = self.numbers[of]
-        elif kind != "EmptyDecl":
+        else:
             raise Rejected(f"unknown: {kind} {name} in file scope (line {node['line']})")
 
     def width(self, kind: str) -> int:

@@ -53,7 +53,7 @@ INSERTED = (
     # what does not end, or not soon
     ("if (bytes_length > 9) return multihash_read_varint(bytes, 9);", "unknown: a call"),
     ("size_t n = 0;\n    while (n < bytes_length) n++;", "no end: "),
-    ("size_t n = 0;\n    do { if (n < 9) continue; } while (n < bytes_length);", "no end: "),
+    ("size_t n = 0;\n    do { if (n < 9) continue; } while (n < bytes_length);", "unknown: DoStmt"),
 )
 
 EDITS = (
