@@ -7,7 +7,7 @@
 import re
 import sys
 from collections.abc import Callable
-from dataclasses import dataclass
+from dataclasses import dataclass, replace
 from functools import partial
 from pathlib import Path
 from typing import Any
@@ -25,8 +25,9 @@ FOLDER = Path(__file__).resolve().parents[1] / "bindings/js"
 STATUSES = tuple(re.findall(r"^  '(\w+)',$", (FOLDER / "statuses.js").read_text("utf-8"), re.M))
 # ---- arguments: bit vectors of 64 bits for the definitions, and the same numbers for JavaScript
 INDEX = 2**52  # no array has as many bytes
-NUMBERS = {"at": INDEX, "length": INDEX, "limit": 255, "code": 2**64 - 1, "other": 2**64 - 1}
-NUMBERS |= {"left": INDEX, "right": INDEX, "size": 255, "room": 9}  # what each is at most
+# what each number is at most
+MOST = {"at": INDEX, "length": INDEX, "limit": 255, "code": 2**64 - 1, "other": 2**64 - 1}
+MOST |= {"left": INDEX, "right": INDEX, "size": 255, "room": 9}
 
 
 def bits(name: str) -> Any:
@@ -34,15 +35,13 @@ def bits(name: str) -> Any:
 
 
 def number(name: str) -> Number:
-    return symbol(bits(name), "wide" if NUMBERS[name] > SAFE else "number")
+    return symbol(bits(name), "wide" if MOST[name] > SAFE else "number")
 
 
-RANGES = [z3.ULE(bits(name), most) for name, most in NUMBERS.items()]
+RANGES = [z3.ULE(bits(name), most) for name, most in MOST.items()]
 RANGES.append(z3.ULE(bits("at") + bits("length"), INDEX))
 INPUT, WHOLE = Array("bytes", number("length"), number("at")), Array("bytes", number("length"))
-DIGEST, LEFT, RIGHT = (
-    Array(*x) for x in (("digest", number("size")), ("one", number("left")), ("two", number("right")))
-)
+DIGEST, LEFT, RIGHT = Array("digest", number("size")), Array("one", number("left")), Array("two", number("right"))
 
 
 # ---- results: what may be wrong, each with the condition under which it is
@@ -58,43 +57,44 @@ def another(found: Value, wanted: Any) -> Any:
     return z3.Or(found.x != wanted, (found.x > SAFE) != is_big)
 
 
-def status(found: Value, wanted: Result, _: Any) -> dict[str, Any]:
-    return {"status": wanted.members["status"] != STATUSES.index(found) if found in STATUSES else True}
+def wrong_status(found: Value, wanted: Result, _: Any) -> dict[str, Any]:
+    return {"status": found not in STATUSES or wanted.members["status"] != STATUSES.index(found)}
 
 
-def decoded(found: Value, wanted: Result, given: list[Value]) -> dict[str, Any]:
+def wrong_decoded(found: Value, wanted: Result, given: list[Value]) -> dict[str, Any]:
     """Of a varint, of the two before a digest, or of a multihash, which ends with its digest."""
     members, origin = wanted.members, given[0].origin.x
     size = wide(members.get("digest_length", members.get("size", 0)))
-    numbers = {"code": wide(members.get("code", 0)), "size": size}
     if "value" in members:
         numbers = {"value": wide(members["value"])}
+    else:
+        numbers = {"code": wide(members.get("code", 0)), "size": size}
     numbers["next"] = origin + wide(members["consumed"])
     if not isinstance(found, dict) or found.keys() != {"status", *numbers}:
         return {"the fields": True}
     wrong = {name: another(found[name], x) for name, x in numbers.items()}
     if "digest_offset" in members:
         wrong["the digest"] = numbers["next"] - size != origin + wide(members["digest_offset"])
-    return status(found["status"], wanted, given) | wrong
+    return wrong_status(found["status"], wanted, given) | wrong
 
 
-def length_of(found: Value, wanted: Result, _: Any) -> dict[str, Any]:
+def wrong_length(found: Value, wanted: Result, _: Any) -> dict[str, Any]:
     return {"length": another(found, len(wanted.head) + wide(wanted.digest))}
 
 
-def encoding(found: Value, wanted: Result, given: Any) -> dict[str, Any]:
+def wrong_encoding(found: Value, wanted: Result, given: Any) -> dict[str, Any]:
     """Of a new array: the bytes of the head, the digest, and nothing else."""
     if not isinstance(found, Array) or found.role != "new":
         return {"the array": True}
-    return length_of(found.count, wanted, given) | miswritten(found.written, found.copied, wanted)
+    return wrong_length(found.count, wanted, given) | miswritten(found.written, found.copied, wanted)
 
 
-def varint_end(found: Value, wanted: Result, given: list[Value]) -> dict[str, Any]:
+def wrong_end(found: Value, wanted: Result, given: list[Value]) -> dict[str, Any]:
     wrong = miswritten(given[1].written, given[1].copied, wanted)
     return {"next": another(found, number("at").x + len(wanted.head))} | wrong
 
 
-def order(found: Value, wanted: Result, _: Any) -> dict[str, Any]:
+def wrong_order(found: Value, wanted: Result, _: Any) -> dict[str, Any]:
     return {"order": another(found, z3.BitVecVal(wanted.members[""], WIDTH))}
 
 
@@ -111,9 +111,11 @@ def varint_at(run: Run, bytes: Value, index: Value, end: Value) -> Value:
     found, start = (FIRST, origin) if z3.is_true(z3.simplify(index == origin)) else (SECOND, origin + wide(FIRST.end))
     must_be(run, z3.And(index == start, end == origin + number("length").x))
     must_be(run, found is FIRST or FIRST.status == OK)
-    status = [name for number, name in enumerate(STATUSES) if run.decide(found.status == number)]
-    next = Number(z3.simplify(origin + wide(found.end)))
-    return {"status": "".join(status), "value": symbol(found.number, "wide"), "next": next}
+    value, next = symbol(found.number, "wide"), Number(z3.simplify(origin + wide(found.end)))
+    for number_of_status, status in enumerate(STATUSES):
+        if run.decide(found.status == number_of_status):
+            return {"status": status, "value": value, "next": next}
+    raise Rejected("unknown: a status")
 
 
 def compare_bytes(run: Run, one: Value, two: Value, count: Value) -> Value:
@@ -148,14 +150,18 @@ class Turn(Run):
 # ---- the functions of format.js
 @dataclass
 class Function:
-    """What a function returns for these arguments, of which each path has new ones, is what a definition says of numbers."""
+    """What a function returns for these arguments is what a definition says of numbers. An output is empty on each path."""
 
     definition: Callable[..., Any]
-    numbers: str
+    numbers: list[str]
     wrong: Callable[[Value, Result, list[Value]], dict[str, Any]]
-    arguments: Callable[[], list[Value]]
+    arguments: list[Value]
     when: Any = True
     path_type: type[Run] = Run
+
+
+def fitting(code: Any, size: Any) -> Rows:
+    return definitions.fitting(code, size, Result({"status": OK}))
 
 
 def varint(code: Any) -> Rows:
@@ -166,6 +172,10 @@ def pair(code: Any, size: Any) -> Rows:
     return definitions.encoding(code, size, lambda head: Result({}, head, size))
 
 
+def scale(code: Any, size: Any) -> Rows:
+    return definitions.multihash_scale_encode(code, size, 264)
+
+
 def turn(at: Any, left: Any) -> Rows:
     """What a turn of compareBytes returns, by the bytes at its index."""
     one, two = z3.BitVec("one[0]", 8), z3.BitVec("two[0]", 8)
@@ -174,34 +184,31 @@ def turn(at: Any, left: Any) -> Rows:
 
 
 def functions() -> dict[str, Function]:
-    at, length, limit, code, other, left, right, size, room = map(number, NUMBERS)
-    end, rest = Number(at.x + length.x), Number(left.x - at.x)
-    is_valid = is_code(bits("code"))
+    at, length, limit, left, right = (number(name) for name in ("at", "length", "limit", "left", "right"))
+    code, other, size, rest = number("code"), number("other"), number("size"), Number(left.x - at.x)
+    part = [INPUT, at, Number(at.x + length.x)]
+    out = Array("out", number("room"), at, "output")
+    ones = [Array("one", rest, at), Array("two", rest, at), left]
+    both = [code, LEFT, left, other, RIGHT, right]
+    valid = is_code(bits("code"))
     has_room = z3.Or([z3.And(z3.UGE(bits("room"), i), z3.ULT(bits("code"), 1 << 7 * i)) for i in range(1, 10)])
-    head, read_limit, from_bytes = (
-        definitions.multihash_read_head,
-        definitions.multihash_read_limit,
-        definitions.multihash_from_bytes,
-    )
-    fitting = lambda code, size: definitions.fitting(code, size, Result({"status": OK}))
-    scale = lambda code, size: definitions.multihash_scale_encode(code, size, 264)
-    place = lambda: [code, Array("out", room, at, "output"), at]
-    ones = lambda: [Array("one", rest, at), Array("two", rest, at), left]
-    both = lambda: [code, LEFT, left, other, RIGHT, right]
+    head, read_limit = definitions.multihash_read_head, definitions.multihash_read_limit
+    from_bytes, compare = definitions.multihash_from_bytes, definitions.multihash_compare
+    orders = ["code", "left", "other", "right"]
     return {
-        "readVarint": Function(definitions.get_varint, "length", decoded, lambda: [INPUT, at, end]),
-        "head": Function(head, "length", decoded, lambda: [INPUT, at, end]),
-        "read": Function(read_limit, "length limit", decoded, lambda: [INPUT, at, end, limit]),
-        "decode": Function(from_bytes, "length", decoded, lambda: [WHOLE, length]),
-        "scaleDecode": Function(definitions.multihash_scale_decode, "length", decoded, lambda: [WHOLE, length]),
-        "encodingStatus": Function(fitting, "code other", status, lambda: [code, other]),
-        "varintLength": Function(varint, "code", length_of, lambda: [code], is_valid),
-        "writeVarint": Function(varint, "code", varint_end, place, z3.And(is_valid, has_room)),
-        "encodedLength": Function(pair, "code size", length_of, lambda: [code, size], is_valid),
-        "encode": Function(pair, "code size", encoding, lambda: [code, DIGEST, size], is_valid),
-        "scaleEncode": Function(scale, "code size", encoding, lambda: [code, DIGEST, size], is_valid),
-        "compare": Function(definitions.multihash_compare, "code left other right", order, both),
-        "compareBytes": Function(turn, "at left", order, ones, z3.ULE(bits("at"), bits("left")), Turn),
+        "readVarint": Function(definitions.get_varint, ["length"], wrong_decoded, part),
+        "head": Function(head, ["length"], wrong_decoded, part),
+        "read": Function(read_limit, ["length", "limit"], wrong_decoded, [*part, limit]),
+        "decode": Function(from_bytes, ["length"], wrong_decoded, [WHOLE, length]),
+        "scaleDecode": Function(definitions.multihash_scale_decode, ["length"], wrong_decoded, [WHOLE, length]),
+        "encodingStatus": Function(fitting, ["code", "other"], wrong_status, [code, other]),
+        "varintLength": Function(varint, ["code"], wrong_length, [code], valid),
+        "writeVarint": Function(varint, ["code"], wrong_end, [code, out, at], z3.And(valid, has_room)),
+        "encodedLength": Function(pair, ["code", "size"], wrong_length, [code, size], valid),
+        "encode": Function(pair, ["code", "size"], wrong_encoding, [code, DIGEST, size], valid),
+        "scaleEncode": Function(scale, ["code", "size"], wrong_encoding, [code, DIGEST, size], valid),
+        "compare": Function(compare, orders, wrong_order, both),
+        "compareBytes": Function(turn, ["at", "left"], wrong_order, ones, z3.ULE(bits("at"), bits("left")), Turn),
     }
 
 
@@ -218,11 +225,13 @@ def result(name: str) -> str:
         def end(path: Run) -> Wrong:
             path.summaries = {"readVarint": varint_at, "compareBytes": compare_bytes}
             path.summaries.pop(name, None)
-            given = function.arguments()
+            given = [
+                replace(x, written={}) if isinstance(x, Array) and x.role == "output" else x for x in function.arguments
+            ]
             found = path.call(name, given)
             return lambda wanted: function.wrong(found, wanted, given)
 
-        definition = function.definition(*map(bits, function.numbers.split()))
+        definition = function.definition(*map(bits, function.numbers))
         what = "not shown" if function.path_type is Turn else "wrong result"
         return check(solver, definition, partial(function.path_type, program, solver), end, what)
 

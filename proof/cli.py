@@ -30,7 +30,8 @@ def verdict(check: str, files: Sequence[str], edit: Edit) -> tuple[bool, str]:
         if len(found) != 1 or texts[found[0]].count(old) != 1:
             return False, f"{function}: no file, or not once, has the text: {old}"
         found[0].write_text(texts[found[0]].replace(old, new), "utf-8")
-        run = subprocess.run([sys.executable, Path(root, "proof", check), function], stdout=-1, stderr=-2, text=True)
+        command = [sys.executable, f"{root}/proof/{check}", function]
+        run = subprocess.run(command, stdout=subprocess.PIPE, stderr=subprocess.STDOUT, text=True)
     lines = run.stdout.splitlines()
     rejections = [line for line in lines if f" {function}: REJECTED: " in line]
     is_right = any(f" {function}: REJECTED: {reason}" in line for line in rejections) and run.returncode == 1

@@ -2,7 +2,7 @@
 there. A condition is a bool, or a formula of z3."""
 import time
 from collections.abc import Callable
-from typing import Any, TypeVar
+from typing import Any
 
 import z3
 from definitions import Result, Rows, TwoVarints, widened
@@ -82,14 +82,11 @@ class Execution:
             model = input_of(self.solver)
 
 
-SomeExecution = TypeVar("SomeExecution", bound=Execution)
-
-
 def check(
     solver: Any,
     definition: Rows | TwoVarints,
-    start: Callable[[list[bool], Any], SomeExecution],
-    run: Callable[[SomeExecution], Wrong],
+    start: Callable[[list[bool], Any], Execution],
+    run: Callable[[Any], Wrong],
     what: str = "wrong result",
 ) -> int:
     """Compares each path with a definition. `start` makes one of a prefix and an input; `run` goes to its end, and returns what

@@ -141,8 +141,6 @@ class Run(Operators):
                 return self.program.constants[name]
             case {"type": "ObjectExpression", "properties": properties}:
                 return {key_of(each): of(each["value"]) for each in properties}
-            case {"type": "UnaryExpression", "operator": "!", "argument": x}:
-                return not self.truth(of(x))
             case {"type": "UnaryExpression", "operator": "typeof", "argument": x}:
                 return self.number(of(x)).type
             case {"type": "UnaryExpression", "operator": "-", "argument": {"value": int(x)}} if x > 0:  # -0 is not 0
@@ -164,11 +162,14 @@ class Run(Operators):
                 return self.call_of(callee, [of(each) for each in arguments], scope)
             case {"type": "AssignmentExpression", "operator": "=", "left": {"computed": True} as left, "right": right}:
                 return self.store(of(left["object"]), of(left["property"]), of(right))
+            case {"type": "AssignmentExpression", "operator": "=", "left": left, "right": right}:
+                return self.assign(left, of(right), scope)
             case {"type": "AssignmentExpression", "operator": name, "left": left, "right": right}:
-                change = lambda x: self.binary(name[:-1], x, of(right)) if name != "=" else of(right)
-                return self.assign(left, scope, change)[1]
-            case {"type": "UpdateExpression", "operator": name, "argument": x, "prefix": is_prefix}:
-                return self.assign(x, scope, lambda x: self.binary(name[0], x, known(1)))[is_prefix]
+                return self.assign(left, self.binary(name[:-1], of(left), of(right)), scope)
+            case {"type": "UpdateExpression", "operator": name, "argument": x, "prefix": False}:
+                before = of(x)
+                self.assign(x, self.binary(name[0], before, known(1)), scope)
+                return before
         raise Rejected(f"unknown: {node['type']} {node.get('operator', node.get('name', ''))}")
 
     # ---- variables and statements
@@ -181,14 +182,13 @@ class Run(Operators):
         else:
             raise Rejected(f"unknown: {pattern.get('name')} without a value")
 
-    def assign(self, node: Node, scope: Scope, change: Callable[[Value], Value]) -> tuple[Value, Value]:
-        """Changes a variable: what it had before, and has now."""
+    def assign(self, node: Node, x: Value, scope: Scope) -> Value:
+        """Gives a variable another value."""
         name = str(node.get("name", node["type"]))
         if name not in scope or scope[name].is_const:
             raise Rejected(f"unknown: an assignment to {name}")
-        before = scope[name].value
-        scope[name].value = after = change(before)
-        return before, after
+        scope[name].value = x
+        return x
 
     def statement(self, node: Node, scope: Scope) -> None:
         self.step(node["loc"]["start"]["line"])
@@ -306,7 +306,10 @@ class Program:
         is_plain = not x["async"] and not x["generator"] if is_function else isinstance(x, (Number, str))
         if not is_plain or name is None or name in GLOBALS:
             raise unknown(pattern, f"the constant {name}")
-        (self.functions if is_function else self.constants)[name] = x
+        if is_function:
+            self.functions[name] = x
+        else:
+            self.constants[name] = x
 
     def look(self, function: Node) -> None:
         """Rejects a name that is declared twice, and what declares one elsewhere: each name is that of one thing wherever it
