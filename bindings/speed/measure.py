@@ -27,22 +27,18 @@ def rows_of(*words: str | Path) -> Rows:
 
 
 def count_package(package: Path) -> dict[str, int]:
-    """Returns the instructions of each call of package.rs over a package, without the loop around it."""
+    """Returns the instructions of each call of package.rs over a package."""
     with tempfile.TemporaryDirectory() as work:
         Path(work, "src").mkdir()
         shutil.copy(HOME / "package.rs", f"{work}/src/main.rs")
         # run compares the results
         for words in "init --name package", f"add --path {package.resolve()}", "run", "build --release":
-            subprocess.run(["cargo", "--quiet", *words.split()], cwd=work, check=True)
-        program = Path(work, "target/release/package")
-        subprocess.run(["valgrind", "-q", "--tool=callgrind", f"--callgrind-out-file={work}/out", program], check=True)
-        found: dict[str, int] = {}
-        for path in sorted(Path(work).glob("out.*"), key=lambda path: int(path.suffix[1:])):
-            text = path.read_text("utf-8")
-            if name := re.search(r"(?m)^desc: Trigger: Client Request: (.*)$", text):
-                found[name[1]] = int(re.findall(r"(?m)^(?:totals|summary): (\d+)$", text)[0])
-    nothing = found.pop("nothing")
-    return {name: round((instructions - nothing) / TURNS) for name, instructions in found.items()}
+            subprocess.run(["cargo", "--quiet", *words.split()], cwd=work, check=True, stdout=subprocess.DEVNULL)
+        tool = f"valgrind -q --tool=callgrind --callgrind-out-file={work}/out --toggle-collect=package::measured"
+        command = [*tool.split(), "--dump-after=package::count", f"{work}/target/release/package"]
+        names = subprocess.run(command, stdout=subprocess.PIPE, text=True, check=True).stdout.splitlines()
+        dumps = [Path(work, f"out.{number}").read_text("utf-8") for number in range(1, len(names) + 1)]
+    return {name: round(int(re.findall(r"(?m)^totals: (\d+)", dump)[0]) / TURNS) for name, dump in zip(names, dumps)}
 
 
 def count_rust(upstream: Path) -> Rows:

@@ -1,37 +1,27 @@
-//! Calls of a package `multihash`, of this repository or upstream's, for `measure.py`: each is made `TURNS` times, and a
-//! request to valgrind's tool callgrind then writes the number of instructions with the call's name. A build for
-//! debugging also compares what the first call returns.
+//! Calls of a package `multihash`, of this repository or upstream's, for `measure.py`: each is made `TURNS` times, in a
+//! function whose instructions callgrind counts, and its name is printed. A build for debugging also compares what the
+//! first call returns.
 use multihash::{Error, Multihash};
-use std::arch::asm;
 use std::collections::BTreeMap;
-use std::ffi::CString;
 use std::hint::black_box;
 use std::io::BufReader;
 
 const TURNS: usize = 64;
 const VALUES: usize = 500;
-const ZERO_STATS: usize = 0x4354_0001;
-const DUMP_STATS_AT: usize = 0x4354_0003;
-
-/// A request to callgrind, as valgrind.h makes it on x86-64: instructions that do nothing without valgrind.
-fn request(kind: usize, text: usize) {
-    let words = [kind, text, 0, 0, 0, 0];
-    // SAFETY: the instructions change no register but rdx.
-    unsafe {
-        asm!("rol rdi, 3", "rol rdi, 13", "rol rdi, 61", "rol rdi, 51", "xchg rbx, rbx",
-            in("rax") words.as_ptr(), inout("rdx") 0_usize => _);
-    }
-}
-
-fn count<T>(name: &str, mut call: impl FnMut() -> T, is_right: impl Fn(T) -> bool) {
-    let first = black_box(call());
-    assert!(!cfg!(debug_assertions) || is_right(first), "{name}");
-    let name = CString::new(name).expect("a name");
-    request(ZERO_STATS, 0);
+/// What callgrind counts.
+#[inline(never)]
+fn measured<T>(mut call: impl FnMut() -> T) {
     for _ in 0..TURNS {
         black_box(call());
     }
-    request(DUMP_STATS_AT, name.as_ptr() as usize);
+}
+
+#[inline(never)]
+fn count<T>(name: &str, mut call: impl FnMut() -> T, is_right: impl Fn(T) -> bool) {
+    let first = black_box(call());
+    assert!(!cfg!(debug_assertions) || is_right(first), "{name}");
+    println!("{name}");
+    measured(call);
 }
 
 fn calls(code: u64, with: &str) {
@@ -80,7 +70,6 @@ fn collections(size: usize, with: &str) {
 }
 
 fn main() {
-    count("nothing", || (), |()| true);
     calls(0x12, "");
     calls(0xb220, ", a code of 3 bytes");
     collections(32, "");
