@@ -12,25 +12,17 @@
 #   prints TEXT COMMAND..          in a check: the command ends with status 0, and prints the text
 #   finish                         the last line of the script: prints the plan, without which prove fails
 #
-# The variable ONLY is a regular expression: checks with other names are not run. In the folder RUN_FOLDER the CPU minutes
-# are left for .ci/run, and what was left out.
+# The variable ONLY is a regular expression: checks with other names are not run. The file LEFT_OUT gets a line for each
+# check that is left out, with what it needs.
 set -euo pipefail
 shopt -s inherit_errexit
 unset CDPATH CLICOLOR_FORCE FORCE_COLOR
 cd "$(dirname "${BASH_SOURCE[0]}")/../.."
 export LC_ALL=C.UTF-8
-number=0 failed=0 is_finished=0 without="" needs=""
+number=0 without="" needs=""
 work=$(mktemp -d)
-finish() { is_finished=1; echo "1..$number"; }
-end() {
-  local ended=$?
-  times > "$work/times"
-  # the second line is of the processes that ended, as 1m2.345s 0m1.234s
-  awk -F '[ms ]+' -v check="$0" 'NR == 2 { print $1 + $3 + ($2 + $4) / 60, check }' "$work/times" >> "${RUN_FOLDER:-$work}/times"
-  rm -rf "$work"
-  exit $((ended || failed || !is_finished || number == 0))
-}
-trap end EXIT
+trap 'rm -rf "$work"' EXIT
+finish() { echo "1..$number"; }
 
 is_there() {
   case $1 in
@@ -41,24 +33,17 @@ is_there() {
     *) command -v "$1" ;;
   esac > /dev/null 2>&1
 }
-# Prints those of the words that are not there.
-missing() {
-  local tool gone=()
-  # shellcheck disable=SC2310 # its status is what it returns
-  for tool in "$@"; do is_there "$tool" || gone+=("$tool"); done
-  echo "${gone[*]-}"
-}
 require() { without=$*; }
 
 try() {
-  local lack ended=0 skip=""
+  local tool lack=() ended=0 skip=""
   [[ $1 =~ ${ONLY-} ]] || return 0
   number=$((number + 1))
-  # shellcheck disable=SC2086 # words
-  lack=$(missing $without $needs)
-  if [ "$lack" ]; then
-    skip=" # SKIP no $lack" ended=${ALL:-0}
-    echo "$lack" >> "${RUN_FOLDER:-$work}/left_out"
+  # shellcheck disable=SC2310 # its status is what it returns
+  for tool in $without $needs; do is_there "$tool" || lack+=("$tool"); done
+  if [ "${lack[*]}" ]; then
+    skip=" # SKIP no ${lack[*]}" ended=${ALL:-0}
+    echo "${lack[*]}" >> "${LEFT_OUT:-/dev/null}"
   else
     set +e
     (set -e; "${@:2}") > "$work/log" 2>&1
@@ -66,7 +51,7 @@ try() {
     set -e
     [ "$ended" = 0 ] || sed 's/^/# /' "$work/log" >&2
   fi
-  if [ "$ended" = 0 ]; then echo "ok $number - $1$skip"; else failed=1; echo "not ok $number - $1$skip"; fi
+  if [ "$ended" = 0 ]; then echo "ok $number - $1$skip"; else echo "not ok $number - $1$skip"; fi
 }
 
 prints() {
