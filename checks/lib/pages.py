@@ -1,5 +1,5 @@
 #!/usr/bin/env python3
-"""Compares the pages with the sources: links, names, versions, limits, what mh_show prints, code of CALLING.md, and bytes of
+"""Compares the pages with the sources: links, versions, limits and output of mh_show, code of CALLING.md, and bytes of
 FORMAT.md. Nothing else is compared: no sentence, size or time."""
 
 import os
@@ -20,16 +20,6 @@ C, HEADER, RUN = "bindings/c/README.md", "bindings/c/include/multihash.h", "crat
 JS, PYTHON, RUST, SHIM = "bindings/js", "bindings/python", "bindings/rust/verified-multihash", "bindings/rust/multihash"
 # pages of packages: their links lead to no other file
 PACKED = (C, f"{RUST}/FORMATS.md", *(f"{package}/README.md" for package in ("bindings/c/src", JS, PYTHON, RUST, SHIM)))
-# a page, a source, and what it declares: the page has all these names
-DECLARED = (
-    (C, HEADER, r"^(?:static inline )?(?:const char \*|\w+ )(multihash_\w+)\("),
-    ("bindings/c/PACKAGING.md", "CMakeLists.txt", r"^ *(?:option\(|set\((?=\w+ OFF CACHE))(\w+)"),
-    (f"{JS}/README.md", f"{JS}/index.d.ts", r"^export (?:function|class) (\w+)"),
-    (f"{JS}/README.md", f"{JS}/hashes.d.ts", r"^export (?:function|const) (\w+)"),
-    (FORMAT, "crates/multihash/src/error.rt", r"pub fn (\w+)\(&self\)"),
-    ("docs/ARCHITECTURE.md", "crates.txt", r"^(\w+)[: ]"),
-    (MAN, "bindings/c/examples/mh_show.c", r"(?:= |fail\()\"([\w ]+)\""),
-)
 # pages, a text of them, in which {} is a version or a limit, and where that is from
 STATED = (
     (f"{README} {JS}/README.md", "Node.js {}", f"{JS}/package.json", r'"node": ">=(.*)"'),
@@ -43,10 +33,6 @@ STATED = (
     (C, "libmultihash_c.so.{}`", HEADER, r'MULTIHASH_VERSION "(\d+)'),
     ("CHANGES", "{}", HEADER, r'MULTIHASH_VERSION "(.*)"'),
     (README, "Version {} ", HEADER, r'MULTIHASH_VERSION "(.*)"'),
-    (FORMAT, "0 to `min(S {})`", HEADER, r"MULTIHASH_DIGEST_MAX (\d+)"),
-    (FORMAT, "an encoding | 2 to {} bytes", HEADER, r"MULTIHASH_LENGTH_MAX (\d+)"),
-    (FORMAT, "both varints together | 2 to {} bytes", HEADER, r"MULTIHASH_HEAD_MAX (\d+)"),
-    (FORMAT, "SCALE encoding | 9 to {} bytes", HEADER, r"MULTIHASH_SCALE_LENGTH_MAX (\d+)"),
     (MAN, "status {}", RUN, r"ensures status { result ≤ (\d+) }"),
     (MAN, "digest of at most {}", "crates/mh_show/src/show.rt", r"Multihash::<(\d+)>::from_bytes"),
     (MAN, "at most {} bytes", RUN, r"MOST_INPUT: usize = (.*);"),
@@ -97,11 +83,7 @@ def flat(text: str) -> str:
 
 
 def source_errors() -> Iterator[str]:
-    """Compares names, versions, limits, output and code of pages with the sources."""
-    for page, source, form in DECLARED:
-        for name in re.findall(form, read(source), re.M) or ["no name"]:
-            if not re.search(rf"(?<![\w-])(?:-D)?{name}(?![\w-])", read(page)):
-                yield f"{page}: {source} has {name}, which the page does not name"
+    """Compares versions, limits, output and code of pages with the sources."""
     for pages, text, source, origin in STATED:
         wanted = text.format(*re.findall(origin, read(source))[:1])
         for page in pages.split():
