@@ -40,11 +40,13 @@ def page_errors(page: str, endings: str, folder: Path, before: str) -> str:
         (folder / head[1]).parent.mkdir(parents=True, exist_ok=True)
         (folder / head[1]).write_text(text, "utf-8")
         wanted = SHOWN if page == README else blocks[at + 1][1]
-        given = f"{before}\n" + blocks[at - 1][1] * ("$CID" in head[3])
-        errors += run(given + head[3], folder, wanted)
-        if "$CID" in head[3]:
+        if "$CID" not in head[3]:
+            errors += run(f"{before}\n{head[3]}", folder, wanted)
+        else:
+            given = f"{before}\n{blocks[at - 1][1]}{head[3]}"
             other = given.replace("hello world", "other content")
-            errors += run(f"{other}{head[3]} || [ $? = 1 ]", folder, "false\n" if wanted == "true\n" else "False\n")
+            errors += run(given, folder, wanted)
+            errors += run(f"{other} || [ $? = 1 ]", folder, "false\n" if wanted == "true\n" else "False\n")
     return errors
 
 
@@ -58,8 +60,10 @@ def main(work: Path, name: str, before: str) -> str:
         return run(commands, clone, read("crates/mh_show/stdout") * len(re.findall(" [<|] ", commands)))
     page, install = re.findall(rf"^\| \[{name}[^\]]*\]\(([^)]*)\) \| `([^`]+)` \|", read(README), re.M)[0]
     endings = {"JavaScript": "mjs", "Python": "py", "Rust": "rs", "C": "c rb", "Rattle": "rt"}[name]
-    error = run(f"{before}\n{install}", folder) or page_errors(README, endings, folder, before)
-    return error + page_errors(page, endings, folder, before) * (name != "Rattle")
+    errors = run(f"{before}\n{install}", folder) or page_errors(README, endings, folder, before)
+    if name != "Rattle":
+        errors += page_errors(page, endings, folder, before)
+    return errors
 
 
 if __name__ == "__main__":

@@ -30,17 +30,20 @@ STREAMS = (
 def errors(program: str) -> list[str]:
     wrong = []
     for line in Path(__file__).with_name("rows.tsv").read_text("utf-8").splitlines():
-        if not line.startswith("#"):
-            text = re.sub(r"\{(\w+)\*(\d+)\}", lambda found: found[1] * int(found[2]), line)
-            given, output, reason, status = text.replace(r"\n", "\n").replace(r"\r", "\r").split("\t")
-            ran = subprocess.run([program], input=given.encode(), capture_output=True, timeout=120)
-            wanted = (output, f"mh_show: {reason}\n" if reason else "", status)
-            found = (ran.stdout.decode(), ran.stderr.decode(), str(ran.returncode))
-            wrong += [f"{line}: {wanted}, {found}"] * (found != wanted)
+        if line.startswith("#"):
+            continue
+        text = re.sub(r"\{(\w+)\*(\d+)\}", lambda found: found[1] * int(found[2]), line)
+        given, output, reason, status = text.replace(r"\n", "\n").replace(r"\r", "\r").split("\t")
+        ran = subprocess.run([program], input=given.encode(), capture_output=True, timeout=120)
+        wanted = (output, f"mh_show: {reason}\n" if reason else "", status)
+        found = (ran.stdout.decode(), ran.stderr.decode(), str(ran.returncode))
+        if found != wanted:
+            wrong.append(f"{line}: {wanted}, {found}")
     for command, wanted_text in STREAMS:
         words = ["bash", "-c", 'mh_show() { "$0" "$@"; }; ulimit -t 120; { %s; } 2>&1; echo $?' % command, program]
         shown = subprocess.check_output(words).decode()
-        wrong += [f"{command}: {wanted_text!r}, {shown!r}"] * (shown != wanted_text)
+        if shown != wanted_text:
+            wrong.append(f"{command}: {wanted_text!r}, {shown!r}")
     return wrong
 
 
