@@ -8,7 +8,6 @@ version in files that are written by hand otherwise.
 import re
 import sys
 import textwrap
-from collections.abc import Iterator, Sequence
 from pathlib import Path
 
 TOP = Path(__file__).resolve().parents[1]
@@ -18,16 +17,16 @@ HEADER = (INCLUDE / "multihash.h").read_text("utf-8")
 SOURCE = (TOP / "bindings/c/src/multihash.c").read_text("utf-8")
 MESSAGES = (INCLUDE / "multihash_message.h").read_text("utf-8").replace('%" PRIu64 "', "%s").replace('%" PRIu64', '%s"')
 VERSION = re.findall(r'#define MULTIHASH_VERSION "(.*)"', HEADER)[0]
-# The name, the number and what it is the maximum of.
-LIMITS = re.findall(r"#define MULTIHASH_(\w+_MAX) (\d+) +/\* of (.*) \*/", HEADER)
+LIMIT = r"#define MULTIHASH_(?P<name>\w+_MAX) (?P<number>\d+) +/\* of (?P<what>.*) \*/"
+LIMITS = [found.groupdict() for found in re.finditer(LIMIT, HEADER)]
 TEXTS = dict(re.findall(r'case MULTIHASH_(\w+):\s*return (".*");', SOURCE))
-# The name, the number, the name in lower case, the comment, whose lines begin with asterisks, and the text.
+# The lines of a comment begin with asterisks.
 STATUSES = [
-    (name, number, name.lower(), " ".join(comment.replace("\n     *", "").split()), TEXTS[name])
+    {"name": name, "number": number, "meaning": " ".join(comment.replace("\n     *", "").split()), "text": TEXTS[name]}
     for comment, name, number in re.findall(r"/\*((?:(?!\*/).)*)\*/\s*MULTIHASH_(\w+) = (\d+)", HEADER, re.S)
 ]
 INCOMPLETE = re.findall(r"status == MULTIHASH_(\w+)", SOURCE)
-# The name of a text, its parameters, the format, and the values for it, which a comma precedes. Each conversion is %s.
+# A function that writes a text: its name, its parameters, the format and the values for it, which a comma precedes.
 TEXT = r'mh_text_(\w+)\(char \*text, size_t text_size(.*)\)\n{\s*return snprintf\(text, text_size, "([^"]*)"([^;]*)\);'
 LISTS = [line.split("\t") for name in ("hashes.tsv", "codes.tsv") for line in (DATA / name).open(encoding="utf-8")]
 NAMES = sorted({(int(code, 16), name.strip()) for code, name, *_ in LISTS if code != "code"})
@@ -35,12 +34,30 @@ NAMES = sorted({(int(code, 16), name.strip()) for code, name, *_ in LISTS if cod
 LAST = {name.rpartition("-")[0]: code for code, name in NAMES}
 FAMILIES = [(code, name[:-2], LAST[name[:-2]] - code + 1) for code, name in NAMES if name.endswith("-8")]
 OTHERS = [(code, name) for code, name in NAMES if name.rpartition("-")[0] not in [stem for _, stem, _ in FAMILIES]]
-CONSTANTS = [(code, name, name.upper().replace("-", "_")) for code, name in NAMES]
+CODES = [{"code": f"{code:#x}", "name": name, "constant": name.upper().replace("-", "_")} for code, name in NAMES]
 
 
-def rows(*lines: str, of: Sequence[tuple[str | int, ...]] = STATUSES) -> str:
-    """Returns the lines for each row, which has what their braces stand for."""
-    return "\n".join(line.format(*row) for row in of for line in lines)
+JS_TEXTS = RUST_TEXTS = ""  # functions that write or return these texts
+for function, given, text, values in re.findall(TEXT, MESSAGES):
+    shown = re.split(r",\s+", values)[1:]
+    js_name = re.sub("_(.)", lambda letter: letter[1].upper(), function)
+    js_given = ", ".join(re.findall(r"(\w+)(?:,|$)", given))
+    js_text = text % tuple(f"${{{value}}}".replace("==", "===").replace('"', "'") for value in shown)
+    JS_TEXTS += f"export const {js_name} = ({js_given}) =>\n  `{js_text}`;\n"
+    rust_given = re.sub(r"uint64_t (\w+)", r"\1: u64", re.sub(r"const char \*(\w+)", r"\1: &str", given))
+    rust_text = text % tuple("{}" if "?" in value else f"{{{value}}}" for value in shown)
+    words = "".join(re.findall(r'\w+ == \d \? ".*?" : ".*?"', values))
+    words = re.sub(r'(\w+ == \d) \? (".*?") : (".*?")', r", if \1 { \2 } else { \3 }", words)
+    RUST_TEXTS += f"""
+pub(super) fn {function}(f: &mut Formatter<'_>{rust_given}) -> Result {{
+    write!(f, "{rust_text}"{words})
+}}
+"""
+
+
+def rows(*lines: str, of: list[dict[str, str]] = STATUSES) -> str:
+    """Returns the lines for each row, which has what their braces name."""
+    return "\n".join(line.format(**row) for row in of for line in lines)
 
 
 def names(one: str, family: str) -> str:
@@ -48,23 +65,6 @@ def names(one: str, family: str) -> str:
     made = {code: one.format(code, name) for code, name in OTHERS}
     made |= {code: family.format(code, name, count) for code, name, count in FAMILIES}
     return "\n".join(line for _, line in sorted(made.items()))
-
-
-def message_texts() -> Iterator[tuple[str, ...]]:
-    """Yields for each text the function in JavaScript: the name, the parameters and the template; and that in Rust, with
-    the words that depend on a number."""
-    for name, given, text, values in re.findall(TEXT, MESSAGES):
-        shown = re.split(r",\s+", values)[1:]
-        choices = re.findall(r'(\w+ == \d) \? (".*?") : (".*?")', values)
-        yield (
-            re.sub("_(.)", lambda letter: letter[1].upper(), name),
-            ", ".join(re.findall(r"(\w+)(?:,|$)", given)),
-            text % tuple(f"${{{value}}}".replace("==", "===").replace('"', "'") for value in shown),
-            name,
-            re.sub(r"uint64_t (\w+)", r"\1: u64", re.sub(r"const char \*(\w+)", r"\1: &str", given)),
-            text % tuple("{}" if "?" in value else f"{{{value}}}" for value in shown),
-            "".join(f", if {case} {{ {one} }} else {{ {other} }}" for case, one, other in choices),
-        )
 
 
 def all_names(row: str, indent: str) -> str:
@@ -80,29 +80,27 @@ FILES = {
 
 /** The version of the library. */
 export const version = '{VERSION}';
-{rows("/** The maximum length of {2}, in bytes. */", "export const {0} = {1};", of=LIMITS)}
+{rows("/** The maximum length of {what}, in bytes. */", "export const {name} = {number};", of=LIMITS)}
 """,
     "js/limits.d.ts": f"""// Limits and the version of multihash.h. Made by tools/generate tables.
 
 /** The version of the library: three numbers separated by dots. */
 export const version: string;
-{rows("/** The maximum length of {2}, in bytes. */", "export const {0}: {1};", of=LIMITS)}
+{rows("/** The maximum length of {what}, in bytes. */", "export const {name}: {number};", of=LIMITS)}
 """,
     "js/statuses.js": f"""// Statuses, and the texts of errors, of the headers for C. Made by tools/generate tables.
 
 /** The statuses, by their numbers. */
 export const STATUSES = [
-{rows("  '{2}',")}
+{rows("  '{name}',").lower()}
 ];
 /** Those of truncated input. */
 export const INCOMPLETE = {[name.lower() for name in INCOMPLETE]};
 
-{rows("export const {0} = ({1}) =>", "  `{2}`;", of=[*message_texts()])}
-""",
+{JS_TEXTS}""",
     "rust/verified-multihash/src/error/texts.rs": f"""//! The texts of errors, of multihash_message.h. Made by tools/generate tables.
 use core::fmt::{{Formatter, Result}};
-{rows("", "pub(super) fn {3}(f: &mut Formatter<'_>{4}) -> Result {{", '    write!(f, "{5}"{6})', "}}", of=[*message_texts()])}
-""",
+{RUST_TEXTS}""",
     "js/codes.js": f"""// Names of hash functions in the multicodec table. Made by tools/generate tables.
 
 const family = (name, first, count) =>
@@ -123,7 +121,7 @@ Object.freeze(NAMES);
 
 /** The codes of the hash functions, by their names: those listed here, and BLAKE2 and Skein of other lengths. */
 export const CODES: Readonly<Record<string, number | undefined>> & {{
-{rows("  readonly '{1}': {0:#x};", of=NAMES)}
+{rows("  readonly '{name}': {code};", of=CODES)}
 }};
 /** The names of these functions, by their codes. */
 export const NAMES: Readonly<Record<number, string | undefined>>;
@@ -136,18 +134,18 @@ import enum
 class Status(enum.IntEnum):
     """Why a call failed, with the numbers of the C library. OK and NO_ROOM are not raised.
 
-{rows("    {0}: {3}")}
+{rows("    {name}: {meaning}")}
     """
 
     __module__ = "verified_multihash"  # where pickled values find it
-{rows("    {0} = {1}")}
+{rows("    {name} = {number}")}
 
 
 INCOMPLETE = ({", ".join("Status." + name for name in INCOMPLETE)})
 
 # What multihash_status_text returns.
 TEXTS = {{
-{rows("    Status.{0}: {4},")}
+{rows("    Status.{name}: {text},")}
 }}
 ''',
     "python/src/verified_multihash/_codes.py": f'''"""Names of hash functions in the multicodec table. Made by tools/generate tables."""
@@ -185,7 +183,7 @@ pub fn code(name: &str) -> Option<u64> {{
     NAMES.iter().find(|row| row.1 == name).map(|row| row.0)
 }}
 
-{rows("/// The code of `{1}`.", "pub const {2}: u64 = {0:#x};", of=CONSTANTS)}
+{rows("/// The code of `{name}`.", "pub const {constant}: u64 = {code};", of=CODES)}
 
 // Sorted by code.
 const NAMES: &[(u64, &str)] = &[
