@@ -3,6 +3,7 @@ no defined result is rejected, and so is what this file does not know."""
 import json
 from collections.abc import Callable
 from functools import partial
+from itertools import permutations
 from operator import add, and_, eq, ge, gt, le, lt, mul, ne, or_, sub
 from typing import Any
 
@@ -104,10 +105,9 @@ class Run(Memory):
             start = len(self.log)
             values.append(one())
             logs.append(self.log[start:])
-        for i, log in enumerate(logs):
-            others = [place for j, other in enumerate(logs) if j != i for place, _ in other]
+        for log, other in permutations(logs, 2):
             for place, is_write in log:
-                if is_write and any(place.overlaps(other) for other in others):
+                if is_write and any(place.overlaps(used) for used, _ in other):
                     raise Rejected(f"order: {place.variable.name} is written and used in one expression")
         return values
 
@@ -138,10 +138,10 @@ class Run(Memory):
                 return dict(zip(names, self.values(*inner)))
             case ["ConditionalOperator", test, one, other]:
                 return self.value(one if self.truth(test) else other)
-            case ["BinaryOperator", left, right] if node["opcode"] in ("&&", "||"):
-                is_met = self.truth(left)
-                is_met = is_met if is_met == (node["opcode"] == "||") else self.truth(right)
-                return self.number(is_met, "int")
+            case ["BinaryOperator", left, right] if node["opcode"] == "&&":
+                return self.number(self.truth(left) and self.truth(right), "int")
+            case ["BinaryOperator", left, right] if node["opcode"] == "||":
+                return self.number(self.truth(left) or self.truth(right), "int")
             case ["BinaryOperator", left, right] if node["opcode"] == "=":
                 return self.assign(left, partial(self.value, right))
             case ["BinaryOperator", left, right]:
@@ -261,8 +261,10 @@ class Run(Memory):
             case ["ReturnStmt", *inner]:
                 raise Return(self.value(inner[0]) if inner else None)
             case ["IfStmt", test, then, *otherwise]:
-                for each in [then] if self.truth(test) else otherwise:
-                    self.statement(each)
+                if self.truth(test):
+                    self.statement(then)
+                elif otherwise:
+                    self.statement(otherwise[0])
             case ["WhileStmt", test, body]:
                 self.loop(test, body, None)
             case ["ForStmt", start, _, test, step, body]:

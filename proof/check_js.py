@@ -216,10 +216,10 @@ def result(name: str) -> str:
     """Checks a function."""
 
     def run() -> int:
-        program, known_functions = Program(FOLDER / "format.js"), functions()
-        if odd := program.exports ^ {*known_functions} or {name} - {*known_functions}:
-            raise Rejected(f"unknown: no definition, or no function: {' '.join(odd)}")
-        function, solver = known_functions[name], z3.SolverFor("QF_BV")
+        program, defined = Program(FOLDER / "format.js"), functions()
+        if name not in defined or program.exports != {*defined}:
+            raise Rejected(f"unknown: no definition, or no function: {name} {program.exports ^ {*defined}}")
+        function, solver = defined[name], z3.SolverFor("QF_BV")
         solver.add(*RANGES, function.when)
 
         def end(path: Run) -> Wrong:

@@ -147,11 +147,12 @@ class Run(Operators):
                 return known(-x)
             case {"type": "BinaryExpression", "operator": name, "left": left, "right": right}:
                 return self.binary(name, of(left), of(right))
-            case {"type": "LogicalExpression", "operator": "&&" | "||" as name, "left": left, "right": right}:
-                x = self.truth(of(left))
-                return x if x == (name == "||") else self.truth(of(right))
-            case {"type": "ConditionalExpression", "test": test}:
-                return of(node["consequent" if self.truth(of(test)) else "alternate"])
+            case {"type": "LogicalExpression", "operator": "&&", "left": left, "right": right}:
+                return self.truth(of(left)) and self.truth(of(right))
+            case {"type": "LogicalExpression", "operator": "||", "left": left, "right": right}:
+                return self.truth(of(left)) or self.truth(of(right))
+            case {"type": "ConditionalExpression", "test": test, "consequent": one, "alternate": other}:
+                return of(one) if self.truth(of(test)) else of(other)
             case {"type": "MemberExpression", "computed": True, "object": array, "property": index}:
                 return self.load(of(array), of(index))
             case {"type": "MemberExpression", "object": x, "property": {"name": name}}:
@@ -199,9 +200,11 @@ class Run(Operators):
                     self.statement(each, inner)
             case {"type": "ReturnStatement", "argument": {} as x}:
                 raise Return(self.value(x, scope))
-            case {"type": "IfStatement", "test": test}:
-                if way := node["consequent" if self.truth(self.value(test, scope)) else "alternate"]:
-                    self.statement(way, scope)
+            case {"type": "IfStatement", "test": test, "consequent": then, "alternate": otherwise}:
+                if self.truth(self.value(test, scope)):
+                    self.statement(then, scope)
+                elif otherwise:
+                    self.statement(otherwise, scope)
             case {"type": "VariableDeclaration", "kind": kind, "declarations": declarations}:
                 for each in declarations:
                     self.declare(each["id"], each["init"] and self.value(each["init"], scope), scope, kind == "const")
@@ -318,6 +321,7 @@ class Program:
         for node in nodes([*function["params"], function["body"]]):
             if re.search("Function|Class", node["type"]) or node.get("kind") == "var":
                 raise unknown(node, f"{node.get('kind', node['type'])} in a function")
-            names += names_of(node["id"]) if node["type"] == "VariableDeclarator" else []
+            if node["type"] == "VariableDeclarator":
+                names += names_of(node["id"])
         if again := [x for x in names if names.count(x) > 1 or x in GLOBALS.union(self.functions, self.constants)]:
             raise unknown(function, f"another {again[0]}")
