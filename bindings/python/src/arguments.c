@@ -9,7 +9,7 @@ PyObject *wrong_type(const char *name, const char *expected, PyObject *argument)
     return NULL;
 }
 
-/* The same in place of CPython's TypeError, which does not name the argument. A text or a coroutine has a hint. */
+/* The same in place of CPython's TypeError, which does not name the argument. A text has a hint. */
 static void rename_error(const char *name, const char *expected, PyObject *argument)
 {
     static const char *hints[][2] = {
@@ -24,8 +24,6 @@ static void rename_error(const char *name, const char *expected, PyObject *argum
         for (size_t at = 0; at < sizeof hints / sizeof *hints; at++) {
             if (strcmp(name, hints[at][0]) == 0) expected = hints[at][1];
         }
-    } else if (strcmp(name, RESULT_OF_READ) == 0 && PyObject_HasAttrString(argument, "__await__")) {
-        expected = "bytes (an AsyncMultihashReader awaits read)";
     }
     wrong_type(name, expected, argument);
 }

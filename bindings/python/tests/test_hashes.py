@@ -85,7 +85,7 @@ class Hashes(unittest.TestCase):
             self.assertIs(hashes.verify(Multihash(0x1E, claimed), b"abc", long), False)
         for wrong in ("abc", None):
             own = {0x11: function(digest=wrong)}
-            self.assertRaisesRegex(TypeError, "digest", hashes.verify, Multihash(0x11, b"abc"), b"abc", own)
+            self.assertRaises(TypeError, hashes.verify, Multihash(0x11, b"abc"), b"abc", own)
 
     def test_parts(self):
         """Data in parts, or read from a file in parts, have the multihash of the whole."""

@@ -109,7 +109,7 @@ class Readers(unittest.TestCase):
         for kind, (limit, data, status, size, text) in itertools.product((vm.FrameReader, AwaitedFrames), FRAME_ERRORS):
             more = b"" if status in (Status.INSUFFICIENT, Status.UNEXPECTED_EOF) else b"more"
             file = io.BytesIO(b"\0\1a" + data + more)
-            reader = kind(file, *[limit] * (limit is not None))
+            reader = kind(file) if limit is None else kind(file, limit)
             self.assertEqual([reader.read(), reader.read()], [b"", b"a"])
             for _ in range(2):
                 with self.assertRaises(MultihashError) as raised:
@@ -192,7 +192,7 @@ class Readers(unittest.TestCase):
 
         async def run():
             reader = vm.AsyncMultihashReader(io.BytesIO(b"\0\0"))
-            for error, text in ((TypeError, "awaited.*MultihashReader"), (ValueError, "failed before")):
+            for error, text in ((TypeError, "await"), (ValueError, "failed before")):
                 with self.assertRaisesRegex(error, text):
                     await reader.read()
             reader = vm.AsyncMultihashReader(Mock(read=AsyncMock(side_effect=[b"\0\0", b"\1"])))

@@ -44,7 +44,7 @@ class Multihash:
 
 class Reader(Generic[_Item]):
     @property
-    def _read(self) -> Callable[[int], bytes | Awaitable[object]]: ...
+    def _read(self) -> Callable[[int], Awaitable[object]]: ...
     @property
     def rest(self) -> bytes:
         """The bytes read so far of the next multihash or frame."""

@@ -13,7 +13,7 @@ from ._types import AsyncReadable, Readable, read_of
 __all__ = ["AsyncFrameReader", "AsyncMultihashReader", "FrameReader", "MultihashReader", "read_from"]
 
 FRAME_MAX = 1 << 22
-STREAMS = "stream must be an object with an awaitable read, such as an asyncio.StreamReader"
+STREAM = "stream must have a read that is awaited, as an asyncio.StreamReader has"
 Item = TypeVar("Item")
 
 
@@ -25,10 +25,7 @@ class AsyncReader(_core.Reader[Item]):
         wanted = self._begin()
         while wanted:
             try:
-                called = self._read(wanted)
-                if isinstance(called, bytes):
-                    raise TypeError("read of the stream must be awaited: MultihashReader, FrameReader read files")
-                chunk = await called
+                chunk = await self._read(wanted)
             except BaseException as error:
                 self._fail(error)
                 raise
@@ -76,7 +73,7 @@ class AsyncMultihashReader(AsyncReader[Multihash]):
     __module__ = "verified_multihash"
 
     def __init__(self, stream: AsyncReadable, limit: int = DIGEST_MAX) -> None:
-        super().__init__(read_of(stream, STREAMS), limit)
+        super().__init__(read_of(stream, STREAM), limit)
 
 
 class FrameReader(_core.FileReader[bytes]):
@@ -100,7 +97,7 @@ class AsyncFrameReader(AsyncReader[bytes]):
     __module__ = "verified_multihash"
 
     def __init__(self, stream: AsyncReadable, limit: int = FRAME_MAX) -> None:
-        super().__init__(read_of(stream, STREAMS), limit, True)
+        super().__init__(read_of(stream, STREAM), limit, True)
 
 
 def read_from(file: Readable, limit: int = DIGEST_MAX) -> Multihash | None:

@@ -2,7 +2,7 @@
 
 from __future__ import annotations
 
-from collections.abc import Awaitable, Mapping
+from collections.abc import Awaitable
 from typing import TYPE_CHECKING, Any, Protocol
 
 if TYPE_CHECKING:
@@ -10,7 +10,7 @@ if TYPE_CHECKING:
 else:
     Buffer = bytes | bytearray | memoryview
 
-__all__ = ["AsyncReadable", "Buffer", "Readable", "bytes_like", "read_of"]
+__all__ = ["AsyncReadable", "Buffer", "Readable", "read_of", "view_of"]
 
 
 class Readable(Protocol):
@@ -23,22 +23,14 @@ class AsyncReadable(Protocol):
         """Returns at most `size` bytes; none at the end."""
 
 
-def bytes_like(data: Buffer, name: str, hints: Mapping[str, str]) -> Buffer:
-    """Returns bytes that hashlib takes. If the argument has an attribute of `hints`, the error says what helps."""
+def view_of(data: Buffer, name: str) -> memoryview:
     try:
-        view = memoryview(data)
+        return memoryview(data)
     except TypeError:
-        hint = next((hints[each] for each in hints if hasattr(data, each)), "")
-        raise TypeError(f"{name} must be a bytes-like object{hint}, not {type(data).__name__}") from None
-    return data if view.c_contiguous and view.ndim < 2 else view.tobytes()
+        raise TypeError(f"{name} must be a bytes-like object, not {type(data).__name__}") from None
 
 
-_FILES = (
-    "file must be an object with a method read, such as open(path, 'rb'), io.BytesIO(data) or socket.makefile('rb')"
-)
-
-
-def read_of(file: object, expected: str = _FILES) -> Any:
+def read_of(file: object, expected: str = "file must be a binary file, such as open(path, 'rb')") -> Any:
     """Returns the method of a file or a stream. If it has none, the error says what is expected."""
     try:
         return getattr(file, "read")

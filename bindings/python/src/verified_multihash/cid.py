@@ -22,7 +22,7 @@ from typing import Self
 
 from . import LENGTH_MAX as MULTIHASH_MAX
 from . import VARINT_LENGTH_MAX, Multihash, MultihashError, Status, encode_varint, read, read_varint
-from ._types import Buffer
+from ._types import Buffer, view_of
 
 __all__ = ["CID", "CIDError", "CODECS", "LENGTH_MAX", "TEXT_MAX"]
 
@@ -178,11 +178,7 @@ class CID:
 
 def _first_bytes(data: Buffer) -> bytes:
     """Returns a copy, so that an error does not keep the buffer from being resized."""
-    try:
-        view = memoryview(data)
-    except TypeError:
-        hint = " (CID.parse takes text)" if isinstance(data, str) else ""
-        raise TypeError(f"data must be a bytes-like object{hint}, not {type(data).__name__}") from None
+    view = view_of(data, "data")
     return (view[:LENGTH_MAX] if view.ndim else view).tobytes()[:LENGTH_MAX]
 
 

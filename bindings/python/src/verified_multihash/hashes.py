@@ -17,7 +17,7 @@ from . import _codes
 from ._core import DIGEST_MAX, Multihash, decode
 from ._error import MultihashError
 from ._status import Status
-from ._types import Buffer, Readable, bytes_like, read_of
+from ._types import Buffer, Readable, read_of, view_of
 
 # The calls that use hashlib and hmac import them: this takes longer than to import the rest of the package.
 
@@ -81,16 +81,6 @@ class _Identity:
         return self._data
 
 
-# What helps if data have an attribute: a text, a multihash, a file.
-_HINTS = {
-    "encode": " (text.encode() makes one)",
-    "hexdigest": " (verify takes the multihash first)",
-    "read": " (digest_file and verify_file take files)",
-}
-# The same for what a file in text mode and an async method return.
-_FILE_HINTS = {"encode": " (open the file in binary mode)", "__await__": " (read must not be async)"}
-
-
 @functools.cache
 def _maker(code: int) -> Callable[[], Any]:
     """Returns what makes an object of hashlib."""
@@ -142,7 +132,8 @@ class Hasher:
 
     def update(self, data: Buffer) -> None:
         """Appends data. Raises MultihashError if "identity" gets more than DIGEST_MAX bytes."""
-        self._hash.update(bytes_like(data, "data", _HINTS))
+        view = view_of(data, "data")
+        self._hash.update(data if view.c_contiguous and view.ndim < 2 else view.tobytes())  # as hashlib wants it
 
     def multihash(self) -> Multihash:
         """Returns the multihash of all data so far."""
@@ -152,8 +143,7 @@ class Hasher:
 def _parts(file: Readable) -> Iterator[Buffer]:
     read = read_of(file)
     while (part := read(1 << 18)) is not None:
-        part = bytes_like(part, "the result of read", _FILE_HINTS)
-        if memoryview(part).nbytes == 0:
+        if view_of(part, "the result of read").nbytes == 0:
             return
         yield part
     raise BlockingIOError("the file has no bytes now")
@@ -186,8 +176,7 @@ def _verify(multihash: Multihash | Buffer, parts: Iterable[Buffer], functions: _
     try:
         claimed = multihash if isinstance(multihash, Multihash) else decode(multihash)
     except TypeError:
-        expected = "multihash must be a Multihash or its encoding (Multihash.fromhex takes text)"
-        raise TypeError(f"{expected}, not {type(multihash).__name__}") from None
+        raise TypeError(f"multihash must be a Multihash or its encoding, not {type(multihash).__name__}") from None
     hasher = Hasher(claimed.code, functions)
     for part in parts:
         try:
@@ -196,8 +185,7 @@ def _verify(multihash: Multihash | Buffer, parts: Iterable[Buffer], functions: _
             if isinstance(hasher._hash, _Identity):
                 return False  # more than any digest of "identity"
             raise  # of the caller's function
-    found = bytes_like(hasher._digest(hasher._hash), "digest", {})
-    return hmac.compare_digest(claimed.digest, found)
+    return hmac.compare_digest(claimed.digest, hasher._digest(hasher._hash))
 
 
 def verify(multihash: Multihash | Buffer, data: Buffer, functions: _Functions | None = None) -> bool:
@@ -206,8 +194,8 @@ def verify(multihash: Multihash | Buffer, data: Buffer, functions: _Functions | 
     Raises UnsupportedHashError if neither `functions` nor this build of hashlib has a function for the code. The time
     that it takes to compare digests of equal lengths does not depend on their bytes.
     """
-    part = bytes_like(data, "data", _HINTS)  # first: if the arguments are swapped, data is wrong
-    return _verify(multihash, [part], functions)
+    view_of(data, "data")  # first: if the arguments are swapped, the error is about data
+    return _verify(multihash, [data], functions)
 
 
 def verify_file(multihash: Multihash | Buffer, file: Readable, functions: _Functions | None = None) -> bool:
