@@ -17,7 +17,7 @@ export function shown(number) {
 const DECODING = 'Multihash.fromHex(text) and CID.parse(text) decode it';
 const STREAM = 'its stream() is a ReadableStream';
 
-/** What a caller can pass instead, by the type of what was passed: for some arguments, and for `any` other. */
+/** What a caller can do instead, by the type of what was passed, and for some types by the argument. */
 const HINTS = {
   __proto__: null,
   string: {
@@ -33,24 +33,24 @@ const HINTS = {
     source: 'new Blob([bytes]).stream() makes one',
     any: 'decode(bytes) and read(bytes) decode it',
   },
-  view: { any: 'new Uint8Array(view.buffer, view.byteOffset, view.byteLength) makes bytes' },
-  Array: { any: 'Uint8Array.from(array) makes bytes' },
-  ArrayBuffer: { any: 'new Uint8Array(buffer) makes bytes' },
-  Blob: { any: STREAM },
-  File: { any: STREAM },
-  Response: { any: 'its body is a ReadableStream' },
-  Map: { any: 'Object.fromEntries(map) makes one' },
-  Multihash: { any: 'its bytes are the encoding' },
-  Promise: { any: 'await it' },
+  view: 'new Uint8Array(view.buffer, view.byteOffset, view.byteLength) makes bytes',
+  Array: 'Uint8Array.from(array) makes bytes',
+  ArrayBuffer: 'new Uint8Array(buffer) makes bytes',
+  Blob: STREAM,
+  File: STREAM,
+  Response: 'its body is a ReadableStream',
+  Map: 'Object.fromEntries(map) makes one',
+  Multihash: 'its bytes are the encoding',
+  Promise: 'await it',
 };
 
 /** The error for an argument of a wrong type. */
 export function wrongType(name, expected, value) {
-  const type = received(value);
-  const isProxy = type === 'Uint8Array' && !isBytes(value);
-  const hints = isProxy ? undefined : HINTS[ArrayBuffer.isView(value) && type !== 'Uint8Array' ? 'view' : type];
-  const hint = hints?.[name] ?? hints?.any;
-  return new TypeError(`${name} must be ${expected}, got ${isProxy ? 'a Proxy of a ' : ''}${type}${hint ? `: ${hint}` : ''}`);
+  let type = received(value);
+  if (type === 'Uint8Array' && !isBytes(value)) type = 'a Proxy of a Uint8Array';
+  const hints = HINTS[ArrayBuffer.isView(value) && type !== 'Uint8Array' ? 'view' : type];
+  const hint = typeof hints === 'object' ? hints[name] ?? hints.any : hints;
+  return new TypeError(`${name} must be ${expected}, got ${type}${hint ? `: ${hint}` : ''}`);
 }
 
 const getter = (prototype, name) => Object.getOwnPropertyDescriptor(prototype, name).get;
