@@ -78,6 +78,13 @@ def link_errors() -> Iterator[str]:
                 yield f"{placed(page, link)}: a link leads nowhere: {link}"
 
 
+def table_errors() -> Iterator[str]:
+    """Returns the rows after an empty line that have no head: they are shown as text."""
+    for page in (path for path in paths() if path.endswith(".md")):
+        for row in re.findall(r"\n\n(\|.*)\n(?!\|[-:| ]+\n)", FENCE.sub("", read(page))):
+            yield f"{placed(page, row)}: a row without a table: {row}"
+
+
 def flat(text: str) -> str:
     return " ".join(text.split())
 
@@ -114,4 +121,4 @@ def byte_errors() -> Iterator[str]:
 
 
 if __name__ == "__main__":
-    sys.exit("\n".join([*link_errors(), *source_errors(), *byte_errors()]) or None)
+    sys.exit("\n".join([*link_errors(), *table_errors(), *source_errors(), *byte_errors()]) or None)
