@@ -1,6 +1,6 @@
 #!/usr/bin/env python3
 """Runs the programs of README.md and of a language's page, as a reader would: without a network, in a new folder, in which
-the command of README.md's table installs the package.
+the commands of README.md install the package.
 
     page_programs.py FOLDER LANGUAGE BEFORE     BEFORE comes before each command
 
@@ -31,11 +31,11 @@ def run(commands: str, folder: Path, wanted: str | None = None) -> str:
     return f"{commands}\nstatus {ran.returncode}\n{(ran.stdout + ran.stderr)[-900:]}\nwanted {wanted}\n"
 
 
-def page_errors(page: str, endings: str, folder: Path, before: str) -> str:
+def page_errors(page: str, ending: str, folder: Path, before: str) -> str:
     blocks, errors = [*FENCE.findall(read(page)), ("", "")], ""
     for at, (_, text) in enumerate(blocks):
         head = HEAD.match(text)
-        if not head or head[2] not in endings.split() or (page != README and blocks[at + 1][0] != "text"):
+        if not head or head[2] != ending or (page != README and blocks[at + 1][0] != "text"):
             continue
         (folder / head[1]).parent.mkdir(parents=True, exist_ok=True)
         (folder / head[1]).write_text(text, "utf-8")
@@ -56,13 +56,13 @@ def main(work: Path, name: str, before: str) -> str:
     run(f"git ls-files -co --exclude-standard -z | tar -c --null -T - 2> /dev/null | tar -x -C '{clone}'", TOP)
     if name == README:
         commands = "".join(body for language, body in FENCE.findall(read(README)) if language == "sh")
-        commands = commands if "ALL" in os.environ else re.sub(r".*\brt .*\n", "", commands)
         return run(commands, clone, read("crates/mh_show/stdout") * len(re.findall(" [<|] ", commands)))
-    page, install = re.findall(rf"^\| \[{name}[^\]]*\]\(([^)]*)\) \| `([^`]+)` \|", read(README), re.M)[0]
-    endings = {"JavaScript": "mjs", "Python": "py", "Rust": "rs", "C": "c rb", "Rattle": "rt"}[name]
-    errors = run(f"{before}\n{install}", folder) or page_errors(README, endings, folder, before)
+    page = re.findall(rf"^\| \[{name}[^\]]*\]\(([^)]*)\)", read(README), re.M)[0]
+    install = re.findall(rf"^# {name}\b.*\n((?:[^#`].*\n)+)", read(README), re.M)[0]
+    ending = {"JavaScript": "mjs", "Python": "py", "Rust": "rs", "C": "c", "Rattle": "rt"}[name]
+    errors = run(f"{before}\n{install}", folder) or page_errors(README, ending, folder, before)
     if name != "Rattle":
-        errors += page_errors(page, endings, folder, before)
+        errors += page_errors(page, ending, folder, before)
     return errors
 
 
