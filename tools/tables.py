@@ -134,7 +134,7 @@ import enum
 class Status(enum.IntEnum):
     """Why a call failed, with the numbers of the C library. OK and NO_ROOM are not raised.
 
-{rows("    {name}: {meaning}")}
+{rows("    {name}: {meaning}", of=STATUSES[1:-1])}
     """
 
     __module__ = "verified_multihash"  # where pickled values find it

@@ -87,8 +87,8 @@ class value : private ordered<value> {
         return first;
     }
 
-    /* Reads the next multihash of a stream, and no byte after it. Returns nothing if the stream has no more bytes, also
-     * after its own error, as `from.bad()` tells. Throws error; then what was read of the multihash is lost. */
+    /* Reads the next multihash of a stream, and no byte after it. Returns std::nullopt if the stream has no more bytes,
+     * or has failed: test `from.bad()`. Throws error, and then the bytes read of the multihash are lost. */
     static std::optional<value> read(std::istream &from, std::size_t limit = MULTIHASH_DIGEST_MAX)
     {
         char bytes[MULTIHASH_HEAD_MAX + MULTIHASH_DIGEST_MAX];

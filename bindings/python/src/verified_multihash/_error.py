@@ -30,8 +30,8 @@ class MultihashError(ValueError):
 
     @property
     def is_incomplete(self) -> bool:
-        """Whether the input is truncated. In `read`, `head`, `scale_decode` and the readers, only then can more input
-        change the result."""
+        """Whether the input is truncated. In `read`, `read_many`, `read_varint`, `head`, `scale_decode` and the readers,
+        only then can more input change the result."""
         return self.status in INCOMPLETE
 
     def __str__(self) -> str:

@@ -6,14 +6,12 @@ import enum
 class Status(enum.IntEnum):
     """Why a call failed, with the numbers of the C library. OK and NO_ROOM are not raised.
 
-    OK: Success.
     INSUFFICIENT: The input ends before or inside a varint. More input can change the result.
-    OVERFLOW: A varint has more than nine bytes; numbers of 2^63 and above do.
+    OVERFLOW: A varint has, or would have, more than nine bytes. Numbers of 2^63 and above need that many.
     NOT_MINIMAL: A varint of more than one byte ends in a zero byte.
     INVALID_SIZE: `size` is the length of a digest that is too long, or the number of bytes that follow the multihash.
     INVALID_CODE: The code is 2^63 or more. A decoding returns it in `code`.
-    UNEXPECTED_EOF: The input ends before the end of the digest, after any varints. More input can change the result.
-    NO_ROOM: `out` is too small. `length` is the size it needs.
+    UNEXPECTED_EOF: The input ends inside the digest, or anywhere inside a SCALE encoding. More input can change the result.
     """
 
     __module__ = "verified_multihash"  # where pickled values find it
