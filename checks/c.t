@@ -71,11 +71,11 @@ in_projects() {
   [ ! -e "$work/parent/prefix" ]
 }
 
-# The programs of the page in C++ and in Go. cgo takes no prefix with a blank.
+# The program of the page in C++, and the example in Go. cgo takes no prefix with a blank.
 page_programs() {
   local -x PKG_CONFIG_PATH=$work/plain/lib/pkgconfig LD_LIBRARY_PATH=$work/plain/lib GOCACHE=$work/go.cache
   cmake --install "$work/cc" --prefix "$work/plain"
-  block_of bindings/c/README.md go > "$work/plain/main.go"
+  cp "$c/examples/hello.go" "$work/plain"
   block_of bindings/c/README.md cpp > "$work/count.cpp"
   cd "$work/plain"
   # shellcheck disable=SC2046 # words
@@ -95,6 +95,13 @@ examples() {
   hex=1220$(head -c 4097 "$c/src/multihash.c" | sha256sum | cut -c -64)
   prints "the same" "$work/verify" "$hex" < <(head -c 4097 "$c/src/multihash.c")
   { head -c 4096 "$c/src/multihash.c" | "$work/verify" "$hex" || true; } | grep "another content"
+}
+
+# The example in Ruby, over the C files.
+ruby_example() {
+  cc -O2 -shared -fPIC -I "$c/include" "$c"/src/*.c -o "$work/libmultihash_c.so"
+  cd "$work"
+  ruby "$c/examples/show.rb" | diff <(printf '%s\n' 'sha2-256, digest abc' 'the input ends inside the digest (2 of 3 bytes)') -
 }
 
 # Objects for machines without a C library, and for macOS and MSVC's mode of Clang without their headers. All that they
@@ -129,7 +136,8 @@ needs="x86_64-w64-mingw32-gcc wine" try "Windows" on_machine x86_64-w64-mingw32 
 ONLY='' try "installing" installs
 needs=mandoc try "man pages" mandoc -T lint "$prefix"/share/man/man{3/multihash.3,1/mh_show.1}
 try "projects of CMake" in_projects
-needs="c++ go" try "the page's programs in C++ and Go" page_programs
+needs="c++ go" try "programs in C++ and Go" page_programs
+needs=ruby try "the example in Ruby" ruby_example
 needs=luajit try "other languages" luajit "$c"/{tests/ffi.lua,include/multihash_ffi.h} "$work/cc/libmultihash_c.so"
 needs=/usr/include/openssl/evp.h try "the examples" examples
 finish

@@ -19,7 +19,7 @@ source="[source.crates-io]\nreplace-with = \"here\"\n[source.here]\ndirectory = 
     "[ -d cargo ] || { mkdir cargo; printf '$source' > cargo/config.toml; cargo init --quiet --name app; }
     "'export CARGO_HOME=$PWD/cargo CARGO_NET_OFFLINE=true'
   # the shell does not read blanks that pkg-config escapes, so the root is named from the folder
-  needs="cmake pkg-config ruby /usr/include/openssl/evp.h" try "C" programs C \
+  needs="cmake pkg-config /usr/include/openssl/evp.h" try "C" programs C \
     'export DESTDIR=$PWD/root PKG_CONFIG_{PATH=$PWD/root/usr/local/lib/pkgconfig,SYSROOT_DIR=root}'
   needs=rt try "Rattle" programs Rattle
 }
