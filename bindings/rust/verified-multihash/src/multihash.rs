@@ -11,6 +11,12 @@ use core::hash::{Hash, Hasher};
 /// `S` is the longest digest that you accept: 64 suffices for SHA2-512 and BLAKE2b-512, 32 for SHA2-256. The code
 /// is below 2^63, and the digest has at most 255 bytes. Values of different `S` with the same code and digest are
 /// equal and have the same hash.
+///
+/// The field is private, so these limits always hold:
+///
+/// ```compile_fail,E0423
+/// let multihash: verified_multihash::Multihash<64> = verified_multihash::Multihash(Default::default());
+/// ```
 #[derive(Clone, Copy, Default)]
 pub struct Multihash<const S: usize>(pub(crate) proved::Multihash<S>);
 

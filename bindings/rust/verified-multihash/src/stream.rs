@@ -119,8 +119,24 @@ impl<const S: usize> Default for Decoder<S> {
 /// It consumes no byte after the multihash that it returns. What it received of an incomplete one is kept, so after a
 /// timeout, or when a file has grown, the next call continues. Calls that are interrupted are repeated.
 ///
-/// As an iterator it ends after an error; [`Reader::read_next`] continues. The [page of the crate](crate#streams) has
-/// examples.
+/// As an iterator it ends after an error; [`Reader::read_next`] continues. The [page of the crate](crate#streams) reads a
+/// file.
+///
+/// # Examples
+///
+/// ```
+/// use verified_multihash::{Multihash, Reader};
+///
+/// let mut reader = Reader::<_, 64>::new(&b"\x12\x03abc\x12\x03d"[..]);
+/// assert_eq!(reader.read_next()?, Some(Multihash::wrap(0x12, b"abc")?));
+/// let error = reader.read_next().unwrap_err(); // of the kind `UnexpectedEof`
+/// assert_eq!(error.to_string(), "the input ends inside the digest (1 of 3 bytes)");
+///
+/// *reader.get_mut() = b"ef"; // what comes later
+/// assert_eq!(reader.read_next()?, Some(Multihash::wrap(0x12, b"def")?));
+/// assert_eq!(reader.read_next()?, None);
+/// # Ok::<(), std::io::Error>(())
+/// ```
 #[cfg(feature = "std")]
 #[derive(Clone, Debug)]
 pub struct Reader<R, const S: usize> {
