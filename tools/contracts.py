@@ -16,7 +16,7 @@ and [mh_show](#mh_show) without their bodies, and the [words](#words) of
 clauses. `tools/generate contracts` writes it, and CI compares it with the sources: a difference here is a changed
 promise. [What contracts see](../crates/multihash/CALLING.md#what-contracts-see) says how to read a clause.
 
-The functions of `laws.rt` and `exposed.rt` have empty bodies, but for three of `multihash`, which return a constant, and
+The functions of `laws.rt` and `exposed.rt` have empty bodies, except for three of `multihash`, which return a constant, and
 `through` of `form`, which writes a value and reads it back. Their clauses state laws of the definitions, and what callers
 can know about the library's own readers and writers, and about the parts of `form`.
 """

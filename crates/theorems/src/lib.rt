@@ -1,8 +1,7 @@
-//! The main theorems, as the contracts of four functions. Each returns what it made, so a body of one of the
-//! first three that does not do the work fails its contract. No contract can state that an allocation
-//! succeeds: so `list_through` may return out of memory in place of reading the list back, and in place of
-//! writing it if the writer allocates. To any other writer it writes the whole list unless that one fails or
-//! is full.
+//! The main theorems, as the contracts of four functions. Each function returns its result, so a body that
+//! does no work fails the contracts of the first three. No contract can state that an allocation succeeds. So
+//! `list_through` may return out of memory in place of reading the list back, and in place of writing it if
+//! the writer allocates. To any other writer it writes the whole list, unless the writer fails or is full.
 //!
 //! The clauses see a reader by the ghost members `rest` and `failures` of `Read`, and a writer by `appended`,
 //! `full`, `failures` and `allocates` of `Write`. `crates/multihash/src/no_std_io/traits.rt` says what they
