@@ -15,27 +15,19 @@ export const CID_LENGTH_MAX: 276;
 /** The maximum length of a text, in characters. A longer text is rejected before its base is decoded. */
 export const CID_TEXT_MAX: 553;
 
-/** Why a call failed. The packages for other languages use the same names. */
+/**
+ * Why a call failed. The packages for other languages use the same names. Those of `Status` are of the version, the codec or
+ * the multihash, and `cause` is the `MultihashError`. An empty text is `insufficient`.
+ */
 export type CIDStatus =
-  /**
-   * The version, the codec or the multihash is invalid or truncated, or bytes follow it, as `Status` of index.d.ts says;
-   * `cause` is the `MultihashError`. An empty text is `insufficient`.
-   */
   | Exclude<MultihashStatus, 'invalid_code' | 'not_hexadecimal'>
-  /** The text does not start with `b`, `f`, `z` or `Qm`. */
-  | 'unknown_base'
-  /** A character is no digit of the base. */
-  | 'invalid_digit'
-  /** The text has more than `CID_TEXT_MAX` characters. */
-  | 'too_long'
-  /** The last digit is superfluous, or its unused bits are not zero. */
-  | 'trailing_bits'
-  /** The text of a CID of version 0 has a prefix, or a text that starts with `Qm` is not of version 0. */
-  | 'wrong_prefix'
-  /** The bytes have a version other than 1, or `CID.of` got one other than 0 and 1. */
-  | 'unknown_version'
-  /** The codec or the multihash is not one that version 0 can have. */
-  | 'not_version_0';
+  | 'unknown_base' // the text does not start with `b`, `f`, `z` or `Qm`
+  | 'invalid_digit' // a character is no digit of the base
+  | 'too_long' // the text has more than `CID_TEXT_MAX` characters
+  | 'trailing_bits' // the last digit is superfluous, or its unused bits are not zero
+  | 'wrong_prefix' // the text of a CID of version 0 has a prefix, or a text that starts with `Qm` is not of version 0
+  | 'unknown_version' // the bytes have a version other than 1, or `CID.of` got one other than 0 and 1
+  | 'not_version_0'; // the codec or the multihash is not one that version 0 can have
 
 /** The error of a text, of bytes or of fields that are no CID. Arguments of a wrong type throw a `TypeError` instead. */
 export class CIDError extends Error {

@@ -7,20 +7,13 @@ export type Wide = number | bigint;
 
 /** Why a call failed. */
 export type Status =
-  /** The input ends before or inside a varint. */
-  | 'insufficient'
-  /** A varint has more than nine bytes, as those of numbers of 2^63 and above have. */
-  | 'overflow'
-  /** A varint of more than one byte ends in a zero byte. */
-  | 'not_minimal'
-  /** `size` is the length of a digest or frame that is too long, or the number of bytes that follow the multihash. */
-  | 'invalid_size'
-  /** The code is 2^63 or more: `code` is the code. */
-  | 'invalid_code'
-  /** The input ends after the varints, before the end of the digest or frame; in SCALE, before the end of the encoding. */
-  | 'unexpected_eof'
-  /** A text is not an even number of hexadecimal digits. */
-  | 'not_hexadecimal';
+  | 'insufficient' // the input ends before or inside a varint
+  | 'overflow' // a varint has more than nine bytes, as those of numbers of 2^63 and above have
+  | 'not_minimal' // a varint of more than one byte ends in a zero byte
+  | 'invalid_size' // `size` is the length of a digest or frame that is too long, or the number of bytes after the multihash
+  | 'invalid_code' // the code is 2^63 or more: `code` is the code
+  | 'unexpected_eof' // the input ends between the varints and the end of the digest or frame; in SCALE, inside the encoding
+  | 'not_hexadecimal'; // a text is not an even number of hexadecimal digits
 
 /** The fields of an error. */
 export interface Details {

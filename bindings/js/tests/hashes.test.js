@@ -62,7 +62,6 @@ test('content of streams, and in parts', async () => {
   const empty = await sha256.digest(new Uint8Array());
   assert.equal(empty.digestHex.slice(0, 8), 'e3b0c442');
   assert.deepEqual([await sha256.digest(chunks()), await new Hasher('sha2-256').multihash()], [empty, empty]);
-  assert.deepEqual(await sha256.digest(chunks(ABC)), await sha256.digest(ABC));
   const source = new Blob([CONTENT]).stream();
   await sha256.digest(source);
   assert.ok(!source.locked);
