@@ -32,5 +32,5 @@ export MYPY_CACHE_DIR=$work/mypy
   needs=clang-format try clang-format clang-format --dry-run -Werror $c
   needs=tsc try names names $(listed '*.js' '*.ts')
 }
-for what in rust contracts vectors tables chart; do try "tools/generate $what" tools/generate "$what" --check; done
+for what in contracts vectors tables chart; do try "tools/generate $what" tools/generate "$what" --check; done
 finish

@@ -35,24 +35,13 @@ LAST = {name.rpartition("-")[0]: code for code, name in NAMES}
 FAMILIES = [(code, name[:-2], LAST[name[:-2]] - code + 1) for code, name in NAMES if name.endswith("-8")]
 OTHERS = [(code, name) for code, name in NAMES if name.rpartition("-")[0] not in [stem for _, stem, _ in FAMILIES]]
 CODES = [{"code": f"{code:#x}", "name": name, "constant": name.upper().replace("-", "_")} for code, name in NAMES]
-
-
-JS_TEXTS = RUST_TEXTS = ""  # functions that write or return these texts
+JS_TEXTS = ""  # functions that return these texts
 for function, given, text, values in re.findall(TEXT, MESSAGES):
     shown = re.split(r",\s+", values)[1:]
     js_name = re.sub("_(.)", lambda letter: letter[1].upper(), function)
     js_given = ", ".join(re.findall(r"(\w+)(?:,|$)", given))
     js_text = text % tuple(f"${{{value}}}".replace("==", "===").replace('"', "'") for value in shown)
     JS_TEXTS += f"export const {js_name} = ({js_given}) =>\n  `{js_text}`;\n"
-    rust_given = re.sub(r"uint64_t (\w+)", r"\1: u64", re.sub(r"const char \*(\w+)", r"\1: &str", given))
-    rust_text = text % tuple("{}" if "?" in value else f"{{{value}}}" for value in shown)
-    words = "".join(re.findall(r'\w+ == \d \? ".*?" : ".*?"', values))
-    words = re.sub(r'(\w+ == \d) \? (".*?") : (".*?")', r", if \1 { \2 } else { \3 }", words)
-    RUST_TEXTS += f"""
-pub(super) fn {function}(f: &mut Formatter<'_>{rust_given}) -> Result {{
-    write!(f, "{rust_text}"{words})
-}}
-"""
 
 
 def rows(*lines: str, of: list[dict[str, str]] = STATUSES) -> str:
@@ -98,9 +87,6 @@ export const STATUSES = [
 export const INCOMPLETE = {[name.lower() for name in INCOMPLETE]};
 
 {JS_TEXTS}""",
-    "rust/verified-multihash/src/error/texts.rs": f"""//! The texts of errors, of multihash_message.h. Made by tools/generate tables.
-use core::fmt::{{Formatter, Result}};
-{RUST_TEXTS}""",
     "js/codes.js": f"""// Names of hash functions in the multicodec table. Made by tools/generate tables.
 
 const family = (name, first, count) =>

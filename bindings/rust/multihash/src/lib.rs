@@ -11,5 +11,11 @@ compile_error!("multihash has no feature arb here: make a Multihash of an arbitr
 #[cfg(not(feature = "std"))]
 pub use verified_multihash::no_std_io;
 pub use verified_multihash::{Error, Multihash};
-#[allow(deprecated)] // as upstream
-pub use verified_multihash::{MultihashGeneric, Result};
+
+/// The result of a call.
+#[deprecated(note = "name the error: `Result<Value, Error>`")]
+pub type Result<Value> = core::result::Result<Value, Error>;
+
+/// An earlier name of [`Multihash`].
+#[deprecated(note = "use `Multihash`")]
+pub type MultihashGeneric<const S: usize> = Multihash<S>;

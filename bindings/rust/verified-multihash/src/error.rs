@@ -1,14 +1,10 @@
 //! The error of reading and writing multihashes.
 use crate::no_std_io as io;
 use crate::proved::varint;
-use crate::rattle::std;
 #[cfg(feature = "alloc")]
-use crate::rattle::AllocError;
+use alloc::collections::TryReserveError;
 use core::fmt;
 use io::ErrorKind;
-
-#[rustfmt::skip] // made by tools/generate
-mod texts;
 
 /// Why a multihash or a varint was not read, written or made.
 ///
@@ -38,11 +34,11 @@ enum Kind {
 #[derive(Clone, Copy, Debug)]
 struct Place {
     part: Part,
-    /// How many bytes of the part are there.
-    there: u8,
-    /// How many bytes a digest should have, or the limit that it exceeds; else 0.
-    whole: u8,
-    /// How many bytes were consumed.
+    /// The number of bytes of the part that are present.
+    present: u8,
+    /// The length of a digest that is truncated, or the limit that a digest exceeds; otherwise 0.
+    wanted: u8,
+    /// The number of bytes that were consumed.
     consumed: Option<u16>,
 }
 
@@ -52,7 +48,7 @@ enum Part {
     Code,
     Length,
     Digest,
-    /// The bytes that follow.
+    /// The bytes that follow the multihash.
     After,
 }
 
@@ -77,7 +73,7 @@ impl Part {
 
 impl Error {
     const fn new(kind: Kind) -> Self {
-        Self { kind, place: Place { part: Part::Unknown, there: 0, whole: 0, consumed: None } }
+        Self { kind, place: Place { part: Part::Unknown, present: 0, wanted: 0, consumed: None } }
     }
 
     pub(crate) const fn from_size(size: u64) -> Self {
@@ -104,20 +100,23 @@ impl Error {
     /// Returns the error of an input without a byte.
     #[cold]
     pub(crate) fn empty() -> Self {
-        let place = Place { part: Part::Code, there: 0, whole: 0, consumed: Some(0) };
-        Self { place, ..Self::insufficient() }
+        Self::insufficient().at(Part::Code, 0, 0)
     }
 
     /// Returns the error of a digest that is longer than a capacity.
     pub(crate) const fn too_long(size: u64, capacity: usize, consumed: Option<u16>) -> Self {
-        let whole = if capacity < 255 { capacity as u8 } else { 255 };
-        Self { kind: Kind::InvalidSize(size), place: Place { part: Part::Digest, there: 0, whole, consumed } }
+        let wanted = if capacity < 255 { capacity as u8 } else { 255 };
+        Self { kind: Kind::InvalidSize(size), place: Place { part: Part::Digest, present: 0, wanted, consumed } }
     }
 
     /// Returns the error of bytes that follow a multihash of a length.
-    pub(crate) const fn trailing(size: u64, length: usize) -> Self {
-        let place = Place { part: Part::After, there: 0, whole: 0, consumed: Some(length as u16) };
-        Self { kind: Kind::InvalidSize(size), place }
+    pub(crate) fn trailing(count: usize, length: usize) -> Self {
+        Self::from_size(count as u64).at(Part::After, 0, length)
+    }
+
+    /// Returns the error with the part that it is in, how many bytes of that are present, and how many were consumed.
+    fn at(self, part: Part, present: usize, consumed: usize) -> Self {
+        Self { place: Place { part, present: present as u8, consumed: Some(consumed as u16), ..self.place }, ..self }
     }
 
     /// Returns an error of reading from a stream, for a capacity.
@@ -129,22 +128,30 @@ impl Error {
         }
     }
 
-    /// Returns an error of decoding these bytes, for a capacity.
+    /// Returns an error of decoding these bytes, for a capacity: finds the part that it is in.
     #[cold]
-    pub(crate) fn in_bytes(self, bytes: &[u8], capacity: usize) -> Self {
-        let code = varint_end(bytes);
-        let head = code + varint_end(&bytes[code..]);
-        let length = varint::read_front(&bytes[code..]).map_or(0, |(length, _)| length);
-        let (part, there, whole, consumed) = match self.kind {
-            Kind::InvalidSize(size) if length > capacity.min(255) as u64 => {
-                return Self::too_long(size, capacity, Some(head as u16));
-            }
-            Kind::InvalidSize(size) => return Self::trailing(size, bytes.len() - size as usize),
-            Kind::Io(_) => (Part::Digest, bytes.len() - head, length, bytes.len()),
-            _ if varint::read_front(bytes).is_err() => (Part::Code, code, 0, code),
-            _ => (Part::Length, head - code, 0, head),
+    pub(crate) fn in_bytes(mut self, bytes: &[u8], capacity: usize) -> Self {
+        let mut rest = bytes;
+        let code = varint::read(&mut rest);
+        let code_end = bytes.len() - rest.len();
+        if code.is_err() {
+            return self.at(Part::Code, code_end, code_end);
+        }
+        let length = varint::read(&mut rest);
+        let head_end = bytes.len() - rest.len();
+        let length = match length {
+            Ok(length) => length,
+            Err(_) => return self.at(Part::Length, head_end - code_end, head_end),
         };
-        Self { place: Place { part, there: there as u8, whole: whole as u8, consumed: Some(consumed as u16) }, ..self }
+        if length > capacity.min(255) as u64 {
+            return Self::too_long(length, capacity, Some(head_end as u16));
+        }
+        let end = head_end + length as usize;
+        if end < bytes.len() {
+            return Self::trailing(bytes.len() - end, end);
+        }
+        self.place.wanted = length as u8;
+        self.at(Part::Digest, rest.len(), bytes.len())
     }
 
     /// Returns the invalid size: the length of a digest that is longer than its capacity or than 255 bytes, or the number
@@ -213,12 +220,6 @@ fn is_end(error: &io::Error) -> bool {
     error.kind() == ErrorKind::UnexpectedEof && !is_own
 }
 
-/// Returns the number of bytes of the varint that the bytes start with, or of those that are there, at most nine.
-fn varint_end(bytes: &[u8]) -> usize {
-    let most = bytes.len().min(9);
-    bytes[..most].iter().position(|byte| *byte < 128).map_or(most, |last| last + 1)
-}
-
 impl From<io::Error> for Error {
     fn from(error: io::Error) -> Self {
         Self::new(Kind::Io(error))
@@ -226,31 +227,45 @@ impl From<io::Error> for Error {
 }
 
 #[cfg(feature = "alloc")]
-impl From<AllocError> for Error {
-    fn from(_: AllocError) -> Self {
+impl From<TryReserveError> for Error {
+    fn from(_: TryReserveError) -> Self {
         io::Error::from(ErrorKind::OutOfMemory).into()
     }
 }
 
 impl fmt::Display for Error {
     fn fmt(&self, f: &mut fmt::Formatter<'_>) -> fmt::Result {
-        let Place { part, there, whole, .. } = self.place;
+        let Place { part, present, wanted, .. } = self.place;
         match (&self.kind, part) {
             (Kind::Io(error), Part::Unknown) if is_end(error) => f.write_str("the input is truncated"),
             (Kind::Io(error), Part::Unknown) => write!(f, "{error}"), // without width and precision, as upstream
-            (Kind::Insufficient(_), Part::Code) if there == 0 => texts::empty(f),
-            (Kind::Io(_) | Kind::Insufficient(_), _) if whole > 0 => {
-                texts::truncated(f, part.name(), there.into(), whole.into())
-            }
+            (Kind::Insufficient(_), Part::Code) if present == 0 => f.write_str("the input is empty"),
             (Kind::Io(_) | Kind::Insufficient(_), _) => {
-                texts::ends(f, if there == 0 { "before" } else { "inside" }, part.name())
+                let place = if present == 0 { "before" } else { "inside" };
+                write!(f, "the input ends {place} the {}", part.name())?;
+                if wanted > 0 {
+                    write!(f, " ({present} of {wanted} {})", bytes(wanted.into()))?;
+                }
+                Ok(())
             }
-            (Kind::Overflow, _) => texts::overflow(f, part.varint()),
-            (Kind::NotMinimal, _) => texts::not_minimal(f, part.varint()),
-            (Kind::InvalidSize(size), Part::After) => texts::trailing(f, *size),
-            (Kind::InvalidSize(size), _) => texts::too_long(f, "digest", *size, whole.into()),
-            (Kind::InvalidCode(code), _) => texts::too_large(f, "code", *code),
+            (Kind::Overflow, _) => write!(f, "the {} has more than nine bytes", part.varint()),
+            (Kind::NotMinimal, _) => write!(f, "the {} is not minimal: it ends in a zero byte", part.varint()),
+            (Kind::InvalidSize(1), Part::After) => f.write_str("1 byte follows the multihash"),
+            (Kind::InvalidSize(count), Part::After) => write!(f, "{count} bytes follow the multihash"),
+            (Kind::InvalidSize(size), _) => {
+                write!(f, "the digest has {size} {}, and the limit is {wanted}", bytes(*size))
+            }
+            (Kind::InvalidCode(code), _) => write!(f, "the code {code} is 2^63 or more"),
         }
+    }
+}
+
+/// Returns the word for a number of bytes.
+const fn bytes(count: u64) -> &'static str {
+    if count == 1 {
+        "byte"
+    } else {
+        "bytes"
     }
 }
 
@@ -264,7 +279,7 @@ impl std::error::Error for Error {
 }
 
 /// The error of the reader or the writer itself, if it failed. Otherwise the kind is `UnexpectedEof` if the input is
-/// incomplete, and else `InvalidData`, and [`io::Error::get_ref`](host::io::Error::get_ref) returns the error.
+/// incomplete, and else `InvalidData`, and [`io::Error::get_ref`](std::io::Error::get_ref) returns the error.
 #[cfg(feature = "std")]
 impl From<Error> for io::Error {
     fn from(error: Error) -> Self {

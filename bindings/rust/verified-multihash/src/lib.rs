@@ -5,11 +5,12 @@
 
 #[cfg(feature = "alloc")]
 extern crate alloc;
-// Not as `std`: Rust below 1.72 reports a path as ambiguous if it could begin with that or with the module `rattle::std`.
+#[cfg(not(feature = "std"))]
+extern crate core as std; // `core` has what the modules use of `std`
 #[cfg(feature = "std")]
-extern crate std as host;
+extern crate std;
 
-#[rustfmt::skip] // made by tools/generate, as other modules that are skipped
+#[rustfmt::skip] // made by tools/generate
 pub mod codes;
 mod error;
 #[cfg(feature = "alloc")]
@@ -21,16 +22,15 @@ mod multihash;
 pub mod no_std_io;
 #[rustfmt::skip]
 mod proved;
-mod rattle;
 #[cfg(any(feature = "serde", feature = "serde-codec"))]
 mod serde;
 mod stream;
 mod text;
 
-// For a dependent of `multihash` without `std`, beside another one with it.
+// The package `multihash` re-exports this where its feature `std` is off, although that of this package may be on.
 #[cfg(feature = "std")]
 #[doc(hidden)]
-pub use host::io as no_std_io;
+pub use std::io as no_std_io;
 
 pub use crate::error::Error;
 pub use crate::multihash::Multihash;
@@ -39,11 +39,3 @@ pub use crate::stream::Decoder;
 #[cfg(feature = "std")]
 pub use crate::stream::Reader;
 pub use crate::text::TextError;
-
-/// The result of a call.
-#[deprecated(note = "name the error: `Result<Value, Error>`")]
-pub type Result<Value> = core::result::Result<Value, Error>;
-
-/// An earlier name of [`Multihash`].
-#[deprecated(note = "use `Multihash`")]
-pub type MultihashGeneric<const S: usize> = Multihash<S>;

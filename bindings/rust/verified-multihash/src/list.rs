@@ -2,7 +2,7 @@
 use crate::no_std_io::Write;
 use crate::{Error, Multihash};
 #[cfg(feature = "alloc")]
-use {crate::no_std_io::Read, crate::rattle::AllocError, alloc::vec::Vec};
+use {crate::no_std_io::Read, alloc::vec::Vec};
 
 /// Writes the encodings of the items, in order.
 ///
@@ -28,7 +28,7 @@ pub fn write_list<const S: usize, W: Write>(items: &[Multihash<S>], mut w: W) ->
 #[cfg(feature = "alloc")]
 pub fn read_list<const S: usize, R: Read>(mut r: R, count: usize) -> Result<Vec<Multihash<S>>, Error> {
     let mut list = Vec::new();
-    list.try_reserve_exact(count).map_err(|_| AllocError)?;
+    list.try_reserve_exact(count)?;
     for _ in 0..count {
         list.push(Multihash::read(&mut r)?);
     }

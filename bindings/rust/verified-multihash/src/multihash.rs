@@ -36,7 +36,7 @@ impl<const S: usize> Multihash<S> {
     /// assert_eq!((multihash.code(), multihash.digest()), (0x12, &b"abc"[..]));
     /// # Ok::<(), Error>(())
     /// ```
-    // By hand, since no function of Rattle is `const`.
+    // By hand, since the proved function is not `const`.
     pub const fn wrap(code: u64, digest: &[u8]) -> Result<Self, Error> {
         let size = digest.len();
         if size > S || size > 255 {
@@ -45,10 +45,11 @@ impl<const S: usize> Multihash<S> {
         if code > varint::MAX {
             return Err(Error::from_code(code));
         }
-        let (mut value, mut at) = (proved::Multihash { digest: [0; S], code, size }, 0);
-        while at < size {
-            value.digest[at] = digest[at];
-            at += 1;
+        let mut value = proved::Multihash { digest: [0; S], code, size };
+        let mut index = 0;
+        while index < size {
+            value.digest[index] = digest[index];
+            index += 1;
         }
         Ok(Self(value))
     }
@@ -161,19 +162,11 @@ impl<const S: usize> Multihash<S> {
     /// # Errors
     ///
     /// For a digest of more than `R` bytes.
-    // By hand, and filled in place: with an early return the value is copied once more, and the proved function takes even
-    // more instructions.
     pub fn resize<const R: usize>(&self) -> Result<Multihash<R>, Error> {
-        let mut result = Ok(Multihash::default());
-        match &mut result {
-            Ok(Multihash(resized)) if self.0.size <= R => {
-                resized.code = self.0.code;
-                resized.size = self.0.size;
-                resized.digest[..self.0.size].copy_from_slice(&self.0.digest[..self.0.size]);
-            }
-            _ => result = Err(Error::too_long(self.size().into(), R, None)),
+        match self.0.resize() {
+            Ok(value) => Ok(Multihash(value)),
+            Err(error) => Err(error.in_stream(R)),
         }
-        result
     }
 
     /// Returns the code, the array that starts with the digest, and the length of the digest.

@@ -38,9 +38,9 @@ impl<'de, const S: usize> Deserialize<'de> for Multihash<S> {
 struct Encoding<const S: usize>(&'static str);
 
 impl<const S: usize> Encoding<S> {
-    /// The numbers of a sequence that are read before its length is an error: those of the longest encoding, and for
-    /// capacities above 255, whose values have no longer one, as many as upstream reads.
-    const READ: usize = 10 + S + (S / 128 == 1) as usize;
+    /// The most numbers that are read of a sequence: the longest encoding has as many for a capacity up to 255. For a
+    /// larger one upstream reads as many.
+    const MOST: usize = if S < 128 || S > 255 { S + 10 } else { S + 11 };
 }
 
 impl<'de, const S: usize> Visitor<'de> for Encoding<S> {
@@ -62,9 +62,10 @@ impl<'de, const S: usize> Visitor<'de> for Encoding<S> {
     }
 
     fn visit_seq<A: SeqAccess<'de>>(self, mut numbers: A) -> Result<Multihash<S>, A::Error> {
-        let (mut bytes, mut length) = ([0; LENGTH_MAX], 0);
+        let mut bytes = [0; LENGTH_MAX];
+        let mut length = 0;
         while let Some(byte) = numbers.next_element()? {
-            if length == Self::READ {
+            if length == Self::MOST {
                 return Err(A::Error::invalid_length(length + 1, &self));
             }
             if let Some(place) = bytes.get_mut(length) {

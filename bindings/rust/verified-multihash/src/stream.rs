@@ -1,8 +1,8 @@
 //! Multihashes from an input that arrives in parts.
-#[cfg(feature = "std")]
-use crate::host::io::{self, BufRead, ErrorKind};
 use crate::text::LENGTH_MAX;
 use crate::{Error, Head, Multihash};
+#[cfg(feature = "std")]
+use std::io::{self, BufRead, ErrorKind};
 
 /// Decodes concatenated multihashes from parts of an input, and keeps one that is incomplete until its rest arrives.
 ///

@@ -1,5 +1,4 @@
 //! Hexadecimal texts.
-use crate::rattle::std;
 use crate::{Error, Multihash};
 use core::{fmt, str};
 
@@ -9,7 +8,8 @@ pub(crate) const LENGTH_MAX: usize = 266;
 /// The encoding in hexadecimal. A precision shortens it: `{:.8}` prints the first 8 digits.
 impl<const S: usize> fmt::Display for Multihash<S> {
     fn fmt(&self, f: &mut fmt::Formatter<'_>) -> fmt::Result {
-        let (mut bytes, mut digits) = ([0; LENGTH_MAX], [0; 2 * LENGTH_MAX]);
+        let mut bytes = [0; LENGTH_MAX];
+        let mut digits = [0; 2 * LENGTH_MAX];
         let length = self.write(&mut bytes[..]).map_err(|_| fmt::Error)?;
         for (pair, byte) in digits.chunks_exact_mut(2).zip(&bytes[..length]) {
             pair[0] = b"0123456789abcdef"[usize::from(byte >> 4)];
@@ -40,8 +40,8 @@ impl fmt::Display for TextError {
     fn fmt(&self, f: &mut fmt::Formatter<'_>) -> fmt::Result {
         match self {
             Self::NotHexadecimal { index, character } => {
-                let mut bytes = [0; 4];
-                let shown = &*character.encode_utf8(&mut bytes);
+                let mut buffer = [0; 4];
+                let shown: &str = character.encode_utf8(&mut buffer);
                 write!(f, "the text has {shown:?} at index {index}, which is no hexadecimal digit")
             }
             Self::OddLength(length) => write!(f, "the text has an odd number of digits, {length}"),
@@ -67,16 +67,13 @@ impl<const S: usize> str::FromStr for Multihash<S> {
         if text.len() % 2 != 0 {
             return Err(TextError::OddLength(text.len()));
         }
-        // no bytes after these are of an encoding, and their number is known
         let length = text.len() / 2;
-        let bytes = &bytes[..length.min(LENGTH_MAX)];
-        match Self::read(bytes) {
-            Ok(multihash) if multihash.encoded_len() == length => Ok(multihash),
-            Ok(multihash) => {
-                let end = multihash.encoded_len();
-                Err(TextError::NotMultihash(Error::trailing((length - end) as u64, end)))
-            }
-            Err(error) => Err(TextError::NotMultihash(error.in_bytes(bytes, S))),
+        let bytes = &bytes[..length.min(LENGTH_MAX)]; // all that an encoding can have
+        let multihash = Self::read(bytes).map_err(|error| TextError::NotMultihash(error.in_bytes(bytes, S)))?;
+        let end = multihash.encoded_len();
+        if end < length {
+            return Err(TextError::NotMultihash(Error::trailing(length - end, end)));
         }
+        Ok(multihash)
     }
 }

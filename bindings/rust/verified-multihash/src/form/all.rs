@@ -1,8 +1,5 @@
 //! Values that fill an input, one after another.
-// Made by tools/generate rust.
 use alloc::vec::Vec;
-use crate::rattle::OrFail;
-
 use crate::form::{Form, FormError, read_front};
 
 /// Reads the values whose encodings, one after another, are the whole of `bytes`.
@@ -15,7 +12,8 @@ pub fn all_from_bytes<T: Form>(bytes: &[u8]) -> Result<Vec<T>, FormError> {
     let mut rest = bytes;
     while !rest.is_empty() {
         let (item, left) = read_front::<T>(rest)?;
-        items.push_or_fail(item)?;
+        items.try_reserve(1)?;
+        items.push(item);
         rest = left;
     }
     Ok(items)

@@ -1,8 +1,6 @@
 //! Exactly `N` bytes, without a length before them.
-// Made by tools/generate rust.
-use crate::rattle::Faults;
-
 use crate::form::{Form, FormError};
+use crate::no_std_io::ErrorKind;
 use crate::proved::no_std_io::{self, Read, Write};
 
 /// `N` bytes, with no length before them. `N` is at least 1, since no encoding is empty.
@@ -22,7 +20,7 @@ impl<const N: usize> Form for Bytes<N> {
 
     fn read<R: Read>(r: &mut R) -> Result<Self, FormError> {
         if N == 0 {
-            return Err(no_std_io::Error::unexpected_eof().into());
+            return Err(no_std_io::Error::from(ErrorKind::UnexpectedEof).into());
         }
         let mut bytes = [0; N];
         r.read_exact(&mut bytes)?;

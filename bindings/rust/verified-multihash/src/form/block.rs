@@ -1,8 +1,5 @@
 //! A block of bytes with its length before it.
-// Made by tools/generate rust.
 use alloc::vec::Vec;
-use crate::rattle::OrFail;
-
 use crate::form::{Form, FormError};
 use crate::proved::no_std_io::{Read, Write};
 use crate::proved::varint;
@@ -58,7 +55,7 @@ fn read_bytes<R: Read>(r: &mut R, len: usize) -> Result<Vec<u8>, FormError> {
     let mut chunk = [0; CHUNK];
     while bytes.len() < len {
         let more = (len - bytes.len()).min(CHUNK);
-        bytes.reserve_or_fail(more)?;
+        bytes.try_reserve(more)?;
         r.read_exact(&mut chunk[..more])?;
         bytes.write_all(&chunk[..more]).unwrap();
     }

@@ -1,6 +1,4 @@
 //! Two parts, one after the other.
-// Made by tools/generate rust.
-
 use crate::form::{Form, FormError};
 use crate::proved::no_std_io::{Read, Write};
 

@@ -1,6 +1,4 @@
 //! A writer that counts bytes and keeps none.
-// Made by tools/generate rust.
-
 use crate::proved::no_std_io::{Error, Write};
 
 /// A writer that counts the bytes, up to `u64::MAX`.

@@ -1,6 +1,4 @@
 //! Cases of a choice: a tag and what follows it, and other cases.
-// Made by tools/generate rust.
-
 use crate::form::cases::Cases;
 use crate::form::{Form, FormError, Number};
 use crate::proved::no_std_io::{Read, Write};

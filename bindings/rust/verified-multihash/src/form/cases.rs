@@ -1,6 +1,4 @@
 //! The trait of the cases of a choice.
-// Made by tools/generate rust.
-
 use crate::form::{FormError, Number};
 use crate::proved::no_std_io::{Read, Write};
 

@@ -1,6 +1,4 @@
 //! One of any number of formats, which the tag at the start of the encoding determines.
-// Made by tools/generate rust.
-
 use crate::form::cases::Cases;
 use crate::form::{Form, FormError, Number};
 use crate::proved::no_std_io::{Read, Write};

@@ -1,8 +1,5 @@
 //! Items with their number before them.
-// Made by tools/generate rust.
 use alloc::vec::Vec;
-use crate::rattle::OrFail;
-
 use crate::form::{Form, FormError};
 use crate::proved::no_std_io::{Read, Write};
 use crate::proved::varint;
@@ -54,7 +51,8 @@ pub fn read_items<T: Form, R: Read>(
     let mut items = Vec::new();
     for _ in 0..count {
         let item = T::read(r)?;
-        items.push_or_fail(item)?;
+        items.try_reserve(1)?;
+        items.push(item);
     }
     Ok(items)
 }

@@ -1,9 +1,6 @@
 //! The error of reading and writing forms.
-// Made by tools/generate rust.
-use crate::rattle::std;
-
 use crate::proved::{Error, no_std_io};
-use std::alloc::{AllocError, AllocFailed};
+use alloc::collections::TryReserveError;
 use std::fmt;
 
 /// The error of reading or writing a form.
@@ -59,14 +56,8 @@ impl From<no_std_io::Error> for FormError {
     }
 }
 
-impl From<AllocError> for FormError {
-    fn from(e: AllocError) -> Self {
+impl From<TryReserveError> for FormError {
+    fn from(e: TryReserveError) -> Self {
         FormError::Failed(Error::from(e))
-    }
-}
-
-impl<T> From<AllocFailed<T>> for FormError {
-    fn from(_rejected: AllocFailed<T>) -> Self {
-        FormError::from(AllocError)
     }
 }

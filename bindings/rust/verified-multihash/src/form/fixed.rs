@@ -1,8 +1,6 @@
 //! Numbers of a fixed number of bytes.
-// Made by tools/generate rust.
-use crate::rattle::Faults;
-
 use crate::form::{Form, FormError};
+use crate::no_std_io::ErrorKind;
 use crate::proved::no_std_io::{self, Read, Write};
 
 /// A number below 256^`N` in `N` bytes, the highest of them first. `N` is 1 to 8.
@@ -30,7 +28,7 @@ impl<const N: usize, const BIG: u8> Form for Fixed<N, BIG> {
 
     fn read<R: Read>(r: &mut R) -> Result<Self, FormError> {
         if N == 0 || N > 8 {
-            return Err(no_std_io::Error::unexpected_eof().into());
+            return Err(no_std_io::Error::from(ErrorKind::UnexpectedEof).into());
         }
         let mut bytes = [0; 8];
         r.read_exact(&mut bytes[..N])?;

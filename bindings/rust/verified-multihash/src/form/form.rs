@@ -1,6 +1,4 @@
 //! The trait of types whose values have exactly one encoding each.
-// Made by tools/generate rust.
-
 use crate::form::FormError;
 use crate::proved::no_std_io::{Read, Write};
 

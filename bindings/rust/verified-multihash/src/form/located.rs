@@ -1,6 +1,4 @@
 //! Where an input is wrong, for those who ask after an error.
-// Made by tools/generate rust.
-
 use crate::form::{Form, FormError, read};
 
 /// An error, and where it is.

@@ -1,6 +1,4 @@
 //! A number below 2^63, as its varint.
-// Made by tools/generate rust.
-
 use crate::form::{Form, FormError};
 use crate::proved::no_std_io::{Read, Write};
 use crate::proved::varint;

@@ -1,8 +1,5 @@
 //! Values one after another, up to the end of the input.
-// Made by tools/generate rust.
 use alloc::vec::Vec;
-use crate::rattle::OrFail;
-
 use crate::form::{Form, FormError, read};
 use crate::proved::no_std_io::{Error, Read};
 
@@ -67,7 +64,8 @@ impl<R: Read> Stream<R> {
                 Some(value) => value,
                 None => return Ok(()),
             };
-            list.push_or_fail(value)?;
+            list.try_reserve(1)?;
+        list.push(value);
         }
         Ok(())
     }

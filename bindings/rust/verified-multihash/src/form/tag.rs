@@ -1,6 +1,4 @@
 //! A fixed number, as a varint.
-// Made by tools/generate rust.
-
 use crate::form::{Form, FormError};
 use crate::proved::no_std_io::{Read, Write};
 use crate::proved::varint;
@@ -11,13 +9,10 @@ use crate::proved::varint;
 /// is not `N`.
 #[derive(Clone, Copy, Debug, PartialEq, Eq, PartialOrd, Ord, Hash)]
 #[non_exhaustive]
-pub struct Tag<const N: u64> {
-}
+pub struct Tag<const N: u64> {}
 
 impl<const N: u64> Form for Tag<N> {
     fn write<W: Write>(&self, w: &mut W) -> Result<(), FormError> {
-        // For the proof: each value of the type shows that `N` is below 2^63.
-        let _in_range = *self;
         varint::write(N, w)?;
         Ok(())
     }

@@ -1,31 +1,13 @@
-//! Values of the parts: they keep the limits that ghost fields state in the proved source. And `form!`, which makes your
-//! own types formats.
+//! The constructors of the parts, which test the limits that a caller in Rattle proves; and `form!`.
 use crate::form::{encoded_len, BigEndian, Block, Both, Bytes, Case, Cases, Choice, Counted, Fixed, Form, FormError};
 use crate::form::{LittleEndian, Number, Others, Tag, Tagged};
 use crate::no_std_io as io;
 pub use crate::proved::no_std_io::{Read, Write};
-use crate::rattle::AllocError;
 use crate::{varint, Multihash};
 use alloc::vec::Vec;
 use core::ops::Deref;
 
-/// The documentation of a value that does not compile.
-macro_rules! rejected {
-    ($value:literal) => {
-        concat!("```compile_fail\nlet _ = verified_multihash::form::", $value, ";\n```\n")
-    };
-}
-
 /// What only the parts and `form!` implement, so that each [`Form`](crate::form::Form) is made of parts.
-///
-/// None is made without its constructor, which keeps its limits:
-#[doc = rejected!("Number { value: 0 }")]
-#[doc = rejected!("BigEndian::<1> { value: 0 }")]
-#[doc = rejected!("Bytes { bytes: [0] }")]
-#[doc = rejected!("Block::<1> { bytes: vec![0] }")]
-#[doc = rejected!("Counted::<u8, 1> { items: vec![] }")]
-#[doc = rejected!("Tag::<1> {}")]
-#[doc = rejected!("Tagged::<u8, 1> { value: 0 }")]
 pub trait Part: Sized {
     /// The constants of the parts of this one. A type that contains itself has none, and does not compile: an input
     /// could make `read` of it need any amount of stack.
@@ -65,7 +47,7 @@ macro_rules! derefs {
             }
 
             impl<$($parameters)*> $type {
-                /// Returns what the value has.
+                /// Returns the field of the value.
                 pub fn into_inner(self) -> $inner {
                     self.$field
                 }
@@ -107,7 +89,10 @@ impl<const N: u64> Tag<N> {
     const IN_RANGE: () = assert!(N <= varint::MAX, "a tag is below 2^63");
 
     /// Returns the tag. A tag of 2^63 or more does not compile:
-    #[doc = rejected!("Tag::<{ 1 << 63 }>::new()")]
+    ///
+    /// ```compile_fail
+    /// verified_multihash::form::Tag::<{ 1 << 63 }>::new();
+    /// ```
     pub const fn new() -> Self {
         let () = Self::IN_RANGE;
         Tag {}
@@ -121,7 +106,10 @@ impl<const N: u64> Default for Tag<N> {
 }
 
 /// An empty array does not compile:
-#[doc = rejected!("Bytes::from([])")]
+///
+/// ```compile_fail
+/// verified_multihash::form::Bytes::from([]);
+/// ```
 impl<const N: usize> From<[u8; N]> for Bytes<N> {
     fn from(bytes: [u8; N]) -> Self {
         let () = Self::SOME;
@@ -169,7 +157,7 @@ impl<T, const MAX: usize> Counted<T, MAX> {
     /// [`FormError::TooMany`] if there are more than `MAX` items.
     pub fn new(items: impl Into<Vec<T>>) -> Result<Self, FormError> {
         let items = items.into();
-        // items of no size may be as many as `usize::MAX`
+        // A vector of items without a size may have 2^63 or more of them.
         if items.len() > MAX || items.len() as u64 > varint::MAX {
             return Err(FormError::TooMany(items.len() as u64));
         }
@@ -181,7 +169,10 @@ impl<A, const M: u64> Tagged<A, M> {
     const IN_RANGE: () = assert!(M <= varint::MAX, "a tag is below 2^63");
 
     /// Returns the value with the tag `M`. A tag of 2^63 or more does not compile:
-    #[doc = rejected!("Tagged::<u8, { 1 << 63 }>::new(0)")]
+    ///
+    /// ```compile_fail
+    /// verified_multihash::form::Tagged::<u8, { 1 << 63 }>::new(0);
+    /// ```
     pub fn new(value: A) -> Self {
         let () = Self::IN_RANGE;
         Tagged { value }
@@ -250,11 +241,10 @@ impl<R: io::Read> io::Read for Position<R> {
 /// # Errors
 ///
 /// Out of memory.
-// By hand, since a vector of Rust is another one as a writer.
 pub fn to_bytes<T: Form>(value: &T) -> Result<Vec<u8>, FormError> {
+    let length = usize::try_from(encoded_len(value)).unwrap_or(usize::MAX); // which is no length of a vector
     let mut bytes = Vec::new();
-    let length = usize::try_from(encoded_len(value)).map_err(|_| AllocError)?;
-    bytes.try_reserve_exact(length).map_err(|_| AllocError)?;
+    bytes.try_reserve_exact(length)?;
     value.write(&mut bytes)?;
     Ok(bytes)
 }
@@ -330,14 +320,15 @@ macro_rules! form {
 
 /// Panics, in a constant, if a tag is too large or two are equal.
 pub const fn check_tags(tags: &[u64]) {
-    let (mut at, mut other) = (0, 0);
-    while at < tags.len() {
-        assert!(tags[at] <= varint::MAX, "a tag is below 2^63");
-        while other < at {
-            assert!(tags[at] != tags[other], "tags differ");
+    let mut index = 0;
+    while index < tags.len() {
+        assert!(tags[index] <= varint::MAX, "a tag is below 2^63");
+        let mut other = 0;
+        while other < index {
+            assert!(tags[index] != tags[other], "tags differ");
             other += 1;
         }
-        (at, other) = (at + 1, 0);
+        index += 1;
     }
 }
 

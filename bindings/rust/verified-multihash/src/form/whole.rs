@@ -1,6 +1,4 @@
-//! The functions that read and write a value of any form. Their contracts follow from those of the trait.
-// Made by tools/generate rust.
-
+//! The functions that read and write a value of any form.
 use crate::form::{ByteCount, Form, FormError};
 use crate::proved::no_std_io::Read;
 

@@ -1,7 +1,5 @@
 //! The binary encoding: the varint of the code, the varint of the digest's length, and the digest.
-// Made by tools/generate rust.
-use crate::rattle::Faults;
-
+use crate::no_std_io::ErrorKind;
 use crate::proved::no_std_io::{self, Read, Write};
 use crate::proved::{Error, Head, Multihash, varint};
 
@@ -77,7 +75,7 @@ impl<const S: usize> Multihash<S> {
         let len = head.digest_len as usize;
         let digest = &bytes[head.digest_offset..];
         if digest.len() < len {
-            return Err(Error::from(no_std_io::Error::unexpected_eof()));
+            return Err(Error::from(no_std_io::Error::from(ErrorKind::UnexpectedEof)));
         }
         if digest.len() > len {
             return Err(Error::from_size((digest.len() - len) as u64));

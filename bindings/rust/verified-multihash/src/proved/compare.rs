@@ -1,7 +1,4 @@
 //! Comparison and hashing.
-// Made by tools/generate rust.
-use crate::rattle::std;
-
 use crate::proved::Multihash;
 use std::cmp::Ordering;
 use std::hash::{Hash, Hasher};
@@ -20,8 +17,7 @@ impl<const S: usize> PartialEq for Multihash<S> {
     }
 }
 
-impl<const S: usize> Eq for Multihash<S> {
-}
+impl<const S: usize> Eq for Multihash<S> {}
 
 /// By code, then by digest length, then by the first digest byte that differs.
 impl<const S: usize> Ord for Multihash<S> {

@@ -1,6 +1,4 @@
 //! The two varints at the front of an encoding, for callers that keep the digest where it is.
-// Made by tools/generate rust.
-
 use crate::proved::Error;
 use crate::proved::varint::word;
 

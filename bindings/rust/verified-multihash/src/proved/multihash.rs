@@ -1,7 +1,4 @@
 //! The type: its fields, their limits, and the functions that make a value or return a part of it.
-// Made by tools/generate rust.
-use crate::rattle::std;
-
 use crate::proved::{Error, varint};
 use std::fmt;
 

@@ -1,6 +1,4 @@
 //! The SCALE encoding: the code in eight bytes, least significant first, the digest's length in one byte, the digest.
-// Made by tools/generate rust.
-
 use crate::proved::no_std_io::{self, Read, Write};
 use crate::proved::{Error, Multihash, varint};
 

@@ -4,8 +4,6 @@
 //! (<https://github.com/multiformats/unsigned-varint>). Multiformats encodes its numbers so: the code
 //! and the length of a multihash, the version and the codec of a content identifier, the parts of a
 //! multiaddr.
-// Made by tools/generate rust.
-
 pub(crate) mod word;
 
 use crate::proved::Error;

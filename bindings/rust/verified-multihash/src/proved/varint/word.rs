@@ -1,9 +1,4 @@
 //! Reads the varint at the front of a slice from one word of 128 bits, with its first bytes.
-// Made by tools/generate rust.
-#![allow(clippy::len_zero, clippy::incompatible_msrv)] // `first_chunk` is that of `rattle` below 1.77
-#[allow(unused_imports)] // Rust has it from 1.77 on
-use crate::rattle::Arrays;
-
 use super::MAX_CONTINUATION;
 use crate::proved::Error;
 
@@ -42,7 +37,7 @@ pub(crate) fn read_front(bytes: &[u8]) -> Result<(u64, usize), Error> {
 // The first sixteen bytes, the lowest first, with zeros for those that are missing.
 #[inline(always)]
 fn first_word(bytes: &[u8]) -> u128 {
-    if let Some(front) = bytes.first_chunk::<WORD_LEN>() {
+    if let Some(front) = bytes.get(..WORD_LEN).map(|front| <&[u8; WORD_LEN]>::try_from(front).unwrap()) {
         return u128::from_le_bytes(*front);
     }
     let mut front = [0; WORD_LEN];
