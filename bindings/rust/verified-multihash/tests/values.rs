@@ -1,5 +1,5 @@
-//! Values, their texts, names of codes, limits, and the texts of errors that the test vectors do not have.
-use verified_multihash::{codes, varint, Decoder, Error, Head, Multihash, TextError};
+//! Values, their texts, names of codes, and the texts of errors that the test vectors do not have.
+use verified_multihash::{codes, Decoder, Error, Head, Multihash, TextError};
 
 type Value = Multihash<64>;
 
@@ -83,58 +83,35 @@ fn hexadecimal() {
     assert_eq!(full.to_string().parse().ok(), Some(full));
 }
 
-/// Texts that are no multihash, the longest encoding with bytes that follow too.
+/// Texts that are no multihash, some longer than any encoding.
 #[test]
 fn rejected_texts() {
     let full = Multihash::<255>::wrap(u64::MAX >> 1, &[7; 255]).expect("it fits");
     for (text, wanted) in [
-        ("1", "the text has an odd number of digits, 1"),
         (&*"0".repeat(535), "the text has an odd number of digits, 535"),
         ("1203é1", "the text has \"é\" at index 4, which is no hexadecimal digit"),
-        ("0g", "the text has \"g\" at index 1, which is no hexadecimal digit"),
         ("+1", "the text has \"+\" at index 0, which is no hexadecimal digit"),
-        ("\"", r#"the text has "\"" at index 0, which is no hexadecimal digit"#),
         (&*("0".repeat(535) + " "), "the text has \" \" at index 535, which is no hexadecimal digit"),
-        ("", "the input is empty"),
         (&*format!("{full}00"), "1 byte follows the multihash"),
-        (&*format!("{full}{full}"), "266 bytes follow the multihash"),
         (&*"00".repeat(300), "298 bytes follow the multihash"),
-        (&*"ff".repeat(300), "the varint of the code has more than nine bytes"),
         (&*format!("12ac02{}", "00".repeat(300)), "the digest has 300 bytes, and the limit is 255"),
     ] {
         assert_eq!(text.parse::<Multihash<255>>().expect_err("no multihash").to_string(), wanted);
     }
 }
 
-/// The texts of errors that are not of bytes which are known.
+/// Errors of calls that do not know the bytes name the limit. Width and precision change nothing, as upstream.
 #[test]
-fn errors() {
+fn limits() {
     type Small = Multihash<4>;
-    let large = "the code 9223372036854775808 is 2^63 or more";
-    let long = "the digest has 5 bytes, and the limit is 4";
-    for (error, wanted) in [
-        (Value::default().write(&mut [][..]).err(), "failed to write whole buffer"),
-        (Value::wrap(1 << 63, b"").err(), large),
-        (varint::len(1 << 63).err(), large),
-        (varint::write(1 << 63, &mut &mut [0; 10][..]).err(), large),
-        (Small::scale_decode(&b"\x12\0\0\0\0\0\0\0\x05abcde"[..]).err(), long),
-        (Small::read_next(&b"\x12\x05abcde"[..]).err(), long),
-        (Small::wrap(18, b"abcde").err(), long),
-        (Multihash::<5>::wrap(18, b"abcde").expect("it fits").resize::<4>().err(), long),
-        (Small::read(&b""[..]).err(), "the input is empty"),
-        (Small::read(&b"\x12\x03ab"[..]).err(), "the input is truncated"),
+    for result in [
+        Small::wrap(18, b"abcde"),
+        Small::read(&b"\x12\x05abcde"[..]),
+        Small::read_next(&b"\x12\x05abcde"[..]).map(Option::unwrap_or_default),
+        Small::scale_decode(&b"\x12\0\0\0\0\0\0\0\x05abcde"[..]),
+        Multihash::<5>::wrap(18, b"abcde").expect("it fits").resize(),
     ] {
-        // without width and precision, as upstream
-        assert_eq!(format!("{:99.3}", error.expect("an error")), wanted);
-    }
-    for (input, wanted) in [
-        (&b"\x80"[..], "the input ends before the end of a varint"),
-        (b"\x80\0", "the varint is not minimal: it ends in a zero byte"),
-        (&[0xff; 9], "the varint has more than nine bytes"),
-    ] {
-        let (read, front) = (varint::read(&mut &*input), varint::read_front(input));
-        for error in [read.err(), front.err(), Head::read_front(input).err()] {
-            assert_eq!(error.expect("no varint").to_string(), wanted);
-        }
+        let text = format!("{:99.3}", result.expect_err("it is too long"));
+        assert_eq!(text, "the digest has 5 bytes, and the limit is 4");
     }
 }
