@@ -70,11 +70,10 @@ impl<const S: usize> Decoder<S> {
                 head => break head,
             }
         };
-        match head {
-            Ok(head) if head.digest_len <= S.min(255) as u64 => {
+        if let Ok(head) = head {
+            if head.digest_len <= S.min(255) as u64 {
                 self.receive(part, head.digest_offset + head.digest_len as usize);
             }
-            _ => {} // more of the part is not needed
         }
         match Multihash::read(&mut self.kept()) {
             Ok(multihash) => {
