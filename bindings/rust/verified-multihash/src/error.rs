@@ -238,7 +238,7 @@ impl fmt::Display for Error {
         let Place { part, present, wanted, .. } = self.place;
         match (&self.kind, part) {
             (Kind::Io(error), Part::Unknown) if is_end(error) => f.write_str("the input is truncated"),
-            (Kind::Io(error), Part::Unknown) => write!(f, "{error}"), // without width and precision, as upstream
+            (Kind::Io(error), Part::Unknown) => write!(f, "{error}"), // ignores width and precision, as upstream
             (Kind::Insufficient(_), Part::Code) if present == 0 => f.write_str("the input is empty"),
             (Kind::Io(_) | Kind::Insufficient(_), _) => {
                 let place = if present == 0 { "before" } else { "inside" };

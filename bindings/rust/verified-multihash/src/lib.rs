@@ -6,7 +6,7 @@
 #[cfg(feature = "alloc")]
 extern crate alloc;
 #[cfg(not(feature = "std"))]
-extern crate core as std; // `core` has what the modules use of `std`
+extern crate core as std; // what the modules use of `std` is in `core` too
 #[cfg(feature = "std")]
 extern crate std;
 
@@ -27,7 +27,7 @@ mod serde;
 mod stream;
 mod text;
 
-// The package `multihash` re-exports this where its feature `std` is off, although that of this package may be on.
+// The package `multihash` re-exports this if its feature `std` is off. Another dependent may turn on that of this package.
 #[cfg(feature = "std")]
 #[doc(hidden)]
 pub use std::io as no_std_io;

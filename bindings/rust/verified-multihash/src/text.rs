@@ -68,7 +68,7 @@ impl<const S: usize> str::FromStr for Multihash<S> {
             return Err(TextError::OddLength(text.len()));
         }
         let length = text.len() / 2;
-        let bytes = &bytes[..length.min(LENGTH_MAX)]; // all that an encoding can have
+        let bytes = &bytes[..length.min(LENGTH_MAX)]; // no encoding is longer
         let multihash = Self::read(bytes).map_err(|error| TextError::NotMultihash(error.in_bytes(bytes, S)))?;
         let end = multihash.encoded_len();
         if end < length {

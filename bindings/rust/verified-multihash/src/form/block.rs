@@ -4,7 +4,7 @@ use crate::form::{Form, FormError};
 use crate::proved::no_std_io::{Read, Write};
 use crate::proved::varint;
 
-// The most bytes that are read at once.
+/// The maximum number of bytes that are read at once.
 const CHUNK: usize = 256;
 
 /// At most `MAX` bytes. The encoding is the varint of their number, and the bytes.
@@ -49,7 +49,7 @@ impl<const MAX: usize> Form for Block<MAX> {
     }
 }
 
-// Reads that many bytes.
+/// Reads `len` bytes.
 fn read_bytes<R: Read>(r: &mut R, len: usize) -> Result<Vec<u8>, FormError> {
     let mut bytes = Vec::new();
     let mut chunk = [0; CHUNK];

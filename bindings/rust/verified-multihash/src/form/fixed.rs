@@ -39,14 +39,14 @@ impl<const N: usize, const BIG: u8> Form for Fixed<N, BIG> {
     }
 }
 
-// Reverses the bytes if the highest comes first in the encoding.
+/// Reverses the bytes if the highest comes first in the encoding.
 fn order<const BIG: u8>(bytes: &mut [u8]) {
     if BIG != 0 {
         bytes.reverse();
     }
 }
 
-// The number of these bytes, the lowest first. It has no other bytes, which the read of an array does not state.
+/// Returns the number of these bytes, the lowest first.
 fn number_of(bytes: [u8; 8]) -> u64 {
     u64::from_le_bytes(bytes)
 }

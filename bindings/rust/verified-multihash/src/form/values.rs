@@ -242,7 +242,7 @@ impl<R: io::Read> io::Read for Position<R> {
 ///
 /// Out of memory.
 pub fn to_bytes<T: Form>(value: &T) -> Result<Vec<u8>, FormError> {
-    let length = usize::try_from(encoded_len(value)).unwrap_or(usize::MAX); // which is no length of a vector
+    let length = usize::try_from(encoded_len(value)).unwrap_or(usize::MAX); // more than any vector has
     let mut bytes = Vec::new();
     bytes.try_reserve_exact(length)?;
     value.write(&mut bytes)?;

@@ -41,7 +41,7 @@ impl<const S: usize> Multihash<S> {
         }
     }
 
-    // Reads the rest of an encoding whose code was read, as `read` does.
+    /// Reads the rest of an encoding whose code was read, as `read` does.
     #[inline(always)]
     fn read_after<R: Read>(r: &mut R, code: u64) -> Result<Self, Error> {
         let len = varint::read(r)?;
@@ -106,7 +106,7 @@ impl<const S: usize> Multihash<S> {
         code + size + usize::from(self.size())
     }
 
-    // Reads a digest of that size into the front of the buffer.
+    /// Reads a digest of `size` bytes into the front of the buffer.
     #[inline(always)]
     pub(crate) fn read_digest<R: Read>(
         r: &mut R,

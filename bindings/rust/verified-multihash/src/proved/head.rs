@@ -27,7 +27,7 @@ impl Head {
     /// `from_bytes` and `read` return the same error for every capacity.
     #[inline(always)]
     pub fn read_front(bytes: &[u8]) -> Result<Self, Error> {
-        // Mostly each varint has one byte.
+        // Most of the time each varint has one byte.
         if bytes.len() >= 2 && bytes[0] < 128 && bytes[1] < 128 {
             return Ok(Head {
                 code: u64::from(bytes[0]),
@@ -38,7 +38,7 @@ impl Head {
         Self::read_longer(bytes)
     }
 
-    // Does what `read_front` does. It is out of line, since `read_front` is in line in many functions.
+    /// Does what `read_front` does. It is out of line, since `read_front` is in line in many functions.
     #[inline(never)]
     fn read_longer(bytes: &[u8]) -> Result<Self, Error> {
         let (code, code_len) = word::read_front(bytes)?;
@@ -46,7 +46,6 @@ impl Head {
         Ok(Head {
             code,
             digest_len,
-            // At most the number of bytes.
             digest_offset: code_len + size_len,
         })
     }

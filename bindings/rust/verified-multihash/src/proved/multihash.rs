@@ -5,10 +5,10 @@ use std::fmt;
 /// A code below 2^63 and a digest of at most `min(S, 255)` bytes, in a buffer of the capacity `S`.
 #[derive(Clone, Copy)]
 pub struct Multihash<const S: usize> {
-    // First, so that in a `Result` no part of it straddles two words.
+    // The digest comes first, so that in a `Result` no part of it straddles two words.
     pub(crate) digest: [u8; S],
     pub(crate) code: u64,
-    // A machine word, so that no padding after the digest is copied.
+    // The size is a machine word, so that no padding is copied.
     pub(crate) size: usize,
 }
 
@@ -50,7 +50,7 @@ impl<const S: usize> Multihash<S> {
     ///
     /// The caller must decide whether the shorter digest is still secure.
     pub fn truncate(&self, size: u8) -> Self {
-        // Copied as one value: a literal of its fields would copy the digest by way of the stack.
+        // This copies the value once. A literal of its fields would copy the digest by way of the stack.
         let mut truncated = *self;
         truncated.size = self.size.min(usize::from(size));
         truncated
@@ -73,19 +73,19 @@ impl<const S: usize> Multihash<S> {
         (self.code, Self::array_of(self.digest()), self.size())
     }
 
-    // Whether a digest of that many bytes fits the buffer.
+    /// Returns whether a digest of `size` bytes fits the buffer.
     #[inline(always)]
     pub(crate) fn is_valid_size(size: u64) -> bool {
         size <= S as u64 && size <= 255
     }
 
-    // The multihash of a code and a digest that fit.
+    /// Returns the multihash of a code and a digest that fit.
     #[inline(always)]
     pub(crate) fn of_digest(code: u64, digest: &[u8]) -> Self {
         Self::in_buffer(code, digest.len(), Self::array_of(digest))
     }
 
-    // The multihash of a buffer whose first bytes are the digest.
+    /// Returns the multihash of a buffer that starts with the digest.
     #[inline(always)]
     pub(crate) fn in_buffer(code: u64, size: usize, buffer: [u8; S]) -> Self {
         Multihash {
@@ -95,7 +95,7 @@ impl<const S: usize> Multihash<S> {
         }
     }
 
-    // The digest followed by zeros.
+    /// Returns the digest, followed by zeros.
     #[inline(always)]
     fn array_of(digest: &[u8]) -> [u8; S] {
         let mut array = [0; S];
@@ -126,7 +126,7 @@ impl<const S: usize> Default for Multihash<S> {
     }
 }
 
-// The first `len` bytes. A slice that is passed in is known to hold bytes.
+/// Returns the first `len` bytes.
 #[inline(always)]
 fn prefix(bytes: &[u8], len: usize) -> &[u8] {
     &bytes[..len]

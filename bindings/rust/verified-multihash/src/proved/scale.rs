@@ -16,7 +16,7 @@ impl<const S: usize> Multihash<S> {
         Ok(9 + digest.len())
     }
 
-    // The bytes of the encoding before the digest, as one array: so one test of a slice's length suffices.
+    /// Returns the bytes before the digest. As one array they need one test of a slice's length.
     #[inline(always)]
     fn scale_head(&self) -> [u8; 9] {
         let mut head = [self.size(); 9];
@@ -54,7 +54,7 @@ impl<const S: usize> Multihash<S> {
     }
 }
 
-// The next `N` bytes.
+/// Reads the next `N` bytes.
 fn read_array<const N: usize, R: Read>(r: &mut R) -> Result<[u8; N], no_std_io::Error> {
     let mut bytes = [0; N];
     r.read_exact(&mut bytes)?;

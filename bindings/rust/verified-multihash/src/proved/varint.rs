@@ -9,23 +9,23 @@ pub(crate) mod word;
 use crate::proved::Error;
 use crate::proved::no_std_io::{self, Read, Write};
 
-// The most continuation bytes of a varint.
+/// The maximum number of continuation bytes of a varint.
 const MAX_CONTINUATION: usize = 8;
 
-// After that many continuation bytes the last byte is below this one.
+/// After that many continuation bytes, the last byte is below this number.
 const LAST_BYTE_LIMIT: u8 = 128;
 
 /// The largest number that has a varint: 2^63 - 1.
 pub const MAX: u64 = (((LAST_BYTE_LIMIT as u128) << (7 * MAX_CONTINUATION)) - 1) as u64;
 
-// The most bytes of a varint.
+/// The maximum number of bytes of a varint.
 const MAX_LEN: usize = MAX_CONTINUATION + 1;
 
-// Writes the varint of a number to the front of the buffer, and returns its bytes, one to nine.
+/// Writes the varint of a number to the front of the buffer, and returns its bytes, one to nine.
 #[inline]
 fn encode(n: u64, buffer: &mut [u8; MAX_LEN]) -> &[u8] {
     let mut rest = n;
-    // That many turns at most, so that the compiler unrolls the loop and tests no index.
+    // The loop has a fixed limit, so that the compiler unrolls it and tests no index.
     for len in 0..MAX_CONTINUATION {
         if rest < 128 {
             buffer[len] = rest as u8;
@@ -58,7 +58,7 @@ pub fn len(n: u64) -> Result<usize, Error> {
 /// - [`Error::invalid_code`] with the number if it is 2^63 or more; the writer was not called.
 /// - [`Error::io`] with the writer's error: it is full, it failed, or, if it allocates, it is out of
 ///   memory. A strict prefix of the varint has been appended then.
-// In line: a call would return its result in memory.
+// This is in line, since a call would return its result in memory.
 #[inline(always)]
 pub fn write<W: Write>(n: u64, w: &mut W) -> Result<usize, Error> {
     if n > MAX {
@@ -79,17 +79,17 @@ pub fn read_front(bytes: &[u8]) -> Result<(u64, &[u8]), Error> {
     Ok((n, &bytes[len..]))
 }
 
-// The length of the varint of a number that is known to be in range.
+/// Returns the length of the varint of a number that is known to be in range.
 #[inline(always)]
 pub(crate) fn len_in_range(n: u64) -> usize {
     if n < 128 {
         return 1;
     }
-    // As many bytes as its bits need, seven in each.
+    // Each byte has seven bits.
     (70 - n.leading_zeros() as usize) / 7
 }
 
-// Appends the varint of a number that is known to be in range, as `write` does.
+/// Appends the varint of a number that is known to be in range, as `write` does.
 #[inline(always)]
 pub(crate) fn write_in_range<W: Write>(n: u64, w: &mut W) -> Result<usize, no_std_io::Error> {
     // Most numbers have one byte.
@@ -113,7 +113,7 @@ pub(crate) fn write_in_range<W: Write>(n: u64, w: &mut W) -> Result<usize, no_st
 ///   and [`Error::is_not_minimal`] if a varint of more than one byte ends in a zero byte; the last byte
 ///   consumed is the one that determines the error.
 /// - [`Error::io`] with the reader's own error if it failed; what was consumed is a truncated varint.
-// In line, so that the usual varint, of one byte, is no call.
+// This is in line, so that the most common varint, of one byte, needs no call.
 #[inline(always)]
 pub fn read<R: Read>(r: &mut R) -> Result<u64, Error> {
     match read_next(r)? {
@@ -140,7 +140,7 @@ pub fn read_next<R: Read>(r: &mut R) -> Result<Option<u64>, Error> {
     Ok(Some(read_after(r, first)?))
 }
 
-// Reads the rest of a varint whose first byte was read and is a continuation byte, as `read` does.
+/// Reads the rest of a varint whose first byte was read and is a continuation byte, as `read` does.
 #[inline(never)]
 fn read_after<R: Read>(r: &mut R, first: u8) -> Result<u64, Error> {
     let mut value = u64::from(first & 0x7f);
@@ -163,7 +163,7 @@ fn read_after<R: Read>(r: &mut R, first: u8) -> Result<u64, Error> {
     unreachable!()
 }
 
-// The next byte, or none at the end of the input.
+/// Reads the next byte. Returns `None` at the end of the input.
 #[inline(always)]
 fn read_byte<R: Read>(r: &mut R) -> Result<Option<u8>, no_std_io::Error> {
     let mut byte = [0u8; 1];

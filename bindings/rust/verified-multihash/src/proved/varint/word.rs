@@ -2,16 +2,16 @@
 use super::MAX_CONTINUATION;
 use crate::proved::Error;
 
-// The bytes of a word.
+/// The number of bytes of a word.
 const WORD_LEN: usize = 16;
 
-// The high bit of each byte of a word.
+/// The high bit of each byte of a word.
 const HIGH_BITS: u128 = 0x8080_8080_8080_8080_8080_8080_8080_8080;
 
-// The bits of a byte that are its digit.
+/// The bits of a byte that are its digit.
 const DIGIT: u128 = 0x7f;
 
-// Reads the varint at the front of the bytes: its number and its length.
+/// Reads the varint at the front of the bytes. Returns its number and its length.
 #[inline(always)]
 pub(crate) fn read_front(bytes: &[u8]) -> Result<(u64, usize), Error> {
     // Most varints have one byte.
@@ -19,7 +19,7 @@ pub(crate) fn read_front(bytes: &[u8]) -> Result<(u64, usize), Error> {
         return Ok((u64::from(bytes[0]), 1));
     }
     let word = first_word(bytes);
-    // The index of the first byte that is no continuation byte, as the zero of a missing one is none.
+    // This is the index of the first byte that is no continuation byte. The zero of a missing byte is none.
     let last = ((!word & HIGH_BITS).trailing_zeros() / 8) as usize;
     if last > MAX_CONTINUATION {
         return Err(Error::overflow());
@@ -34,7 +34,7 @@ pub(crate) fn read_front(bytes: &[u8]) -> Result<(u64, usize), Error> {
     Ok((join_digits(word & ((1 << (8 * len)) - 1)), len))
 }
 
-// The first sixteen bytes, the lowest first, with zeros for those that are missing.
+/// Returns the first sixteen bytes as a number, the lowest first, with zeros for those that are missing.
 #[inline(always)]
 fn first_word(bytes: &[u8]) -> u128 {
     if let Some(front) = bytes.get(..WORD_LEN).map(|front| <&[u8; WORD_LEN]>::try_from(front).unwrap()) {
@@ -45,7 +45,7 @@ fn first_word(bytes: &[u8]) -> u128 {
     u128::from_le_bytes(front)
 }
 
-// The number of the low seven bits of each byte of a varint.
+/// Returns the number of the low seven bits of each byte of a varint.
 #[inline(always)]
 fn join_digits(varint: u128) -> u64 {
     (varint & DIGIT) as u64
