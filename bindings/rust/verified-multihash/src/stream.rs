@@ -39,7 +39,7 @@ impl<const S: usize> Decoder<S> {
     }
 
     /// Returns the bytes received of a multihash that is incomplete, or after an error invalid.
-    pub fn kept(&self) -> &[u8] {
+    pub fn rest(&self) -> &[u8] {
         &self.bytes[..self.length]
     }
 
@@ -52,20 +52,20 @@ impl<const S: usize> Decoder<S> {
     /// including the byte that determines the error, and each later call returns the same error.
     pub fn decode(&mut self, part: &mut &[u8]) -> Result<Option<Multihash<S>>, Error> {
         if self.length == 0 {
-            let mut rest = *part;
-            if let Ok(multihash) = Multihash::read(&mut rest) {
-                *part = rest;
+            let mut input = *part;
+            if let Ok(multihash) = Multihash::read(&mut input) {
+                *part = input;
                 return Ok(Some(multihash));
             }
         }
-        self.decode_kept(part)
+        self.decode_rest(part)
     }
 
     /// Decodes a multihash that is not whole in the part.
     #[cold]
-    fn decode_kept(&mut self, part: &mut &[u8]) -> Result<Option<Multihash<S>>, Error> {
+    fn decode_rest(&mut self, part: &mut &[u8]) -> Result<Option<Multihash<S>>, Error> {
         let head = loop {
-            match Head::read_front(self.kept()) {
+            match Head::read_front(self.rest()) {
                 Err(error) if error.is_insufficient() && !part.is_empty() => self.receive(part, self.length + 1),
                 head => break head,
             }
@@ -75,22 +75,22 @@ impl<const S: usize> Decoder<S> {
                 self.receive(part, head.digest_offset + head.digest_len as usize);
             }
         }
-        match Multihash::read(&mut self.kept()) {
+        match Multihash::read(&mut self.rest()) {
             Ok(multihash) => {
                 self.length = 0;
                 Ok(Some(multihash))
             }
             Err(error) if error.is_incomplete() => Ok(None),
-            Err(error) => Err(error.in_bytes(self.kept(), S)),
+            Err(error) => Err(error.in_bytes(self.rest(), S)),
         }
     }
 
     /// Moves bytes from the part, until that many are kept.
     fn receive(&mut self, part: &mut &[u8], length: usize) {
-        let (received, rest) = part.split_at(part.len().min(length - self.length));
+        let (received, left) = part.split_at(part.len().min(length - self.length));
         self.bytes[self.length..][..received.len()].copy_from_slice(received);
         self.length += received.len();
-        *part = rest;
+        *part = left;
     }
 
     /// Checks that the input may end here.
@@ -100,8 +100,8 @@ impl<const S: usize> Decoder<S> {
     /// If the input ends inside a multihash: the error is incomplete, the bytes are still kept, and more parts may follow.
     /// After an error of [`Decoder::decode`] that error.
     pub fn finish(&self) -> Result<(), Error> {
-        match Multihash::<S>::read(&mut self.kept()) {
-            Err(error) if self.length > 0 => Err(error.in_bytes(self.kept(), S)),
+        match Multihash::<S>::read(&mut self.rest()) {
+            Err(error) if self.length > 0 => Err(error.in_bytes(self.rest(), S)),
             _ => Ok(()),
         }
     }
@@ -162,8 +162,8 @@ impl<R, const S: usize> Reader<R, S> {
     }
 
     /// Returns the bytes received of a multihash that is incomplete, or after an error invalid.
-    pub fn kept(&self) -> &[u8] {
-        self.decoder.kept()
+    pub fn rest(&self) -> &[u8] {
+        self.decoder.rest()
     }
 }
 
@@ -180,7 +180,7 @@ impl<R: BufRead, const S: usize> Reader<R, S> {
     ///
     /// The last two are made of an [`Error`], which [`io::Error::get_ref`] returns.
     pub fn read_next(&mut self) -> io::Result<Option<Multihash<S>>> {
-        if !self.kept().is_empty() {
+        if !self.rest().is_empty() {
             self.decoder.decode(&mut &[][..])?; // the error of an earlier call
         }
         loop {

@@ -244,7 +244,7 @@ mod of_std {
                         Err(error) => failed = Some(error.kind()),
                     }
                     let consumed = both.len() - reader.get_ref().get_ref().bytes.len();
-                    assert_eq!(found.len() * encoding.len() + reader.kept().len(), consumed);
+                    assert_eq!(found.len() * encoding.len() + reader.rest().len(), consumed);
                 }
                 assert_eq!((found, failed), (vec![value(); 2], kind));
             }
@@ -263,7 +263,7 @@ mod of_std {
             let error = reader.read_next().expect_err("it is too long");
             let inner = error.get_ref().and_then(|inner| inner.downcast_ref::<Error>()).expect("it");
             assert_eq!((error.kind(), inner.invalid_size()), (ErrorKind::InvalidData, Some(5)));
-            assert_eq!(reader.kept(), b"\x12\x05");
+            assert_eq!(reader.rest(), b"\x12\x05");
         }
     }
 

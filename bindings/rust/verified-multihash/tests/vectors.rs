@@ -135,8 +135,8 @@ fn check_parts<const S: usize>(input: &[u8], length: usize, column: &str, count:
             break;
         }
     }
-    let kept = if matches!(decoded, Ok(Some(_))) { 0 } else { count };
-    assert_eq!((consumed, decoder.kept()), (count, &input[..kept]));
+    let rest = if matches!(decoded, Ok(Some(_))) { &[] } else { &input[..count] };
+    assert_eq!((consumed, decoder.rest()), (count, rest));
     match decoded {
         Ok(Some(found)) => check_result(&Ok(found), column),
         Ok(None) if input.is_empty() => decoder.finish().expect("no byte"),
