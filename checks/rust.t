@@ -71,13 +71,10 @@ rust_lints() {
   done
 }
 
-# What is by hand has the format of rustfmt.toml. `cargo fmt` skips two such files with the generated modules below them.
+# The sources have the format of rustfmt.toml.
 rust_format() {
-  local package file
+  local package
   for package in verified-multihash multihash tests/neighbours; do in_crate $package cargo fmt --check; done
-  for file in bindings/rust/verified-multihash/src/{proved,form/values}.rs; do
-    diff "$file" <(in_crate verified-multihash rustfmt < "$file")
-  done
 }
 
 # without what Cargo made, which names other versions

@@ -14,13 +14,11 @@ extern crate std;
 pub mod codes;
 mod error;
 #[cfg(feature = "alloc")]
-#[rustfmt::skip]
 pub mod form;
 pub mod list;
 mod multihash;
 #[cfg(not(feature = "std"))]
 pub mod no_std_io;
-#[rustfmt::skip]
 mod proved;
 #[cfg(any(feature = "serde", feature = "serde-codec"))]
 mod serde;

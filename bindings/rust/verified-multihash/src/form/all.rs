@@ -1,6 +1,6 @@
 //! Values that fill an input, one after another.
+use crate::form::{read_front, Form, FormError};
 use alloc::vec::Vec;
-use crate::form::{Form, FormError, read_front};
 
 /// Reads the values whose encodings, one after another, are the whole of `bytes`.
 ///
@@ -24,9 +24,7 @@ pub fn all_from_bytes<T: Form>(bytes: &[u8]) -> Result<Vec<T>, FormError> {
 /// # Errors
 ///
 /// Out of memory, or the first error of [`Form::read`].
-pub fn head_and_all_from_bytes<H: Form, T: Form>(
-    bytes: &[u8],
-) -> Result<(H, Vec<T>), FormError> {
+pub fn head_and_all_from_bytes<H: Form, T: Form>(bytes: &[u8]) -> Result<(H, Vec<T>), FormError> {
     let (head, rest) = read_front::<H>(bytes)?;
     let items = all_from_bytes::<T>(rest)?;
     Ok((head, items))

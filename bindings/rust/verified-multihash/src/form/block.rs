@@ -1,8 +1,8 @@
 //! A block of bytes with its length before it.
-use alloc::vec::Vec;
 use crate::form::{Form, FormError};
 use crate::proved::no_std_io::{Read, Write};
 use crate::proved::varint;
+use alloc::vec::Vec;
 
 /// The maximum number of bytes that are read at once.
 const CHUNK: usize = 256;

@@ -30,11 +30,7 @@ impl<A: Form, B: Form> Form for Both<A, B> {
 /// # Errors
 ///
 /// The writer's error. A strict prefix of the encoding has been appended then.
-pub fn write_two<A: Form, B: Form, W: Write>(
-    first: &A,
-    second: &B,
-    w: &mut W,
-) -> Result<(), FormError> {
+pub fn write_two<A: Form, B: Form, W: Write>(first: &A, second: &B, w: &mut W) -> Result<(), FormError> {
     first.write(w)?;
     second.write(w)
 }

@@ -1,8 +1,8 @@
 //! Items with their number before them.
-use alloc::vec::Vec;
 use crate::form::{Form, FormError};
 use crate::proved::no_std_io::{Read, Write};
 use crate::proved::varint;
+use alloc::vec::Vec;
 
 /// At most `MAX` items. The encoding is the varint of their number, and the encodings of the items in order.
 ///
@@ -44,10 +44,7 @@ pub fn write_items<T: Form, W: Write>(items: &[T], w: &mut W) -> Result<(), Form
 /// # Errors
 ///
 /// Out of memory, or the first error of an item's `read`. The items that were read are dropped.
-pub fn read_items<T: Form, R: Read>(
-    r: &mut R,
-    count: usize,
-) -> Result<Vec<T>, FormError> {
+pub fn read_items<T: Form, R: Read>(r: &mut R, count: usize) -> Result<Vec<T>, FormError> {
     let mut items = Vec::new();
     for _ in 0..count {
         let item = T::read(r)?;

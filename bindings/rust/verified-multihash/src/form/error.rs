@@ -1,5 +1,5 @@
 //! The error of reading and writing forms.
-use crate::proved::{Error, no_std_io};
+use crate::proved::{no_std_io, Error};
 use alloc::collections::TryReserveError;
 use std::fmt;
 

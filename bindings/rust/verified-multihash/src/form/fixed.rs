@@ -33,9 +33,7 @@ impl<const N: usize, const BIG: u8> Form for Fixed<N, BIG> {
         let mut bytes = [0; 8];
         r.read_exact(&mut bytes[..N])?;
         order::<BIG>(&mut bytes[..N]);
-        Ok(Fixed {
-            value: number_of(bytes),
-        })
+        Ok(Fixed { value: number_of(bytes) })
     }
 }
 

@@ -1,5 +1,5 @@
 //! Where an input is wrong, for those who ask after an error.
-use crate::form::{Form, FormError, read};
+use crate::form::{read, Form, FormError};
 
 /// An error, and where it is.
 #[derive(Debug)]
@@ -24,17 +24,8 @@ pub fn first_error<T: Form>(bytes: &[u8]) -> Option<LocatedError> {
     while !rest.is_empty() {
         let start = bytes.len() - rest.len();
         if let Err(error) = read::<T, &[u8]>(&mut rest) {
-            let offset = if error.is_incomplete() {
-                bytes.len()
-            } else {
-                bytes.len().saturating_sub(rest.len())
-            };
-            return Some(LocatedError {
-                error,
-                item,
-                start,
-                offset,
-            });
+            let offset = if error.is_incomplete() { bytes.len() } else { bytes.len().saturating_sub(rest.len()) };
+            return Some(LocatedError { error, item, start, offset });
         }
         item += 1;
     }

@@ -1,7 +1,7 @@
 //! Values one after another, up to the end of the input.
-use alloc::vec::Vec;
-use crate::form::{Form, FormError, read};
+use crate::form::{read, Form, FormError};
 use crate::proved::no_std_io::{Error, Read};
+use alloc::vec::Vec;
 
 /// A reader that reports the end of its input, for which it may have to read one byte ahead.
 pub struct Stream<R> {
@@ -54,18 +54,14 @@ impl<R: Read> Stream<R> {
     /// # Errors
     ///
     /// Those of [`Stream::read_next`], and out of memory. The values before the error have been appended.
-    pub fn read_up_to<T: Form>(
-        &mut self,
-        n: usize,
-        list: &mut Vec<T>,
-    ) -> Result<(), FormError> {
+    pub fn read_up_to<T: Form>(&mut self, n: usize, list: &mut Vec<T>) -> Result<(), FormError> {
         for _ in 0..n {
             let value = match self.read_next::<T>()? {
                 Some(value) => value,
                 None => return Ok(()),
             };
             list.try_reserve(1)?;
-        list.push(value);
+            list.push(value);
         }
         Ok(())
     }

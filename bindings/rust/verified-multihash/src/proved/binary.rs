@@ -1,7 +1,7 @@
 //! The binary encoding: the varint of the code, the varint of the digest's length, and the digest.
 use crate::no_std_io::ErrorKind;
 use crate::proved::no_std_io::{self, Read, Write};
-use crate::proved::{Error, Head, Multihash, varint};
+use crate::proved::{varint, Error, Head, Multihash};
 
 impl<const S: usize> Multihash<S> {
     /// Reads the multihash whose encoding comes next. It consumes exactly that encoding and leaves what
@@ -108,11 +108,7 @@ impl<const S: usize> Multihash<S> {
 
     /// Reads a digest of `size` bytes into the front of the buffer.
     #[inline(always)]
-    pub(crate) fn read_digest<R: Read>(
-        r: &mut R,
-        size: u8,
-        buffer: &mut [u8; S],
-    ) -> Result<(), no_std_io::Error> {
+    pub(crate) fn read_digest<R: Read>(r: &mut R, size: u8, buffer: &mut [u8; S]) -> Result<(), no_std_io::Error> {
         r.read_exact(&mut buffer[..usize::from(size)])
     }
 }

@@ -1,6 +1,6 @@
 //! The two varints at the front of an encoding, for callers that keep the digest where it is.
-use crate::proved::Error;
 use crate::proved::varint::word;
+use crate::proved::Error;
 
 /// The code and the digest's length at the front of an encoding.
 #[derive(Clone, Copy, Debug, PartialEq, Eq)]
@@ -29,11 +29,7 @@ impl Head {
     pub fn read_front(bytes: &[u8]) -> Result<Self, Error> {
         // Most of the time each varint has one byte.
         if bytes.len() >= 2 && bytes[0] < 128 && bytes[1] < 128 {
-            return Ok(Head {
-                code: u64::from(bytes[0]),
-                digest_len: u64::from(bytes[1]),
-                digest_offset: 2,
-            });
+            return Ok(Head { code: u64::from(bytes[0]), digest_len: u64::from(bytes[1]), digest_offset: 2 });
         }
         Self::read_longer(bytes)
     }
@@ -43,10 +39,6 @@ impl Head {
     fn read_longer(bytes: &[u8]) -> Result<Self, Error> {
         let (code, code_len) = word::read_front(bytes)?;
         let (digest_len, size_len) = word::read_front(&bytes[code_len..])?;
-        Ok(Head {
-            code,
-            digest_len,
-            digest_offset: code_len + size_len,
-        })
+        Ok(Head { code, digest_len, digest_offset: code_len + size_len })
     }
 }

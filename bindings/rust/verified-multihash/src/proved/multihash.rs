@@ -1,5 +1,5 @@
 //! The type: its fields, their limits, and the functions that make a value or return a part of it.
-use crate::proved::{Error, varint};
+use crate::proved::{varint, Error};
 use std::fmt;
 
 /// A code below 2^63 and a digest of at most `min(S, 255)` bytes, in a buffer of the capacity `S`.
@@ -88,11 +88,7 @@ impl<const S: usize> Multihash<S> {
     /// Returns the multihash of a buffer that starts with the digest.
     #[inline(always)]
     pub(crate) fn in_buffer(code: u64, size: usize, buffer: [u8; S]) -> Self {
-        Multihash {
-            code,
-            digest: buffer,
-            size,
-        }
+        Multihash { code, digest: buffer, size }
     }
 
     /// Returns the digest, followed by zeros.
@@ -118,11 +114,7 @@ impl<const S: usize> fmt::Debug for Multihash<S> {
 /// The code 0 and the empty digest.
 impl<const S: usize> Default for Multihash<S> {
     fn default() -> Self {
-        Multihash {
-            code: 0,
-            size: 0,
-            digest: [0; S],
-        }
+        Multihash { code: 0, size: 0, digest: [0; S] }
     }
 }
 

@@ -1,6 +1,6 @@
 //! The SCALE encoding: the code in eight bytes, least significant first, the digest's length in one byte, the digest.
 use crate::proved::no_std_io::{self, Read, Write};
-use crate::proved::{Error, Multihash, varint};
+use crate::proved::{varint, Error, Multihash};
 
 impl<const S: usize> Multihash<S> {
     /// Appends the SCALE encoding to `w`: nine bytes and the digest. Returns the number of bytes.

@@ -6,8 +6,8 @@
 //! multiaddr.
 pub(crate) mod word;
 
-use crate::proved::Error;
 use crate::proved::no_std_io::{self, Read, Write};
+use crate::proved::Error;
 
 /// The maximum number of continuation bytes of a varint.
 const MAX_CONTINUATION: usize = 8;

@@ -1,6 +1,6 @@
 //! Traits of readers and writers, whose implementations keep the laws that are stated here.
-use crate::no_std_io::ErrorKind;
 use super::Error;
+use crate::no_std_io::ErrorKind;
 
 /// A source of bytes.
 pub trait Read {
