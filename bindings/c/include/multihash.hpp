@@ -123,7 +123,6 @@ class value : private ordered<value> {
     }
 
     std::uint64_t code() const noexcept { return code_; }
-
     const std::string &digest() const noexcept { return digest_; }
 
     /* Returns the name of the hash function, or an empty text if no hash function has the code. */
@@ -221,9 +220,7 @@ class cid : private ordered<cid> {
     }
 
     std::uint64_t version() const noexcept { return version_; }
-
     std::uint64_t codec() const noexcept { return codec_; }
-
     const value &multihash() const noexcept { return multihash_; }
 
     /* Returns the encoding. */

@@ -44,9 +44,18 @@ static inline void check_word(multihash_status status, const char *word)
     CHECK(multihash_is_incomplete(status) == (status == 1 || status == 6));
 }
 
-/* verdicts.c */
-size_t parse_hex(const char *text, uint8_t *to, size_t places);
-void check_line(char *line);
+/* The bytes of a text in hexadecimal; a dash is no bytes. */
+static inline size_t parse_hex(const char *text, uint8_t *to, size_t places)
+{
+    size_t length = strcmp(text, "-") == 0 ? 0 : strlen(text) / 2;
+    CHECK(length <= places);
+    for (size_t i = 0; i < length; i++) {
+        unsigned byte = 0;
+        CHECK(sscanf(text + 2 * i, "%2x", &byte) == 1);
+        to[i] = (uint8_t)byte;
+    }
+    return length;
+}
 
 /* cid.c */
 void check_cids(void);

@@ -30,10 +30,8 @@ static std::vector<row> rows_of(const std::string &path)
 
 static std::string bytes_of(const std::string &digits)
 {
-    std::string bytes;
-    for (size_t i = 0; digits != "-" && i < digits.size(); i += 2) {
-        bytes += static_cast<char>(std::stoi(digits.substr(i, 2), nullptr, 16));
-    }
+    std::string bytes(digits.size() / 2, '\0');
+    parse_hex(digits.c_str(), reinterpret_cast<uint8_t *>(bytes.data()), bytes.size());
     return bytes;
 }
 
