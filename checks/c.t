@@ -1,6 +1,6 @@
 #!/usr/bin/env bash
-# The library for C: CMake builds it, with the tests, by compilers, under sanitizers and for other machines; what is
-# installed; projects that use it; its headers, its objects without a C library, its functions for other languages.
+# Tests the library for C. CMake builds it and its tests by several compilers, with sanitizers, and for other machines.
+# Then come its headers, what is installed, and programs and projects that use it, also in other languages.
 # shellcheck disable=SC2086 # flags are words
 # shellcheck source=checks/lib/tap.sh
 . "$(dirname "$0")/lib/tap.sh"
@@ -18,7 +18,7 @@ build() {
   cmake --build "$work/$1"
   ctest --no-tests=error --output-on-failure --test-dir "$work/$1"
 }
-# For a machine, whose programs a command runs.
+# The same for another machine: its name, the command that runs its programs, and its system.
 on_machine() {
   local -x CXX=none WINEPREFIX=$work/wine WINEDEBUG=-all
   build "$1" "" -DCMAKE_C_COMPILER="$1-gcc" -DCMAKE_CROSSCOMPILING_EMULATOR="$2" -DCMAKE_SYSTEM_NAME="${3-Linux}" \
@@ -26,7 +26,7 @@ on_machine() {
   [ "$2" != wine ] || wineserver -k || true
 }
 
-# By compilers for C and for C++, of the oldest and the newest standards, each after multihash.h, which it includes or needs.
+# Compiles each header as C and as C++, by the oldest and the newest standard, after multihash.h, which it needs.
 headers() {
   local header standard
   for header in "$c"/include/*.h; do
