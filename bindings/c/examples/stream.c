@@ -12,7 +12,7 @@ typedef struct stream {
     int descriptor;
     size_t limit; /* the longest digest that is accepted, at most MULTIHASH_DIGEST_MAX */
     size_t have;  /* the number of bytes of the next multihash that were read */
-    int is_whole; /* whether they were returned, so that the next call starts with none */
+    int is_whole; /* whether these were returned: then the next call starts anew */
     uint8_t bytes[MULTIHASH_LENGTH_MAX];
 } stream;
 

@@ -115,6 +115,15 @@ static inline multihash_decoded failed(multihash_status status, uint64_t size, s
     return (multihash_decoded){.status = status, .size = size, .consumed = consumed};
 }
 
+static inline multihash_decoded found(uint64_t code, size_t digest_offset, size_t digest_length)
+{
+    return (multihash_decoded){.status = MULTIHASH_OK,
+                               .code = code,
+                               .digest_offset = digest_offset,
+                               .digest_length = digest_length,
+                               .consumed = digest_offset + digest_length};
+}
+
 /* Decodes the multihash that is an input of `whole_length` bytes, of which the first `length` are there. */
 static inline multihash_decoded decode_whole(const uint8_t *bytes, size_t length, size_t whole_length)
 {
@@ -126,11 +135,7 @@ static inline multihash_decoded decode_whole(const uint8_t *bytes, size_t length
     const size_t rest = whole_length - head.consumed;
     if (rest < head.digest_length) return failed(MULTIHASH_UNEXPECTED_EOF, 0, whole_length);
     if (rest > head.digest_length) return failed(MULTIHASH_INVALID_SIZE, rest - head.digest_length, whole_length);
-    return (multihash_decoded){.status = MULTIHASH_OK,
-                               .code = head.code,
-                               .digest_offset = head.consumed,
-                               .digest_length = rest,
-                               .consumed = whole_length};
+    return found(head.code, head.consumed, rest);
 }
 
 multihash_decoded multihash_from_bytes(const uint8_t *bytes, size_t bytes_length)
@@ -152,12 +157,7 @@ static inline multihash_decoded decode_start(const uint8_t *bytes, size_t length
         return failed(MULTIHASH_INVALID_SIZE, head.digest_length, head.consumed);
     }
     if (head.digest_length > length - head.consumed) return failed(MULTIHASH_UNEXPECTED_EOF, 0, head.consumed);
-    const size_t digest_length = (size_t)head.digest_length;
-    return (multihash_decoded){.status = MULTIHASH_OK,
-                               .code = head.code,
-                               .digest_offset = head.consumed,
-                               .digest_length = digest_length,
-                               .consumed = head.consumed + digest_length};
+    return found(head.code, head.consumed, (size_t)head.digest_length);
 }
 
 multihash_decoded multihash_read(const uint8_t *bytes, size_t bytes_length)
@@ -253,11 +253,7 @@ multihash_decoded multihash_scale_decode(const uint8_t *bytes, size_t bytes_leng
     if (bytes_length == 8) return failed(MULTIHASH_UNEXPECTED_EOF, 0, 8);
     const size_t digest_length = bytes[8];
     if (digest_length > bytes_length - 9) return failed(MULTIHASH_UNEXPECTED_EOF, 0, 9);
-    return (multihash_decoded){.status = MULTIHASH_OK,
-                               .code = code,
-                               .digest_offset = 9,
-                               .digest_length = digest_length,
-                               .consumed = 9 + digest_length};
+    return found(code, 9, digest_length);
 }
 
 multihash_encoded multihash_scale_encode(uint64_t code, const uint8_t *digest, size_t digest_length, uint8_t *out,
