@@ -1,8 +1,6 @@
 // Hash functions of node:crypto, or of WebCrypto in browsers.
 import type { ByteStream, Multihash, MultihashDigest, Wide } from './index.js';
 
-export { CODES, NAMES } from './codes.js';
-
 /**
  * What is hashed: bytes, or the chunks of a stream, such as `createReadStream(path)` or `blob.stream()`. A stream is
  * read to its end. After an error it is cancelled, even if nothing was read, and a Node.js `Readable` is destroyed.
@@ -28,15 +26,18 @@ export class UnsupportedHashError extends RangeError {
   readonly code: Wide;
 }
 
+/** With `truncate` a digest has only that many bytes, the first ones. */
+export interface DigestOptions { truncate?: number; functions?: Functions }
+
 /** A hash function, with the properties of `MultihashHasher` in js-multiformats. */
 export interface MultihashHasher<Code extends number = number> {
   readonly name: string;
   readonly code: Code;
   /**
-   * Returns the multihash of the content, with the first `truncate` bytes of the digest if that is given. The memory
-   * of content above 1 MiB must not change until the promise is settled. A browser holds a whole stream in memory.
+   * Returns the multihash of the content. The memory of content above 1 MiB must not change until the promise is settled.
+   * A browser holds a whole stream in memory.
    */
-  digest(content: Content, options?: { truncate?: number; functions?: Functions }): Promise<Multihash<Code>>;
+  digest(content: Content, options?: DigestOptions): Promise<Multihash<Code>>;
 }
 
 /** The functions that this platform has, by their names: those listed here, and in Node.js those of its OpenSSL. */
@@ -56,14 +57,11 @@ export const sha512: MultihashHasher<0x13>;
 
 /**
  * Hashes the content with the function that has a name in `CODES`, or a code, and returns the multihash. Throws an
- * `UnsupportedHashError` if neither `functions` nor the platform has it. `MultihashHasher` documents `truncate`.
+ * `UnsupportedHashError` if neither `functions` nor the platform has it.
  */
-export function digest(
-  content: Content, hash: string | number, options?: { truncate?: number; functions?: Functions },
-): Promise<Multihash<number>>;
-export function digest(
-  content: Content, hash: string | Wide, options?: { truncate?: number; functions?: Functions },
-): Promise<Multihash>;
+export function digest(content: Content, hash: string | number, options?: DigestOptions): Promise<Multihash<number>>;
+export function digest(content: Content, hash: string | Wide, options?: DigestOptions): Promise<Multihash>;
+
 /** Makes the multihash of content that arrives in parts. */
 export class Hasher {
   /**

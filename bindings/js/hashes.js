@@ -8,8 +8,6 @@ import { DIGEST_MAX } from './limits.js';
 import { Multihash, decode } from './multihash.js';
 import { sourceOf } from './sources.js';
 
-export { CODES, NAMES };
-
 // Undefined in browsers. This is no `import`, since bundlers would follow it.
 const node = globalThis.process?.getBuiltinModule?.('node:crypto');
 

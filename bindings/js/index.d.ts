@@ -1,4 +1,5 @@
 // What the package declares.
+export * from './codes.js';
 export * from './hashes.js';
 export * from './limits.js';
 
@@ -12,7 +13,7 @@ export type Status =
   | 'not_minimal' // a varint of more than one byte ends in a zero byte
   | 'invalid_size' // `size` is the length of a digest or frame that is too long, or the number of bytes after the multihash
   | 'invalid_code' // the code is 2^63 or more: `code` is the code
-  | 'unexpected_eof' // the input ends between the varints and the end of the digest or frame; in SCALE, inside the encoding
+  | 'unexpected_eof' // the input ends between the varints and the end of the digest or frame; in SCALE, before the end
   | 'not_hexadecimal'; // a text is not an even number of hexadecimal digits
 
 /** The fields of an error. */

@@ -91,11 +91,8 @@ test('sources and options of readers', () => {
     [new File([], ''), 'File: its stream() is a ReadableStream'],
     [{ [Symbol.asyncIterator]: () => null }, 'Object'], [{ [Symbol.asyncIterator]: () => ({}) }, 'Object'],
   ];
-  const options = [
-    [null, 'must be an object, got null'], [2, 'must be an object, got 2'], [[], `must be an object, got ${ARRAY}`],
-    [new Map(), 'must be an object, got Map: Object.fromEntries(map) makes one'],
-    [{ limit: 1, max: 2 }, 'can have limit and rest, got max'],
-  ];
+  const options = [[null, 'must be an object, got null'], [[], `must be an object, got ${ARRAY}`],
+    [{ limit: 1, max: 2 }, 'can have limit and rest, got max']];
   for (const Reader of READERS) {
     for (const [source, got] of sources)
       assert.throws(() => new Reader(source), TypeError(`source must be a ReadableStream or an async iterable, got ${got}`));
