@@ -3,7 +3,7 @@
 # by the command of its page.
 # shellcheck source=checks/lib/tap.sh
 . "$(dirname "$0")/lib/tap.sh"
-here=$PWD/bindings/js vectors=$PWD/crates/vectors/data
+here=$PWD/bindings/js vectors=$PWD/crates/vectors/data browser=$PWD/bindings/js/tests/browser.js
 node=node=20.19+ # this version too has what the package needs, but its support has ended
 
 # No process may take more than that CPU time.
@@ -44,9 +44,6 @@ packed_types() {
   "${strict[@]}" --module es2022 --moduleResolution node entries.ts
 }
 
-# A page in a browser, which tests/browser.js serves and reads.
-in_browser() { node "$here/tests/browser.js" "$@"; }
-
 # The page of README.md, which reports what it shows.
 page_of_readme() {
   { block_of "$here/README.md" html; cat << 'END'; } > "$work/elsewhere/page.html"
@@ -54,7 +51,7 @@ page_of_readme() {
 fetch('/report', { method: 'POST', body: `${out.textContent}: ${out.textContent === 'code 18, size 2' ? 0 : 1} failed` });
 </script>
 END
-  in_browser chromium page.html "$work/elsewhere"
+  node "$browser" chromium page.html "$work/elsewhere"
 }
 
 # The page that decodes what is pasted, in one file, which is opened without a server.
@@ -62,15 +59,15 @@ inspector() {
   tools/generate inspector "$work/inspector.html"
   { cat "$work/inspector.html"; echo '<script type="module">'; cat "$here/tests/inspector.js"; echo '</script>'; } \
     > "$work/tested.html"
-  in_browser chromium "file://$work/tested.html"
+  node "$browser" chromium "file://$work/tested.html"
 }
 
 needs="$node npm" try "in Node.js" npm_test
 ONLY='' needs="$node npm" try "the packed package" packed
 needs="$node npm esbuild" try "a bundle of the packed package" bundle
 needs="$node npm tsc" try "the packed package's types" packed_types
-needs="$node chromium" try "in chromium" in_browser chromium tests/page.html "$here" "$vectors"
-needs="$node firefox-esr" try "in firefox" in_browser firefox tests/page.html "$here" "$vectors"
+needs="$node chromium" try "in chromium" node "$browser" chromium tests/page.html "$here" "$vectors"
+needs="$node firefox-esr" try "in firefox" node "$browser" firefox tests/page.html "$here" "$vectors"
 needs="$node chromium" try "the packed package's page in chromium" page_of_readme
 needs="$node chromium" try "the inspector in chromium" inspector
 finish

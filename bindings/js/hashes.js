@@ -1,7 +1,6 @@
 // Makes and verifies multihashes with the hash functions of node:crypto or WebCrypto. hashes.d.ts documents what is public.
-import {
-  bufferOf, checkedLength, checkedObject, checkedOptions, checkedWide, isBytes, received, shown, viewOf, wrongType,
-} from './arguments.js';
+import { bufferOf, checkedLength, checkedObject, checkedOptions, checkedWide, isBytes, received, shown, viewOf,
+  wrongType } from './arguments.js';
 import { CODES, NAMES } from './codes.js';
 import { MultihashError } from './errors.js';
 import { DIGEST_MAX } from './limits.js';

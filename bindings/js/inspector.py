@@ -1,8 +1,6 @@
 #!/usr/bin/env python3
-"""Prints inspector.html with the modules of this folder, so that a browser opens it without a server.
-
-A page of a file may not import other files: the modules are data in an import map, by their names without `./`.
-"""
+"""Prints inspector.html with the modules of this folder, so that a browser opens it without a server: they are data in an
+import map, by their names without `./`, since a page of a file may not import other files."""
 import base64
 import json
 import re
