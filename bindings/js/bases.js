@@ -27,7 +27,7 @@ export function unhex(text, name = 'text') {
 }
 
 const BASE16 = Uint8Array.from('0123456789abcdef', (digit) => digit.charCodeAt(0));
-const hexBuffer = new Uint8Array(2 * (1 + VARINT_LENGTH_MAX + LENGTH_MAX)); // as many as a CID can have
+const hexBuffer = new Uint8Array(2 * (1 + VARINT_LENGTH_MAX + LENGTH_MAX)); // enough for the longest CID
 const decoder = new TextDecoder();
 
 /** The bytes of a multihash or a CID in hexadecimal. To append each digit to a text would take several times as long. */

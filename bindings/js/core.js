@@ -6,10 +6,10 @@ import * as format from './format.js';
 import { DIGEST_MAX } from './limits.js';
 import { tooLarge, tooLong } from './statuses.js';
 
-/** Throws an error if a code and a digest of that length have no encoding. */
+/** Throws an error if a code and a digest of `length` bytes have no encoding. */
 export function checkPair(code, length) {
   const status = format.encodingStatus(code, length);
-  if (status !== 'ok') throw encodingError(status, code, length); // in another function, so that engines inline this one
+  if (status !== 'ok') throw encodingError(status, code, length); // engines inline a short function
 }
 
 function encodingError(status, code, length) {
@@ -110,7 +110,7 @@ export function readMany(bytes) {
       ({ codes, offsets, lengths } = columnsOf(2 * count, { codes, offsets, lengths }));
       halves = new Uint32Array(codes.buffer);
     }
-    if (code < 2 ** 32) halves[2 * count + low] = code; // no bigint is made, which would double the time
+    if (code < 2 ** 32) halves[2 * count + low] = code; // making a bigint would double the time
     else codes[count] = BigInt(code);
     offsets[count] = next - size;
     lengths[count] = size;

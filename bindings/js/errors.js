@@ -55,7 +55,7 @@ export function errorOf({ status, size, next }, bytes, at, end, limit) {
   return new MultihashError(reasonOf(status, bytes, at, end, limit), details);
 }
 
-/** The message for an input of that length that does not start with a varint. */
+/** The message for an input of `length` bytes that does not start with a varint. */
 export function varintReasonOf(status, length) {
   if (status !== 'insufficient') return malformed('varint', status);
   return length === 0 ? texts.empty() : texts.ends('inside', 'varint');
@@ -67,7 +67,7 @@ export function frameReasonOf({ status, size, next }, end, limit) {
   return status === 'unexpected_eof' ? texts.truncated('frame', end - next, size) : varintReasonOf(status, end);
 }
 
-/** The message for an input of that length that does not start with a SCALE encoding. */
+/** The message for an input of `length` bytes that does not start with a SCALE encoding. */
 export function scaleReasonOf({ status, code }, input, length) {
   if (status === 'invalid_code') return texts.tooLarge('code', code);
   if (length === 0) return texts.empty();

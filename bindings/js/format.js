@@ -37,7 +37,7 @@ export function readVarint(bytes, at, end) {
   const middle = at + LOW_BYTES;
   let low = 0;
   let high = 0;
-  let weight = 1; // of the byte within its part
+  let weight = 1; // the weight of the byte within its part
   for (let index = at; index < most; index++) {
     const byte = bytes[index];
     if (byte === 0 && index > at) return { status: 'not_minimal', value: 0, next: index + 1 };

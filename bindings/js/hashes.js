@@ -7,10 +7,10 @@ import { DIGEST_MAX } from './limits.js';
 import { Multihash, decode } from './multihash.js';
 import { sourceOf } from './sources.js';
 
-// Undefined in browsers. This is no `import`, since bundlers would follow it.
+// Browsers have no node:crypto. An `import` of it would be followed by bundlers.
 const node = globalThis.process?.getBuiltinModule?.('node:crypto');
 
-const PIECE = node ? 2 ** 20 : Infinity; // bytes that are hashed at once: all by WebCrypto, which has another thread
+const PIECE = node ? 2 ** 20 : Infinity; // the number of bytes that are hashed at once; WebCrypto has a thread of its own
 
 export class UnsupportedHashError extends RangeError {
   constructor(code) {
@@ -38,7 +38,7 @@ function byWeb(algorithm) {
   };
 }
 
-/** Hashes with `identity`: the digest is the content or, if that is too long, an object with its length, for the error. */
+/** Hashes with `identity`, whose digest is the content. If that is too long, `digest` returns an object with its length. */
 function byNothing() {
   const content = new Uint8Array(DIGEST_MAX);
   let length = 0;
@@ -102,7 +102,7 @@ async function hashOf(create, content, source) {
   if (source === undefined) {
     const length = checkedLength(content, 'content');
     for (let at = 0; at < length; at += PIECE) {
-      if (at > 0) await new Promise((resolve) => globalThis.setImmediate(resolve)); // other tasks can run
+      if (at > 0) await new Promise((resolve) => globalThis.setImmediate(resolve)); // lets other tasks run
       hash.update(viewOf(content, at, Math.min(PIECE, length - at)));
     }
     return hash.digest();
@@ -125,7 +125,7 @@ function byOwn(create, name) {
   return {
     update: (piece) => hash.update(piece),
     async digest() {
-      // objects of hash-wasm, which have `init`, return a text without 'binary', and those of node:crypto with it
+      // without 'binary' objects of hash-wasm, which have `init`, return a text; with it those of node:crypto do
       const made = await (hash.init ? hash.digest('binary') : hash.digest());
       if (!isBytes(made)) throw new TypeError(`${name} must make a digest that is a Uint8Array, got ${received(made)}`);
       return made;
@@ -155,7 +155,7 @@ function codeOf(hash) {
   return CODES[hash];
 }
 
-/** Returns the multihash of a digest, or of its first `truncate` bytes. Throws an error if `identity` returned none. */
+/** Returns the multihash of a digest, or of its first `truncate` bytes. Throws an error if `identity` got too much. */
 function multihashOf(code, whole, truncate) {
   const { length } = whole;
   if (!isBytes(whole))
@@ -177,7 +177,7 @@ export const digest = (content, hash, options = {}) => reading(content, async (s
 export class Hasher {
   #code;
   #hash;
-  #multihash; // a promise, once it was asked for
+  #multihash; // the promise that `multihash` returns, after its first call
 
   constructor(hash, options = {}) {
     const { functions } = checkedOptions(options, ['functions']);
@@ -222,7 +222,7 @@ export const verify = (multihash, content, options = {}) => reading(content, asy
   const made = await hashOf(creatorOf(claim.code, functions), content, source);
   if (claim.digest.length === 0) checkedLength(claim.digest, 'the digest');
   if (claim.digest.length !== made.length) return false;
-  let difference = 0; // of all bytes, so that the time does not depend on them
+  let difference = 0; // all bytes are compared, so that the time does not depend on them
   for (let index = 0; index < made.length; index++) difference |= made[index] ^ claim.digest[index];
   return difference === 0;
 });

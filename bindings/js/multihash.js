@@ -1,5 +1,5 @@
 // The class Multihash, and the functions that decode and compare multihashes. index.d.ts documents what is public.
-import { checkedLength, checkedWide, copyOf, isBytes, shown, wrongType } from './arguments.js';
+import { checkedLength, checkedWide, copyOf, isBytes, received, shown, wrongType } from './arguments.js';
 import { hex, unhex } from './bases.js';
 import { checkPair, encode } from './core.js';
 import { MultihashError, errorOf, forJSON, scaleReasonOf } from './errors.js';
@@ -23,7 +23,7 @@ export class Multihash {
     const number = checkedWide(code, 'code');
     checkPair(number, length);
     const copy = new Uint8Array(digest);
-    return new Multihash(MAKING, number, copy.length === length ? copy : copy.slice(0, length)); // shared memory may grow
+    return new Multihash(MAKING, number, copy.length === length ? copy : copy.slice(0, length)); // shared memory may have grown
   }
 
   static fromHex(text) {
@@ -35,7 +35,7 @@ export class Multihash {
     const { code, size, digest } = json;
     const bytes = unhex(digest, 'digest');
     if (size !== undefined && size !== bytes.length)
-      throw new RangeError(`size must be ${bytes.length}, the length of the digest, got ${shown(size)}`);
+      throw new RangeError(`size must be ${bytes.length}, the length of the digest, got ${received(size)}`);
     const isText = typeof code === 'string' && /^\d+$/.test(code);
     // a number of 64 bits has at most 20 digits, and converting a long text takes long
     if (isText && code.length > 20) throw new RangeError(`code must be from 0 to 2^63 - 1, got ${shown(code)}`);

@@ -7,7 +7,7 @@ import { checkedLimit, foundMultihash } from './multihash.js';
 import { sourceOf } from './sources.js';
 import { INCOMPLETE } from './statuses.js';
 
-/** The bytes that were received, and what the items consumed of them. */
+/** The bytes that were received, and how many of them the items consumed. */
 class Received {
   bytes = new Uint8Array(); // with capacity for more
   at = 0; // the index after the last item
@@ -38,7 +38,7 @@ class ItemReader {
   #received = new Received();
   #pending = 0; // the number of calls that wait
   #last = Promise.resolve(); // settles with the last of them
-  #outcome; // after the end null, or the error that each call throws
+  #outcome; // null, or the error that each call throws, once the reader has ended
   #stop; // ends the wait for a chunk
 
   /**
@@ -184,7 +184,7 @@ class ItemReader {
 }
 if (Symbol.asyncDispose) ItemReader.prototype[Symbol.asyncDispose] = ItemReader.prototype.cancel;
 
-/** The options: the maximum length of an item, and bytes that precede those of the source. */
+/** Returns the options: the maximum length of an item, and bytes that precede those of the source. */
 const checkedLimits = (options) => checkedOptions(options, ['limit', 'rest']);
 
 export class MultihashReader extends ItemReader {

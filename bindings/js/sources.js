@@ -20,7 +20,7 @@ export function sourceOf(source, name, others = '') {
   return {
     next: () => iterator.next(),
     release() {},
-    // `return` waits for a pending `next`, and before the first `next` it ends nothing, so a Node.js Readable is destroyed
+    // `return` waits for a pending `next`, and does nothing before the first one: so a Node.js Readable is also destroyed
     close() {
       if (typeof source.destroy === 'function') source.destroy();
       return iterator.return?.();

@@ -10,7 +10,7 @@ const EXAMPLE = unhex('1620644bcc7e564373040999aac89e7622f3ca71fba1d972fd94a31c3
 const MULTIHASH = decode(EXAMPLE);
 const NOTHING = { [Symbol.asyncIterator]: () => ({ next() {} }) };
 const READERS = [MultihashReader, FrameReader];
-// how an error ends for a type
+// what an error says of a type
 const TEXT = 'string: Multihash.fromHex(text) and CID.parse(text) decode it';
 const TEXT_AS_CONTENT = 'string: new TextEncoder().encode(text) makes bytes';
 const ARRAY = 'Array: Uint8Array.from(array) makes bytes';
@@ -62,7 +62,7 @@ test('numbers', () => {
         RangeError(`${name} must be a whole number from 0 to 2^53 - 1, or a bigint, got ${value}`));
     const most = `${name} must be from 0 to 2^${name === 'code' ? 63 : 64} - 1, got`;
     for (const value of [-1n, 1n << 64n, 10n ** 39n]) assert.throws(() => call(value), RangeError(`${most} ${value}`));
-    assert.throws(() => call(10n ** 40n), RangeError(`${most} ${10n ** 39n}...`)); // a number of more digits is cut
+    assert.throws(() => call(10n ** 40n), RangeError(`${most} ${10n ** 39n}...`)); // a longer number is cut
   }
 });
 
@@ -113,7 +113,7 @@ test('content, claims, names and options of hash functions', async () => {
   const calls = [
     [digest('abc', 18), TypeError(`${noContent} ${TEXT_AS_CONTENT}`)],
     [verify(whole, null), TypeError(`${noContent} null`)],
-    [verify(abc, whole), TypeError(`${noContent} Multihash: its bytes are the encoding`)], // swapped
+    [verify(abc, whole), TypeError(`${noContent} Multihash: its bytes are the encoding`)], // the arguments are swapped
     [verify('1200', abc), TypeError(`${noClaim} ${TEXT}`)],
     [verify({}, abc), TypeError(`${noClaim} Object`)],
     [verify(null, abc), TypeError(`${noClaim} null`)],

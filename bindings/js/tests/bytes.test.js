@@ -30,7 +30,7 @@ test('vectors of decoding', () => {
     const kind = KINDS[index % KINDS.length];
     const data = unhex(row.input);
     const limit = Number(row.S);
-    // what follows does not change a result, and is not part of it
+    // bytes that follow do not change the result
     const more = row.read_consumed === '-' ? data : Uint8Array.of(...data, ...new Uint8Array(400));
     consumes(() => (limit === 255 ? read(kind(more)) : read(kind(more), limit)), row.read, row.read_consumed, row);
     if (isForAll(row.scale_decode, limit))
@@ -105,7 +105,7 @@ test('varints of each kind of number, in memory of each kind', () => {
     }
   }
   assert.equal(encodeVarint(5).buffer.byteLength, 1);
-  const bytes = new Uint8Array(2); // with room for exactly one, from the index 0
+  const bytes = new Uint8Array(2); // exactly enough for the varint
   assert.deepEqual([writeVarint(300, bytes), hex(bytes)], [2, 'ac02']);
 });
 
@@ -163,7 +163,7 @@ test('many multihashes at once', () => {
   const few = joined(encode(18, new Uint8Array(32)), encode(2n ** 62n, new Uint8Array(255)), encode(0, new Uint8Array()));
   for (let cut = 0; cut <= few.length; cut++) checkMany(few.subarray(0, cut), KINDS[cut % KINDS.length]);
   for (const end of ['8000', 'ff'.repeat(9), '12ac02']) checkMany(joined(few, unhex(end)));
-  // more than the columns have room for at first, and codes of one or both halves of 64 bits
+  // more multihashes than the columns have capacity for at first, and codes of up to 32 bits and of more
   const codes = [0, 1, 2 ** 32 - 1, 2 ** 32, 2n ** 63n - 1n];
   const mixed = Array.from({ length: 3000 }, (_, at) => encode(codes[at % 5], new Uint8Array(at % 7).fill(at)));
   assert.equal(checkMany(joined(...mixed)), 3000);

@@ -38,7 +38,7 @@ test('the functions, names and codes', async () => {
   assert.deepEqual(exported, [identity, sha256, sha384, sha512]);
   for (const each of [CODES, NAMES, hashers, sha256]) assert.ok(Object.isFrozen(each));
   assert.deepEqual([CODES.constructor, NAMES.toString, hashers.valueOf], [undefined, undefined, undefined]);
-  // all that OpenSSL has, of which some have other names there
+  // OpenSSL has other names for some of them
   const short = (name) => name.replace('sha2-', 'sha').replace(/-|(?<=sm3-)256/g, '');
   const ofNode = Object.keys(CODES).filter((name) => getHashes().map(short).includes(short(name)));
   assert.deepEqual(new Set(Object.keys(hashers)), new Set([...ON_ALL_PLATFORMS, ...(byNode ? ofNode : [])]));
@@ -192,7 +192,7 @@ test('a source is cancelled after an error, even if nothing was read', async () 
       const file = createReadStream(path);
       await assert.rejects(call(file));
       assert.ok(file.destroyed);
-      await new Promise((resolve) => (file.closed ? resolve() : file.once('close', resolve))); // its error ends no process
+      await new Promise((resolve) => (file.closed ? resolve() : file.once('close', resolve))); // its error is caught
     }
   }
   const ofText = 'a chunk of the stream must be a Uint8Array, got string: open the stream without an encoding';

@@ -71,7 +71,7 @@ test('texts and JSON', () => {
     [{ ...json, code: '9'.repeat(99) }, RangeError(`${most} ${'9'.repeat(40)}...`)],
     [{ ...json, code: '18'.padStart(21, '0') }, RangeError(`${most} ${'18'.padStart(21, '0')}`)],
     [{ ...json, size: 3 }, RangeError('size must be 2, the length of the digest, got 3')],
-    [{ ...json, size: '2' }, RangeError('size must be 2, the length of the digest, got 2')],
+    [{ ...json, size: '2' }, RangeError('size must be 2, the length of the digest, got string')],
     [{ ...json, digest: '00a' }, { status: 'not_hexadecimal', message: 'the digest has an odd number of digits, 3' }],
     [{ code: 18, digest: '00'.repeat(256) }, { status: 'invalid_size', size: 256 }],
     [{ ...json, code: `${2n ** 64n - 1n}` }, { status: 'invalid_code', code: 2n ** 64n - 1n }],

@@ -114,7 +114,7 @@ test('time and memory are linear in the items, and in the chunks of an item', as
   const start = process.cpuUsage();
   assert.equal((await drained(new MultihashReader(streamOf([list])))).found.length, count);
   assert.equal((await new FrameReader(longFrame(), { limit: 2 ** 25 }).read()).indexOf(1), first);
-  assert.ok(process.cpuUsage(start).user < 2e6); // with their square it is many times as long
+  assert.ok(process.cpuUsage(start).user < 2e6); // quadratic time would be many times as long
 });
 
 test('a source that fails, and a chunk that is no bytes', async () => {
@@ -137,7 +137,7 @@ test('a source that fails, and a chunk that is no bytes', async () => {
     const reader = new MultihashReader(source);
     await assert.rejects(reader.read(), error);
     reader.release();
-    await assert.rejects(reader.read(), error); // the same from then on
+    await assert.rejects(reader.read(), error); // as every later call
     reader.rest.fill(0); // a copy
     assert.deepEqual(reader.rest, part);
   }
@@ -227,7 +227,7 @@ test('calls that wait at a release or a cancellation end as later ones do', asyn
 test('a release or a cancellation after any number of turns loses no byte', async () => {
   const bytes = Uint8Array.of(18, 2, 1, 2, 0, 0, 1, 1, 9);
   for (const name of ['release', 'cancel']) {
-    for (let turns = 0; turns < 100; turns++) { // after which all were read
+    for (let turns = 0; turns < 100; turns++) { // 100 turns are enough to read all
       let given = 0;
       const generated = (async function* () {
         while (given < bytes.length) yield Uint8Array.of(bytes[given++]);

@@ -25,7 +25,7 @@ export function outcome(call) {
   }
 }
 
-/** A subclass that says something else of itself than its bytes are. */
+/** A subclass whose properties lie about its bytes. */
 class Lying extends Uint8Array {}
 Object.defineProperty(Lying, Symbol.species, { value: Array });
 Object.defineProperties(Lying.prototype, {
