@@ -23,7 +23,7 @@ export class Multihash {
     const number = checkedWide(code, 'code');
     checkPair(number, length);
     const copy = new Uint8Array(digest);
-    return new Multihash(MAKING, number, copy.length === length ? copy : copy.slice(0, length)); // shared memory may have grown
+    return new Multihash(MAKING, number, copy.length === length ? copy : copy.slice(0, length)); // shared memory may grow
   }
 
   static fromHex(text) {
