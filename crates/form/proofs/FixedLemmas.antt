@@ -19,6 +19,7 @@ low_last i zero x = ap (λ (k : ℕ). byte_at k x ∷ []) (omega arith)
 low_last i (suc n) x = ap (λ (l : List ℕ). byte_at i x ∷ l)
     (low_last (suc i) n x ∙ ap (λ (k : ℕ). bytes_low_first (suc i) n x ++ byte_at k x ∷ []) (omega arith))
 
+-- the bytes of a number, the lowest first, put in order
 ordered : (BIG N x : ℕ) → in_order BIG (bytes_low_first 0 N x) ≡ number_bytes BIG N x
 ordered zero N x = refl
 ordered (suc b) zero x = refl
@@ -27,6 +28,7 @@ ordered (suc b) (suc N) x =
     ∙ ap (λ (k : ℕ). byte_at k x ∷ reverse (bytes_low_first 0 N x)) (omega arith)
     ∙ ap (λ (l : List ℕ). byte_at N x ∷ l) (ordered (suc b) N x)
 
+-- and back
 order_back : (BIG : ℕ) (bytes : List ℕ) → in_order BIG (in_order BIG bytes) ≡ bytes
 order_back zero bytes = refl
 order_back (suc _) bytes = reverse-reverse bytes
