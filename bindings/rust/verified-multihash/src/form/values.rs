@@ -1,6 +1,6 @@
 //! The constructors of the parts, which test the limits that a caller in Rattle proves; and `form!`.
-use crate::form::{encoded_len, BigEndian, Block, Both, Bytes, Case, Cases, Choice, Counted, Fixed, Form, FormError};
-use crate::form::{LittleEndian, Number, Others, Tag, Tagged};
+use crate::form::{encoded_len, Block, Both, Bytes, Case, Cases, Choice, Counted, Fixed, Form, FormError};
+use crate::form::{Number, Others, Tag, Tagged};
 use crate::no_std_io as io;
 pub use crate::proved::no_std_io::{Read, Write};
 use crate::{varint, Multihash};
@@ -112,26 +112,26 @@ impl<const N: u64> Default for Tag<N> {
 /// ```
 impl<const N: usize> From<[u8; N]> for Bytes<N> {
     fn from(bytes: [u8; N]) -> Self {
-        let () = Self::SOME;
+        let () = Self::IS_NOT_EMPTY;
         Bytes { bytes }
     }
 }
 
 impl<const N: usize> Bytes<N> {
-    const SOME: () = assert!(N > 0, "no encoding is empty");
+    const IS_NOT_EMPTY: () = assert!(N > 0, "no encoding is empty");
 }
 
 macro_rules! integers {
-    ($($name:ident<$size:literal> = $integer:ty;)*) => {
+    ($($integer:ty: $size:literal;)*) => {
         $(
-            impl From<$integer> for $name<$size> {
+            impl<const BIG: u8> From<$integer> for Fixed<$size, BIG> {
                 fn from(value: $integer) -> Self {
-                    $name { value: value.into() }
+                    Fixed { value: value.into() }
                 }
             }
 
-            impl From<$name<$size>> for $integer {
-                fn from(number: $name<$size>) -> Self {
+            impl<const BIG: u8> From<Fixed<$size, BIG>> for $integer {
+                fn from(number: Fixed<$size, BIG>) -> Self {
                     number.value as $integer
                 }
             }
@@ -139,14 +139,10 @@ macro_rules! integers {
     };
 }
 integers! {
-    BigEndian<1> = u8;
-    BigEndian<2> = u16;
-    BigEndian<4> = u32;
-    BigEndian<8> = u64;
-    LittleEndian<1> = u8;
-    LittleEndian<2> = u16;
-    LittleEndian<4> = u32;
-    LittleEndian<8> = u64;
+    u8: 1;
+    u16: 2;
+    u32: 4;
+    u64: 8;
 }
 
 impl<T, const MAX: usize> Counted<T, MAX> {
