@@ -1,6 +1,6 @@
 //! The Rattle source without its contracts, which `proof/check_rust.py` compares with it.
 #![allow(clippy::len_zero)]
-#![allow(dead_code)] // the public type has its own `wrap`, which is `const`, and `into_inner`
+#![allow(dead_code)] // the public type has its own `wrap`, `read` and `into_inner`
 
 pub use self::head::Head;
 pub use self::multihash::Multihash;
