@@ -36,11 +36,12 @@ PyObject *raise_error(const state *own, multihash_status status, uint64_t size, 
 PyObject *encoding_error(const state *own, multihash_status status, PyObject *length, PyObject *code)
 {
     int is_size = status == MULTIHASH_INVALID_SIZE;
-    PyObject *number = PyNumber_Index(is_size ? length : code), *arguments = NULL;
+    PyObject *number = length == NULL ? NULL : PyNumber_Index(is_size ? length : code), *arguments = NULL;
     Py_XDECREF(length);
     if (number == NULL) return NULL;
     if (is_size) {
-        PyObject *text = PyUnicode_FromFormat("the digest has %S bytes, and the limit is %d", number, MULTIHASH_DIGEST_MAX);
+        PyObject *text =
+            PyUnicode_FromFormat("the digest has %S bytes, and the limit is %d", number, MULTIHASH_DIGEST_MAX);
         arguments = text == NULL ? NULL : Py_BuildValue("IOiiN", status, number, 0, 0, text);
     } else { /* the text has no number, which may be too long to show */
         arguments = Py_BuildValue("IiOis", status, 0, number, 0, multihash_status_text(status));
@@ -95,12 +96,6 @@ PyObject *decoded_whole(const state *own, PyObject *data)
     return multihash;
 }
 
-/* A multihash and the number of bytes consumed. Steals the reference to the multihash, which is null after an error. */
-static PyObject *with_length(PyObject *multihash, size_t consumed)
-{
-    return multihash == NULL ? NULL : Py_BuildValue("Nn", multihash, (Py_ssize_t)consumed);
-}
-
 /* The first bytes of `data`, the only argument of a function. */
 static int get_data(PyObject *const *given, Py_ssize_t count, PyObject *named, const char *format, Py_ssize_t most,
                     input *from)
@@ -131,7 +126,7 @@ static PyObject *read_front(PyObject *module, PyObject *const *given, Py_ssize_t
     multihash_decoded found = multihash_read_limit(from.bytes, from.length, limit);
     PyObject *multihash = decoded(PyModule_GetState(module), &from, found, limit);
     Py_DECREF(from.owner);
-    return with_length(multihash, found.consumed);
+    return multihash == NULL ? NULL : Py_BuildValue("Nn", multihash, (Py_ssize_t)found.consumed);
 }
 
 static PyObject *scale_decode(PyObject *module, PyObject *const *given, Py_ssize_t count, PyObject *named)
@@ -149,7 +144,7 @@ static PyObject *scale_decode(PyObject *module, PyObject *const *given, Py_ssize
         multihash = raise_error(own, found.status, found.size, found.code, found.consumed, text);
     }
     Py_DECREF(from.owner);
-    return with_length(multihash, found.consumed);
+    return multihash == NULL ? NULL : Py_BuildValue("Nn", multihash, (Py_ssize_t)found.consumed);
 }
 
 static PyObject *head(PyObject *module, PyObject *data)

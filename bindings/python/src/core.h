@@ -1,6 +1,6 @@
-/* What the files of the module share. They convert arguments and results. The library for C decides what a multihash is;
- * reader.c alone compares the length of a digest with the limit, so that it reads no byte of one that is too long. The
- * files use only the stable ABI of the first CPython that pyproject.toml wants: setup.py defines Py_LIMITED_API. */
+/* What the files of the module share. The module converts arguments and results. The library for C decides what a
+ * multihash is, but reader.c compares the length of a digest with the limit, so that it does not read one that is too
+ * long. The module uses only the stable ABI of the first CPython in pyproject.toml: setup.py defines Py_LIMITED_API. */
 #define PY_SSIZE_T_CLEAN
 #include <Python.h>
 #include <stddef.h>
@@ -13,9 +13,9 @@
 
 /* ---- arguments.c */
 
-/* Bytes of an argument: all of them if it is a bytes object, or as many as were asked for. */
+/* The first bytes of an argument, or all of them. */
 typedef struct input {
-    PyObject *owner; /* a bytes object */
+    PyObject *owner; /* the argument, if it is a bytes object, or a copy of its first bytes */
     const uint8_t *bytes;
     size_t length;
     size_t whole; /* the length of the argument */
@@ -30,20 +30,20 @@ PyObject *wrong_type(const char *name, const char *expected, PyObject *argument)
 /* The buffer of any object that supports the protocol. */
 int get_buffer(PyObject *argument, const char *name, int flags, Py_buffer *view);
 
-/* Takes any object with the buffer protocol. Copies the first `most` bytes, or more, of what is no bytes object. */
+/* The bytes of any object that supports the buffer protocol: at least the first `most`. */
 int get_input(PyObject *argument, const char *name, Py_ssize_t most, input *to);
 
 /* One argument or two of a function with METH_FASTCALL and METH_KEYWORDS, by position or name. */
 int get_arguments(PyObject *const *given, Py_ssize_t count, PyObject *named, const char *format, char **names,
                   PyObject **first, PyObject **second);
 
-/* A whole number that is not negative. One of 2^63 or more is the largest, which the library rejects too. */
+/* An int that is not negative. One of 2^63 or more becomes UINT64_MAX, which the library rejects too. */
 int get_number(PyObject *argument, const char *name, uint64_t *number);
 
-/* The same of a limit or a digest's length: what is larger is rejected as the largest is. */
+/* The same for a limit or the length of a digest. Larger values become SIZE_MAX, which is rejected too. */
 int get_size(PyObject *argument, const char *name, size_t *size);
 
-/* A code, as `get_number` has it, and a digest, of which no more than the longest has is copied. */
+/* A code, by get_number, and a digest, by get_input: the bytes of one that is too long are not all copied. */
 int get_pair(PyObject *code, PyObject *bytes, uint64_t *number, input *digest);
 
 /* ---- core.c */
@@ -54,7 +54,7 @@ typedef struct state {
     PyObject *error;
 } state;
 
-/* The type in C that a type is, or of which it is a subclass: the one whose base is object. */
+/* The type of this module that a type is or is derived from: its base is object. */
 PyTypeObject *type_in_c(PyTypeObject *type);
 
 /* The state of the module of a type, which keeps it. */
@@ -78,7 +78,7 @@ PyObject *decoded_whole(const state *own, PyObject *data);
 
 /* ---- value.c and reader.c */
 
-extern PyType_Spec multihash_spec, reader_spec, file_reader_spec; /* the last one is of a subclass of the second */
+extern PyType_Spec multihash_spec, reader_spec, file_reader_spec; /* the last one is a subclass of the second */
 
 /* Makes a multihash of a code and a digest, and steals the reference, which is null after an error. */
 PyObject *new_multihash(PyTypeObject *type, uint64_t code, PyObject *digest);

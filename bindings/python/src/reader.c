@@ -2,22 +2,24 @@
  * of a multihash or the varint of a frame's length, and a body, which is a digest or the bytes of a frame. */
 #include "core.h"
 
-#define FIRST ((size_t)1 << 16) /* bytes that are asked for at first: memory is for those that came, not for a length */
+/* The most bytes of a body that the file is first asked for. Then it is asked for as many as were read, so memory grows
+ * with the bytes that arrive, not with the length that a head claims. */
+#define FIRST ((size_t)1 << 16)
 
 typedef struct reader_object {
     PyObject_HEAD
     const state *own;
-    PyObject *read; /* of the file */
-    PyObject *body; /* of the next item: what the file returned, if that is all, or else a bytearray */
-    size_t limit;   /* of the length of a body */
-    size_t wanted;  /* the number of bytes that a call of the file was asked for which has not returned, or 0 */
-    size_t length;  /* of what was read of the next item's head, */
-    size_t kept;    /* and of its body */
-    unsigned long long consumed; /* bytes of the items that were returned */
-    unsigned long long count; /* of these items */
-    multihash_head head;      /* of `bytes`, as far as it is known; a frame has no code */
-    int is_framed;            /* whether it reads frames */
-    char has_lost;            /* whether the file may have lost bytes */
+    PyObject *read; /* the method of the file */
+    PyObject *body; /* the bytes read of the next item's body, or null if none were read */
+    size_t limit;   /* the maximum length of a body */
+    size_t wanted;  /* the number of bytes that the running call of the file was asked for, or 0 if none runs */
+    size_t length;  /* the number of bytes read of the next item's head */
+    size_t kept;    /* the number of bytes read of the next item's body */
+    unsigned long long consumed; /* the number of bytes of the items returned so far */
+    unsigned long long count;    /* the number of these items */
+    multihash_head head;  /* what `bytes` start with; the code of a frame is 0 */
+    int is_framed;               /* whether the items are frames */
+    int has_lost;                /* whether the file may have lost bytes */
     uint8_t bytes[MULTIHASH_HEAD_MAX];
 } reader_object;
 
@@ -53,7 +55,7 @@ static int reader_init(PyObject *self, PyObject *arguments, PyObject *named)
     reader->count = 0;
     reader->is_framed = is_framed;
     reader->has_lost = 0;
-    PyObject *old = reader->read; /* now: its file may begin this reader anew, too */
+    PyObject *old = reader->read; /* released last: the destructor of its file may call this function */
     reader->read = Py_NewRef(read);
     Py_XDECREF(old);
     return 0;
@@ -82,15 +84,12 @@ static void reader_dealloc(PyObject *self)
     Py_DECREF(type);
 }
 
-/* Reads the head of the next item, as far as it is there. */
-static void read_head(reader_object *reader)
+/* Returns what the first bytes of an item contain of its head. */
+static multihash_head head_of(const uint8_t *bytes, size_t length, int is_framed)
 {
-    if (!reader->is_framed) {
-        reader->head = multihash_read_head(reader->bytes, reader->length);
-    } else {
-        multihash_varint varint = multihash_read_varint(reader->bytes, reader->length);
-        reader->head = (multihash_head){.status = varint.status, .digest_length = varint.value};
-    }
+    if (!is_framed) return multihash_read_head(bytes, length);
+    multihash_varint varint = multihash_read_varint(bytes, length);
+    return (multihash_head){.status = varint.status, .digest_length = varint.value};
 }
 
 /* The number of bytes that the file is asked for next, or 0 if the next item is there or rejected. */
@@ -98,7 +97,7 @@ static size_t missing(reader_object *reader)
 {
     multihash_head *head = &reader->head;
     if (reader->length == 0) return reader->is_framed ? 1 : 2; /* no head is shorter */
-    if (head->status == MULTIHASH_INSUFFICIENT) read_head(reader);
+    if (head->status == MULTIHASH_INSUFFICIENT) *head = head_of(reader->bytes, reader->length, reader->is_framed);
     if (head->status == MULTIHASH_INSUFFICIENT) return 1;
     if (head->status != MULTIHASH_OK || head->digest_length > reader->limit) return 0;
     uint64_t left = head->digest_length - reader->kept, most = reader->kept > FIRST ? reader->kept : FIRST;
@@ -129,19 +128,13 @@ static int keep(reader_object *reader, const input *from)
         reader->length += from->whole;
         return 0;
     }
-    PyObject *body;
-    if (reader->body != NULL) {
-        body = PySequence_InPlaceConcat(reader->body, from->owner);
-    } else if (from->whole == reader->head.digest_length) {
-        body = Py_NewRef(from->owner);
+    if (reader->body == NULL) {
+        reader->body = Py_NewRef(from->owner);
     } else {
-        body = PyByteArray_FromObject(from->owner);
+        PyBytes_Concat(&reader->body, from->owner); /* in place, if nothing else has the object */
     }
-    if (body == NULL) return -1;
-    Py_XDECREF(reader->body);
-    reader->body = body;
     reader->kept += from->whole;
-    return 0;
+    return reader->body == NULL ? -1 : 0;
 }
 
 /* Ends the call of the file that `begin` began, with what it returned: 1, or 0 if that is empty, at the end of the
@@ -207,13 +200,6 @@ static PyObject *frame_error(const reader_object *reader)
     return raise_error(reader->own, status, size, 0, reader->length, text);
 }
 
-/* The body, which is there, as bytes: most often what the file returned. */
-static PyObject *body_of(const reader_object *reader)
-{
-    if (reader->body == NULL) return PyBytes_FromStringAndSize(NULL, 0);
-    return PyBytes_CheckExact(reader->body) ? Py_NewRef(reader->body) : PyBytes_FromObject(reader->body);
-}
-
 /* The next item, which is dropped, or None if nothing of one was read. After an error it stays, for `rest`. */
 static PyObject *take(reader_object *reader)
 {
@@ -222,7 +208,7 @@ static PyObject *take(reader_object *reader)
     if (head->status != MULTIHASH_OK || reader->kept < head->digest_length) {
         return reader->is_framed ? frame_error(reader) : multihash_error(reader);
     }
-    PyObject *item = body_of(reader);
+    PyObject *item = reader->body == NULL ? PyBytes_FromStringAndSize(NULL, 0) : Py_NewRef(reader->body);
     if (!reader->is_framed) item = new_multihash(reader->own->type, head->code, item);
     if (item == NULL) return NULL;
     reader->consumed += reader->length + reader->kept;
