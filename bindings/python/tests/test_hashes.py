@@ -2,7 +2,6 @@
 
 import hashlib
 import io
-import itertools
 import unittest
 from unittest.mock import Mock, patch
 
@@ -26,7 +25,6 @@ def function(**returned):
 
 class Hashes(unittest.TestCase):
     def test_list(self):
-        """A function is that of its row, or hashlib lacks it."""
         for row in ROWS:
             try:
                 found = hashes.digest(b"abc", row["name"])
@@ -38,10 +36,8 @@ class Hashes(unittest.TestCase):
             self.assertIs(hashes.verify(found, b"abcd"), False)
 
     def test_names(self):
-        """They are constant. Those of no row have no function here."""
+        """Those of no row have no function here."""
         self.assertEqual(hashes.NAMES, {code: name for name, code in hashes.CODES.items()})
-        for names, call in itertools.product((hashes.CODES, hashes.NAMES), ("__setitem__", "__delitem__", "clear")):
-            self.assertFalse(hasattr(names, call))
         for code in (1, 0xB200, 0xB241 + 32):
             self.assertRaisesRegex(UNSUPPORTED, "code %#x" % code, hashes.verify, Multihash(code, b""), b"")
         for name in {*hashes.CODES} - {row["name"] for row in ROWS}:

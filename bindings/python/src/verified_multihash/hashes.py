@@ -65,17 +65,15 @@ _Functions = Mapping[int, Callable[[], _Hash]] | Mapping[str, Callable[[], _Hash
 class _Identity:
     """The function whose digest is the data, with the methods of hashlib's objects."""
 
-    def __init__(self) -> None:
-        self._data = b""
+    _data = b""
 
     def update(self, data: Buffer) -> None:
         """Raises MultihashError for more than DIGEST_MAX bytes, before it copies them."""
-        view = memoryview(data)
-        size = len(self._data) + view.nbytes
+        size = len(self._data) + memoryview(data).nbytes
         if size > DIGEST_MAX:
             text = f"identity takes at most {DIGEST_MAX} bytes of content, got {size}"
             raise MultihashError(Status.INVALID_SIZE, size, text=text)
-        self._data += view.tobytes()
+        self._data += data
 
     def digest(self) -> bytes:
         return self._data
@@ -178,13 +176,13 @@ def _verify(multihash: Multihash | Buffer, parts: Iterable[Buffer], functions: _
     except TypeError:
         raise TypeError(f"multihash must be a Multihash or its encoding, not {type(multihash).__name__}") from None
     hasher = Hasher(claimed.code, functions)
-    for part in parts:
-        try:
+    try:
+        for part in parts:
             hasher.update(part)
-        except MultihashError:
-            if isinstance(hasher._hash, _Identity):
-                return False  # more than any digest of "identity"
-            raise  # of the caller's function
+    except MultihashError:
+        if isinstance(hasher._hash, _Identity):
+            return False  # the data are longer than any digest
+        raise
     return hmac.compare_digest(claimed.digest, hasher._digest(hasher._hash))
 
 
