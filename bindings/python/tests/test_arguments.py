@@ -160,23 +160,19 @@ class Arguments(unittest.TestCase):
                 self.assertRaisesRegex(ValueError, "^%s must not be negative$" % name, call, number)
             for number in LARGE:
                 found = result_of(call, number)
-                size, code = number * (status is Status.INVALID_SIZE), number * (status is Status.INVALID_CODE)
-                self.assertEqual(
-                    found if status is None else found[:4], VALUE if status is None else (status, size, code, 0)
-                )
+                size, code = (number if status is each else 0 for each in (Status.INVALID_SIZE, Status.INVALID_CODE))
+                self.assertEqual(found[:4] if status else found, (status, size, code, 0) if status else VALUE)
         for call in ENCODERS:  # the length is looked at first
             self.assertEqual(result_of(call, 1 << 64, bytes(256))[:2], (Status.INVALID_SIZE, 256))
 
     def test_limits(self):
         """Each call that reads has a limit, which is the longest digest if none is given."""
-        self.assertEqual((vm.DIGEST_MAX, vm.HEAD_MAX, vm.LENGTH_MAX, vm.SCALE_LENGTH_MAX), (255, 18, 266, 264))
-        self.assertEqual(vm.VARINT_LENGTH_MAX, 9)
+        found = vm.DIGEST_MAX, vm.VARINT_LENGTH_MAX, vm.HEAD_MAX, vm.LENGTH_MAX, vm.SCALE_LENGTH_MAX
+        self.assertEqual(found, (255, 9, 18, 266, 264))
         for call, (size, *limit) in itertools.product(LIMITED, ((255,), (256,), (3, 3), (3, 2), (256, 1 << 64))):
             found = result_of(call, b"\1" + vm.encode_varint(size) + bytes(size), *limit)
-            if size <= min(*limit, 255, 255):
-                self.assertEqual(found, Multihash(1, bytes(size)))
-            else:
-                self.assertEqual(found[:2], (Status.INVALID_SIZE, size))
+            is_right = size <= min(*limit, 255, 255)
+            self.assertEqual(found if is_right else found[:2], Multihash(1, bytes(size)) if is_right else (4, size))
 
     @unittest.skipIf("asan" in os.environ.get("LD_PRELOAD", ""), "the sanitizer has more memory than the limit")
     def test_no_long_copies(self):
