@@ -13,7 +13,6 @@ CID has exactly one encoding, and one text in each base: other texts, with capit
 from __future__ import annotations
 
 import base64
-import binascii
 import re
 from collections.abc import Callable, Mapping
 from dataclasses import dataclass
@@ -38,12 +37,6 @@ TEXT_MAX = 1 + 2 * LENGTH_MAX
 
 _BASE58 = "123456789ABCDEFGHJKLMNPQRSTUVWXYZabcdefghijkmnopqrstuvwxyz"
 _SHA256 = b"\x12\x20"  # the code, and the length of the digest
-# By the prefix of a text: the name of the base, and what is no digit of it.
-_BASES = {
-    "b": ("base32", re.compile("[^a-z2-7]")),
-    "f": ("base16", re.compile("[^0-9a-f]")),
-    "z": ("base58btc", re.compile(f"[^{_BASE58}]")),
-}
 
 
 class CIDError(ValueError):
@@ -111,13 +104,15 @@ class CID:
         base, start = ("z", 0) if is_version_0 else (text[0], 1)
         if base not in _BASES:
             raise CIDError("unknown_base", "the text must start with b, f, z or Qm")
-        name, other = _BASES[base]
-        found = other.search(text, start, TEXT_MAX)
+        name, not_digit, encode, decode = _BASES[base]
+        found = not_digit.search(text, start, TEXT_MAX)
         if found:  # the character is not shown: it may be one that changes how the text is displayed
             raise CIDError("invalid_digit", f"the character at index {found.start()} is no digit of {name}")
         if len(text) > TEXT_MAX:
             raise CIDError("too_long", f"the text has more than {TEXT_MAX} characters")
-        data = _DECODERS[base](text[start:])
+        data = decode(text[start:])
+        if encode(data) != text[start:]:
+            raise CIDError("trailing_bits", f"the last digit of {name} has bits of no byte")
         if data.startswith(_SHA256) != is_version_0:
             raise CIDError("wrong_prefix", "a CID of version 0 has the text Qm.., and no other has")
         return cls.decode(data)
@@ -156,10 +151,10 @@ class CID:
         """Returns the text in the base of a prefix: `b` is base32, `f` base16, `z` base58btc, which has no prefix in
         version 0. Version 0 has no other base."""
         base = base or ("b" if self.version else "z")
-        if base not in _ENCODERS or (self.version == 0 and base != "z"):
+        if base not in _BASES or (self.version == 0 and base != "z"):
             raise ValueError(f"base must be 'b', 'f' or 'z', and 'z' for version 0, not {base!r:.20}")
-        prefix = base if self.version else ""
-        return prefix + _ENCODERS[base](bytes(self))
+        _, _, encode, _ = _BASES[base]
+        return (base if self.version else "") + encode(bytes(self))
 
     def __bytes__(self) -> bytes:
         start = b"\x01" + encode_varint(self.codec) if self.version == 1 else b""
@@ -187,19 +182,13 @@ def _to_base32(data: bytes) -> str:
 
 
 def _from_base32(digits: str) -> bytes:
-    try:
-        data = base64.b32decode(digits.upper() + "=" * (-len(digits) % 8))
-    except binascii.Error:
-        data = b""
-    if _to_base32(data) != digits:
-        raise CIDError("trailing_bits", "the last digit of base32 has bits of no byte")
-    return data
+    if len(digits) % 8 in (1, 3, 6):  # the last digit has bits of no byte
+        digits = digits[:-1]
+    return base64.b32decode(digits.upper() + "=" * (-len(digits) % 8))
 
 
 def _from_base16(digits: str) -> bytes:
-    if len(digits) % 2:
-        raise CIDError("trailing_bits", "the last digit of base16 has bits of no byte")
-    return bytes.fromhex(digits)
+    return bytes.fromhex(digits[: len(digits) // 2 * 2])
 
 
 def _to_base58(data: bytes) -> str:
@@ -218,5 +207,10 @@ def _from_base58(digits: str) -> bytes:
     return bytes(zeros) + number.to_bytes((number.bit_length() + 7) // 8, "big")
 
 
-_ENCODERS: Mapping[str, Callable[[bytes], str]] = {"b": _to_base32, "f": bytes.hex, "z": _to_base58}
-_DECODERS: Mapping[str, Callable[[str], bytes]] = {"b": _from_base32, "f": _from_base16, "z": _from_base58}
+# By the prefix of a text: the name of the base, what is no digit of it, and functions that encode and decode digits. What
+# decodes ignores bits that belong to no byte.
+_BASES: Mapping[str, tuple[str, re.Pattern[str], Callable[[bytes], str], Callable[[str], bytes]]] = {
+    "b": ("base32", re.compile("[^a-z2-7]"), _to_base32, _from_base32),
+    "f": ("base16", re.compile("[^0-9a-f]"), bytes.hex, _from_base16),
+    "z": ("base58btc", re.compile(f"[^{_BASE58}]"), _to_base58, _from_base58),
+}
