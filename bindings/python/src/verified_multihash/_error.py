@@ -21,24 +21,19 @@ class MultihashError(ValueError):
 
     def __init__(self, status: int, size: int = 0, code: int = 0, consumed: int = 0, text: str = "") -> None:
         self.status = Status(status)
-        if self.status is Status.OK:
-            raise ValueError("OK is the status of no error")
         self.size = size
         self.code = code
         self.consumed = consumed
-        super().__init__(self.status, size, code, consumed, text)
+        super().__init__(text or TEXTS[self.status])
+
+    def __reduce__(self) -> tuple[object, ...]:
+        return type(self), (self.status, self.size, self.code, self.consumed, str(self)), self.__dict__
 
     @property
     def is_incomplete(self) -> bool:
         """Whether the input is truncated. In `read`, `read_many`, `read_varint`, `head`, `scale_decode` and the readers,
         only then can more input change the result."""
         return self.status in INCOMPLETE
-
-    def __str__(self) -> str:
-        """Returns the text, or else that of the C library. If `args` was replaced, returns what a ValueError does."""
-        if len(self.args) != 5:
-            return super().__str__()
-        return self.args[4] or TEXTS[self.status]
 
 
 _core.set_error(MultihashError)

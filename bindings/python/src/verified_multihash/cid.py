@@ -56,11 +56,10 @@ class CIDError(ValueError):
 
     def __init__(self, status: str, text: str) -> None:
         self.status = status
-        super().__init__(status, text)
+        super().__init__(text)
 
-    def __str__(self) -> str:
-        """Returns the text. If `args` was replaced, returns what a ValueError does."""
-        return str(self.args[1]) if len(self.args) == 2 else super().__str__()
+    def __reduce__(self) -> tuple[object, ...]:
+        return type(self), (self.status, str(self)), self.__dict__
 
 
 @dataclass(frozen=True, repr=False)
