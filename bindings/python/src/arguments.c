@@ -110,9 +110,3 @@ int get_size(PyObject *argument, const char *name, size_t *size)
     *size = number > SIZE_MAX ? SIZE_MAX : (size_t)number;
     return 0;
 }
-
-int get_pair(PyObject *code, PyObject *bytes, uint64_t *number, input *digest)
-{
-    if (get_number(code, "code", number) < 0) return -1;
-    return get_input(bytes, "digest", MULTIHASH_DIGEST_MAX, digest);
-}

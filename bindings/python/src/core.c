@@ -224,8 +224,9 @@ static PyObject *encoded(PyObject *module, encoder *function, const char *format
     uint64_t number;
     input digest;
     if (get_arguments(given, count, named, format, names, &code, &bytes) < 0) return NULL;
-    if (get_pair(code, bytes, &number, &digest) < 0) return NULL;
-    /* What is longer was not copied whole. */
+    if (get_number(code, "code", &number) < 0) return NULL;
+    if (get_input(bytes, "digest", MULTIHASH_DIGEST_MAX, &digest) < 0) return NULL;
+    /* A longer digest may not have been copied whole. */
     multihash_encoded made = digest.whole > MULTIHASH_DIGEST_MAX
                                  ? multihash_encoded_length(number, digest.whole)
                                  : function(number, digest.bytes, digest.whole, out, sizeof out);

@@ -43,9 +43,6 @@ int get_number(PyObject *argument, const char *name, uint64_t *number);
 /* The same for a limit or the length of a digest. Larger values become SIZE_MAX, which is rejected too. */
 int get_size(PyObject *argument, const char *name, size_t *size);
 
-/* A code, by get_number, and a digest, by get_input: the bytes of one that is too long are not all copied. */
-int get_pair(PyObject *code, PyObject *bytes, uint64_t *number, input *digest);
-
 /* ---- core.c */
 
 /* The state of the module: the types Multihash and MultihashError. */

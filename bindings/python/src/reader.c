@@ -175,12 +175,6 @@ static int read_chunk(reader_object *reader)
     return kept;
 }
 
-static PyObject *multihash_error(const reader_object *reader)
-{
-    input from = {NULL, reader->bytes, reader->length, reader->length + reader->kept};
-    return decoded(reader->own, &from, multihash_read_limit(from.bytes, from.length, reader->limit), reader->limit);
-}
-
 static PyObject *frame_error(const reader_object *reader)
 {
     char reason[MULTIHASH_MESSAGE_SIZE], text[2 * MULTIHASH_MESSAGE_SIZE];
@@ -206,7 +200,9 @@ static PyObject *take(reader_object *reader)
     const multihash_head *head = &reader->head;
     if (reader->length == 0) Py_RETURN_NONE;
     if (head->status != MULTIHASH_OK || reader->kept < head->digest_length) {
-        return reader->is_framed ? frame_error(reader) : multihash_error(reader);
+        if (reader->is_framed) return frame_error(reader);
+        input from = {NULL, reader->bytes, reader->length, reader->length + reader->kept};
+        return decoded(reader->own, &from, multihash_read_limit(from.bytes, from.length, reader->limit), reader->limit);
     }
     PyObject *item = reader->body == NULL ? PyBytes_FromStringAndSize(NULL, 0) : Py_NewRef(reader->body);
     if (!reader->is_framed) item = new_multihash(reader->own->type, head->code, item);

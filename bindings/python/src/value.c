@@ -27,7 +27,8 @@ static PyObject *multihash_new(PyTypeObject *type, PyObject *given, PyObject *na
     uint64_t number;
     input digest;
     if (!PyArg_ParseTupleAndKeywords(given, named, "OO:Multihash", names, &code, &bytes)) return NULL;
-    if (get_pair(code, bytes, &number, &digest) < 0) return NULL;
+    if (get_number(code, "code", &number) < 0) return NULL;
+    if (get_input(bytes, "digest", MULTIHASH_DIGEST_MAX, &digest) < 0) return NULL;
     multihash_status status = multihash_encoded_length(number, digest.whole).status;
     if (status == MULTIHASH_OK) return new_multihash(type, number, digest.owner);
     Py_DECREF(digest.owner);
