@@ -3,6 +3,7 @@
 //! formatted text, and `expect_ok!` replaces `?`.
 use fakes::OUT_OF_MEMORY;
 use multihash::Error;
+use std::fmt::Debug;
 
 /// Like `assert!`; prints the note's value too, if there is one.
 macro_rules! check {
@@ -35,17 +36,33 @@ pub(crate) use check;
 pub(crate) use check_eq;
 pub(crate) use expect_ok;
 
+/// A value that is not the expected one.
+#[derive(Debug, Drop)]
+pub struct Unequal<T, N> {
+    pub value: T,
+    pub wanted: T,
+    pub note: N,
+}
+
 /// Returns the note if the condition is false.
 pub fn holds<N: Drop>(condition: bool, note: N) -> Result<(), N> {
     if condition { Ok(()) } else { Err(note) }
 }
 
-/// Returns both values, the wanted one second, and the note if they differ.
-pub fn equal<T: PartialEq + Drop, N: Drop>(value: T, wanted: T, note: N) -> Result<(), (T, T, N)> {
+/// Returns both values and the note if they differ.
+pub fn equal<T: PartialEq + Debug + Drop, N: Debug + Drop>(
+    value: T,
+    wanted: T,
+    note: N,
+) -> Result<(), Unequal<T, N>> {
     if value == wanted {
         return Ok(());
     }
-    Err((value, wanted, note))
+    Err(Unequal {
+        value,
+        wanted,
+        note,
+    })
 }
 
 /// Whether this is the error of a reader or a writer that prints this text.
