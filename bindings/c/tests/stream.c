@@ -51,7 +51,7 @@ static void check_cut(size_t cut)
     CHECK(read_on(&from, &at) == STREAM_END && at == ITEMS && close(from.descriptor) == 0);
 }
 
-/* A stream is rejected, again and again, and no byte is read after those that decide it. */
+/* Each call rejects the stream. No byte is read after the one that determines the error. */
 static void check_rejected(const char *bytes, size_t length, multihash_status status, size_t consumed)
 {
     uint8_t rest[64];

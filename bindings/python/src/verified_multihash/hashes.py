@@ -81,7 +81,7 @@ class _Identity:
 
 @functools.cache
 def _maker(code: int) -> Callable[[], Any]:
-    """Returns what makes an object of hashlib."""
+    """Returns the function of hashlib that makes a hash object for a code."""
     import hashlib
 
     if code not in NAMES:
