@@ -3,7 +3,6 @@
 
 typedef struct multihash_object {
     PyObject_HEAD
-    PyObject *weak_references;
     PyObject *digest; /* a bytes object */
     unsigned long long code;
 } multihash_object;
@@ -39,7 +38,6 @@ static void multihash_dealloc(PyObject *self)
 {
     multihash_object *multihash = (multihash_object *)self;
     PyTypeObject *type = Py_TYPE(self);
-    if (multihash->weak_references != NULL) PyObject_ClearWeakRefs(self);
     Py_XDECREF(multihash->digest);
     ((freefunc)PyType_GetSlot(type, Py_tp_free))(self);
     Py_DECREF(type);
@@ -182,7 +180,6 @@ static PyMethodDef multihash_methods[] = {
 static PyMemberDef multihash_members[] = {
     {"code", T_ULONGLONG, offsetof(multihash_object, code), READONLY, "The code of the hash function, below 2**63."},
     {"digest", T_OBJECT_EX, offsetof(multihash_object, digest), READONLY, "The digest, as bytes."},
-    {"__weaklistoffset__", T_PYSSIZET, offsetof(multihash_object, weak_references), READONLY, NULL},
     {NULL, 0, 0, 0, NULL},
 };
 

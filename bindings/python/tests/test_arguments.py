@@ -11,7 +11,6 @@ import pickle
 import resource
 import tempfile
 import unittest
-import weakref
 from unittest.mock import Mock
 
 import verified_multihash as vm
@@ -52,8 +51,6 @@ TEXTS = [
     (vm.encode, [1 << 63, b""], "the code is 2^63 or more"),
     (vm.encoded_len, [18, 1 << 70], "the digest has 1180591620717411303424 bytes, and the limit is 255"),
     (vm.head, [b"\x92\0\1"], "the varint of the code is not minimal: it ends in a zero byte"),
-    (vm.read_from, [io.BytesIO(b"\x12\3abc"), 2], "the digest has 3 bytes, and the limit is 2"),
-    (vm.read_from, [io.BytesIO(b"\x12\3ab")], "the input ends inside the digest (2 of 3 bytes)"),
     (vm.decode, ["1220"], "data must be bytes (Multihash.fromhex takes text), not str"),
     (vm.read, [None], "data must be a bytes-like object, not NoneType"),
     (Multihash.fromhex, [b"1220"], "text must be a str (decode takes bytes), not bytes"),
@@ -61,7 +58,6 @@ TEXTS = [
     (Multihash, ["sha1", b""], "code must be an int (hashes.CODES has the codes of names), not str"),
     (vm.FrameReader, [io.BytesIO(), None], "limit must be an int, not NoneType"),
     (vm.compare, [b"\1\0", VALUE], "left must be a Multihash, not bytes"),
-    (vm.compare, [VALUE, None], "right must be a Multihash, not NoneType"),
     (vm.MultihashReader, ["path"], FILE),
     (vm.AsyncFrameReader, [3], "stream must have a read that is awaited, as an asyncio.StreamReader has, not int"),
     (vm.read_from, [io.StringIO("1220")], "the result of read must be bytes (open the file in binary mode), not str"),
@@ -292,13 +288,6 @@ class Values(unittest.TestCase):
         call = lambda own, code, digest, more: Multihash.__new__(own, code + more, digest)
         own = type("Own", (Multihash,), {"__new__": call})
         self.assertEqual(own(1, b"abc", 0).__replace__(more=2), Multihash(3, b"abc"))
-
-    def test_weak_references(self):
-        multihash = Multihash(1, b"abc")
-        kept = weakref.ref(multihash)
-        self.assertIs(kept(), multihash)
-        del multihash
-        self.assertIsNone(kept())
 
     def test_hashes(self):
         """The hash is that of a tuple with the code and the digest."""
