@@ -74,13 +74,11 @@ class Module(unittest.TestCase):
         self.assertEqual([hasattr(module, name) for name in names], [True, False, False])
 
     def test_names(self):
-        """All that is public is exported and has a text. Classes are in the module that pickled values name."""
+        """All that is public is exported and has a text. Pickled values name the module."""
+        self.assertEqual({each.__module__ for each in (Multihash, vm.MultihashError, vm.Status)}, {vm.__name__})
         for module in (vm, hashes, cid):
-            for name in module.__all__:
-                it = vars(module)[name]
-                self.assertTrue(it.__doc__ or not callable(it), name)
-                if isinstance(it, type):
-                    self.assertEqual(it.__module__, module.__name__)
+            called = [it for it in map(vars(module).get, module.__all__) if callable(it)]
+            self.assertEqual([it for it in called if not it.__doc__], [])
             own = {name for name, it in vars(module).items() if getattr(it, "__module__", "") == module.__name__}
             self.assertLessEqual({name for name in own if name[0] != "_"}, {*module.__all__})
 

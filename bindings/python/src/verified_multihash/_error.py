@@ -5,8 +5,6 @@ from __future__ import annotations
 from . import _core
 from ._status import INCOMPLETE, TEXTS, Status
 
-__all__ = ["MultihashError"]
-
 
 class MultihashError(ValueError):
     """The error of invalid input, or of a code or digest that is too large. Its text says what is wrong.

@@ -10,8 +10,6 @@ from . import _core
 from ._core import DIGEST_MAX, Multihash
 from ._types import AsyncReadable, Readable, read_of
 
-__all__ = ["AsyncFrameReader", "AsyncMultihashReader", "FrameReader", "MultihashReader", "read_from"]
-
 FRAME_MAX = 1 << 22
 STREAM = "stream must have a read that is awaited, as an asyncio.StreamReader has"
 Item = TypeVar("Item")
@@ -57,8 +55,6 @@ class MultihashReader(_core.FileReader[Multihash]):
     buffered file may have lost bytes. A call during another call raises RuntimeError, and the other call continues.
     """
 
-    __module__ = "verified_multihash"
-
     def __init__(self, file: Readable, limit: int = DIGEST_MAX) -> None:
         super().__init__(read_of(file), limit)
 
@@ -69,8 +65,6 @@ class AsyncMultihashReader(AsyncReader[Multihash]):
     If a call is cancelled, for example by a timeout, the next call continues where it stopped: an asyncio.StreamReader
     loses no bytes when a `read` of it is cancelled.
     """
-
-    __module__ = "verified_multihash"
 
     def __init__(self, stream: AsyncReadable, limit: int = DIGEST_MAX) -> None:
         super().__init__(read_of(stream, STREAM), limit)
@@ -84,8 +78,6 @@ class FrameReader(_core.FileReader[bytes]):
     MultihashReader. The text of a MultihashError starts with the number of the frame, from 0 on, and its offset.
     """
 
-    __module__ = "verified_multihash"
-
     def __init__(self, file: Readable, limit: int = FRAME_MAX) -> None:
         super().__init__(read_of(file), limit, True)
 
@@ -93,8 +85,6 @@ class FrameReader(_core.FileReader[bytes]):
 class AsyncFrameReader(AsyncReader[bytes]):
     """Reads as a FrameReader does, from a stream whose `read` is awaited. A call may be cancelled, as that of an
     AsyncMultihashReader."""
-
-    __module__ = "verified_multihash"
 
     def __init__(self, stream: AsyncReadable, limit: int = FRAME_MAX) -> None:
         super().__init__(read_of(stream, STREAM), limit, True)

@@ -53,10 +53,10 @@ class UnsupportedHashError(ValueError):
 
 class _Hash(Protocol):
     def update(self, data: bytes, /) -> object:
-        """Appends data."""
+        ...
 
     def digest(self) -> bytes:
-        """Returns the digest of all data so far."""
+        ...
 
 
 _Functions = Mapping[int, Callable[[], _Hash]] | Mapping[str, Callable[[], _Hash]]
@@ -100,15 +100,6 @@ def _maker(code: int) -> Callable[[], Any]:
     return make
 
 
-def _own(functions: Mapping[Any, Callable[[], Any]] | None, code: int) -> Callable[[], Any] | None:
-    """Returns the caller's function for a code."""
-    if functions is None:
-        return None
-    if not isinstance(functions, Mapping):
-        raise TypeError(f"functions must map names or codes to functions, not {type(functions).__name__}")
-    return functions.get(code, functions.get(NAMES.get(code, code)))
-
-
 class Hasher:
     """Makes the multihash of data that is passed in parts, by the function of a name or a code.
 
@@ -123,10 +114,13 @@ class Hasher:
             raise TypeError(f"name must be a str such as 'sha2-256', or a code, not {type(name).__name__}")
         if isinstance(name, str) and name not in CODES:
             raise ValueError(f"name must be in hashes.CODES, such as 'sha2-256', not {name!r:.60}")
-        self._code = CODES[name] if isinstance(name, str) else name
-        own = _own(functions, self._code)
-        self._hash: Any = _maker(self._code)() if own is None else own()
-        self._digest = _DIGESTS.get(NAMES[self._code] if own is None else "", methodcaller("digest"))
+        code = self._code = CODES[name] if isinstance(name, str) else name
+        own: Mapping[Any, Callable[[], Any]] = {} if functions is None else functions
+        if not isinstance(own, Mapping):
+            raise TypeError(f"functions must map names or codes to functions, not {type(functions).__name__}")
+        make = own.get(code, own.get(NAMES.get(code, code)))
+        self._hash: Any = _maker(code)() if make is None else make()
+        self._digest = _DIGESTS.get(NAMES[code] if make is None else "", methodcaller("digest"))
 
     def update(self, data: Buffer) -> None:
         """Appends data. Raises MultihashError if "identity" gets more than DIGEST_MAX bytes."""
