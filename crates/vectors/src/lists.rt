@@ -21,7 +21,7 @@ enum Encoding {
 const ENCODINGS: [Encoding; 3] = [Encoding::Binary, Encoding::Scale, Encoding::Json];
 
 impl Encoding {
-    // A reader has no JSON.
+    // JSON is not read from a reader.
     fn read<const S: usize, R: Read>(self, r: &mut R) -> Result<Multihash<S>, Error>
         requires { S < 2 ^ 16 }
     {
@@ -31,7 +31,7 @@ impl Encoding {
         }
     }
 
-    // Encodes a multihash, and decodes it with another capacity.
+    // Encodes a multihash, and decodes it with the capacity `T`.
     fn through<const S: usize, const T: usize>(
         self,
         alloc: Global,
@@ -68,12 +68,12 @@ impl Display for Hex<'_> {
 }
 
 // The result of a call as a column has it.
-#[derive(Clone, Copy)]
-struct Verdict<'a, const S: usize>(&'a Result<Multihash<S>, Error>);
+#[derive(Drop)]
+struct Verdict<const S: usize>(Result<Multihash<S>, Error>);
 
-impl<const S: usize> Display for Verdict<'_, S> {
+impl<const S: usize> Display for Verdict<S> {
     fn fmt<W: fmt::Write>(&self, f: &mut fmt::Formatter<W>) -> fmt::Result {
-        let e = match self.0 {
+        let e = match &self.0 {
             Ok(m) => return write!(f, "pair {} {}", m.code(), Hex(m.digest())),
             Err(e) => e,
         };
@@ -98,7 +98,7 @@ impl<const S: usize> Display for Verdict<'_, S> {
 // The result of a call that reads, and the number of bytes that it consumed, as two columns.
 #[derive(Drop)]
 struct Reading<const S: usize> {
-    found: Result<Multihash<S>, Error>,
+    found: Verdict<S>,
     consumed: usize,
 }
 
@@ -107,7 +107,7 @@ impl<const S: usize> Reading<S> {
         requires { S < 2 ^ 16 }
     {
         let mut left = input;
-        let found = encoding.read(&mut left);
+        let found = Verdict(encoding.read(&mut left));
         let consumed = input.len().saturating_sub(left.len());
         Reading { found, consumed }
     }
@@ -117,20 +117,20 @@ impl<const S: usize> Reading<S> {
         requires some { 0 < most }
     {
         let mut slow = SlowReader::new(input, most);
-        let found = encoding.read(&mut slow);
+        let found = Verdict(encoding.read(&mut slow));
         let consumed = input.len().saturating_sub(slow.left.len());
         Reading { found, consumed }
     }
 
     fn is_incomplete(&self) -> bool {
-        matches!(&self.found, Err(e) if e.is_incomplete())
+        matches!(&self.found.0, Err(e) if e.is_incomplete())
     }
 }
 
 // How much of a truncated input is consumed depends on the reader, so the column is a dash.
 impl<const S: usize> Display for Reading<S> {
     fn fmt<W: fmt::Write>(&self, f: &mut fmt::Formatter<W>) -> fmt::Result {
-        write!(f, "{}\t", Verdict(&self.found))?;
+        write!(f, "{}\t", self.found)?;
         if self.is_incomplete() {
             return f.write_str("-");
         }
@@ -193,15 +193,15 @@ fn check_input<const S: usize>(page: &mut Page, line: &str, input: &[u8])
 {
     let read = Reading::<S>::of_slice(Encoding::Binary, input);
     let scale = Reading::<S>::of_slice(Encoding::Scale, input);
-    let whole = Multihash::<S>::from_bytes(input);
-    let made = format_args!("{S}\t{}\t{read}\t{}\t{scale}", Hex(input), Verdict(&whole));
+    let whole = Verdict(Multihash::<S>::from_bytes(input));
+    let made = format_args!("{S}\t{}\t{read}\t{whole}\t{scale}", Hex(input));
     page.check(line, "is made", made, line);
     check_reading::<S>(page, line, Encoding::Binary, input);
     check_reading::<S>(page, line, Encoding::Scale, input);
-    let wanted = page.text_of(Verdict(&whole));
+    let wanted = page.text_of(&whole);
     let json = json_of(page.alloc, input).unwrap_or(Value::Null);
-    let found = Multihash::<S>::from_value(&json);
-    page.check(line, "from JSON", Verdict(&found), &wanted);
+    let found = Verdict(Multihash::<S>::from_value(&json));
+    page.check(line, "from JSON", found, &wanted);
 }
 
 fn bytes_of(alloc: Global, digits: &str) -> Vec<u8> {
@@ -228,19 +228,19 @@ fn check_verdict(page: &mut Page, line: &str) {
     with_capacity!(page, line, size, check_input(page, line, &input));
 }
 
-// By each two encodings, the second of which is decoded with this capacity.
+// Encodes and decodes a multihash by each two encodings, the second time with the capacity `T`.
 fn check_through<const S: usize, const T: usize>(page: &mut Page, line: &str, m: &Multihash<S>)
     requires source { S < 2 ^ 16 }
     requires last { T < 2 ^ 16 }
 {
-    let wanted = page.text_of(Verdict(&Ok(*m)));
+    let wanted = page.text_of(Verdict(Ok(*m)));
     for first in &ENCODINGS {
         for second in &ENCODINGS {
             let found = match first.through::<S, S>(page.alloc, m) {
                 Ok(again) => second.through::<S, T>(page.alloc, &again),
                 Err(e) => Err(e),
             };
-            page.check(line, "by two encodings", Verdict(&found), &wanted);
+            page.check(line, "by two encodings", Verdict(found), &wanted);
         }
     }
 }
@@ -248,10 +248,9 @@ fn check_through<const S: usize, const T: usize>(page: &mut Page, line: &str, m:
 fn check_value<const S: usize>(page: &mut Page, line: &str, code: u64, digest: &[u8])
     requires { S < 2 ^ 16 }
 {
-    let (digits, outcome) = (Hex(digest), Multihash::<S>::wrap(code, digest));
-    let Ok(m) = &outcome else {
-        let e = Verdict(&outcome);
-        let made = format_args!("value\t{S}\t{code}\t{digits}\t{e}\t{e}");
+    let (digits, made) = (Hex(digest), Verdict(Multihash::<S>::wrap(code, digest)));
+    let Ok(m) = &made.0 else {
+        let made = format_args!("value\t{S}\t{code}\t{digits}\t{made}\t{made}");
         return page.check(line, "is made", made, line);
     };
     let mut scale = Vec::new(page.alloc);
@@ -272,8 +271,11 @@ fn multihash_of(alloc: Global, code: &str, digest: &str) -> Multihash<255> {
 
 fn check_values(page: &mut Page, line: &str) {
     let mut columns = line.split('\t');
-    let mut next = || columns.next().unwrap_or("");
-    let (kind, first, second, third, fourth) = (next(), next(), next(), next(), next());
+    let kind = columns.next().unwrap_or("");
+    let first = columns.next().unwrap_or("");
+    let second = columns.next().unwrap_or("");
+    let third = columns.next().unwrap_or("");
+    let fourth = columns.next().unwrap_or("");
     if kind == "value" {
         let (code, digest) = (second.parse().unwrap_or(0), bytes_of(page.alloc, third));
         with_capacity!(page, line, first, check_value(page, line, code, &digest));
@@ -281,7 +283,7 @@ fn check_values(page: &mut Page, line: &str) {
     }
     let left = multihash_of(page.alloc, first, second);
     let right = multihash_of(page.alloc, third, fourth);
-    let wanted = match next() {
+    let wanted = match columns.next().unwrap_or("") {
         "-1" => "Less",
         "0" => "Equal, ==, same hash",
         _ => "Greater",

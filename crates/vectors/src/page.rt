@@ -64,26 +64,22 @@ impl Display for Left<'_> {
 #[derive(Clone, Copy)]
 pub struct Bytes<'a>(pub &'a [u8]);
 
-// Fewer letters are text, and this many equal bytes are written once.
+// Bytes that are fewer may be shown as text, and this many equal ones are shown as one and their number.
 const MANY: usize = 16;
 
 fn are_few_letters(bytes: &[u8]) -> bool {
-    for byte in bytes {
-        if !byte.is_ascii_alphabetic() && *byte != b' ' {
-            return false;
-        }
-    }
-    0 < bytes.len() && bytes.len() < MANY
+    let are_letters = bytes
+        .iter()
+        .all(|byte| byte.is_ascii_alphabetic() || *byte == b' ');
+    are_letters && 0 < bytes.len() && bytes.len() < MANY
 }
 
 // The number of bytes at the start that are equal to this one.
 fn count_equal(byte: u8, bytes: &[u8]) -> usize {
-    for (count, other) in bytes.iter().enumerate() {
-        if *other != byte {
-            return count;
-        }
-    }
-    bytes.len()
+    bytes
+        .iter()
+        .position(|other| *other != byte)
+        .unwrap_or(bytes.len())
 }
 
 impl Display for Bytes<'_> {

@@ -8,7 +8,7 @@ use std::alloc::{AllocError, Global};
 use std::cmp::Ordering;
 use std::hash::{DefaultHasher, Hash, Hasher};
 
-/// The value of this code and digest. If there is none, the empty one is on the page.
+/// The multihash of this code and digest, or the empty one if there is none.
 pub fn value<const S: usize>(code: u64, digest: &str) -> Multihash<S>
     requires { S < 2 ^ 16 }
 {
