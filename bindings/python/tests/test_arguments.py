@@ -271,8 +271,6 @@ class Values(unittest.TestCase):
                 self.assertEqual((again, type(again)), (value, kind))
             self.assertEqual(eval(repr(value)), value)
         self.assertRaises(TypeError, Sha256.fromhex, VALUE.hex())
-        own = type("Own", (Multihash,), {"_core": 5})  # a name that was the type's
-        self.assertEqual(own.fromhex(VALUE.hex()), VALUE)
         for wrong in ("0", "0x0000", "zz", "é0"):
             self.assertRaisesRegex(ValueError, "hexadecimal", Multihash.fromhex, wrong)
         self.assertRaises(MultihashError, Multihash.fromhex, "00")

@@ -162,8 +162,6 @@ class Main(unittest.TestCase):
         for word in ("-h", "--help"):
             status, page, reason = run(word, input=HEX)
             self.assertEqual((status, "mh_show" in page, reason), (0, True, ""))
-        command = [sys.executable, "-OO", "-m", "verified_multihash", "--help"]
-        self.assertEqual(subprocess.run(command, check=False).returncode, 0)
 
     def test_streams(self):
         """An input without an end, and outputs that are full."""

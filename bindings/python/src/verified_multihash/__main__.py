@@ -48,7 +48,7 @@ def main() -> int:
         return _fail("more than one argument; usage: python -m verified_multihash [HEX]")
     try:
         if sys.argv[1:] in (["-h"], ["--help"]):
-            lines = (__doc__ or "").encode()  # None by -OO
+            lines = str(__doc__).encode()
         else:
             lines = _shown(os.fsencode(sys.argv[1]) if sys.argv[1:] else _input())
     except OSError:
