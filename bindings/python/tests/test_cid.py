@@ -13,7 +13,6 @@ RAW, OLD = CID(1, CODECS["raw"], HELLO), CID(0, 0x70, HELLO)
 # Calls with the status and the text of their errors: cids.tsv has the status of more texts.
 ERRORS = [
     (CID.parse, [""], "insufficient", "the text is empty"),
-    (CID.parse, ["b"], "insufficient", "version: the input is empty"),
     (CID.decode, [b""], "insufficient", "version: the input is empty"),
     (CID.parse, ["mAVUSIA"], "unknown_base", "the text must start with b, f, z or Qm"),
     (CID.parse, ["bafk\u202ereia"], "invalid_digit", "the character at index 4 is no digit of base32"),
@@ -98,11 +97,8 @@ class Cids(unittest.TestCase):
             self.assertRaises(TypeError, call, *wrong)
         with self.assertRaisesRegex(ValueError, "codec"):
             CID(1, -1, HELLO)
-        for call, *wrong in (
-            (OLD.text, "b"),
-            *((RAW.text, base) for base in ("m", "base32", "bf")),
-        ):
-            self.assertRaises(ValueError, call, *wrong)
+        for cid, base in ((OLD, "b"), (RAW, "m"), (RAW, "base32"), (RAW, "bf")):
+            self.assertRaises(ValueError, cid.text, base)
 
     def test_buffers(self):
         for call in (CID.decode, CID.read):

@@ -69,21 +69,18 @@ class Vectors(unittest.TestCase):
             self.assertEqual(file.tell(), len(data) if wanted[1] == "-" else int(wanted[1]))
             self.assertEqual(reader.rest, data[reader.consumed : file.tell()])
 
-    def check(self, row, kind):
-        limit, data, wanted = int(row["S"]), bytes_of(row["input"]), (row["read"], row["read_consumed"])
-        self.assertEqual(decoded(vm.read, kind(data), limit), wanted)
-        if data:
-            self.check_file(data, limit, wanted)
-        if is_for_all(row["read"], limit):
-            self.assertEqual(decoded(lambda: (vm.decode(kind(data)), 0))[0], row["from_bytes"])
-        if is_for_all(row["scale_decode"], limit):
-            self.assertEqual(decoded(vm.scale_decode, kind(data)), (row["scale_decode"], row["scale_consumed"]))
-
     def test_verdicts(self):
         """Each input is in one kind of buffer."""
         for row, kind in zip(rows_of(LIST), itertools.cycle(KINDS)):
+            limit, data, wanted = int(row["S"]), bytes_of(row["input"]), (row["read"], row["read_consumed"])
             with self.subTest(row=row):
-                self.check(row, kind)
+                self.assertEqual(decoded(vm.read, kind(data), limit), wanted)
+                if data:
+                    self.check_file(data, limit, wanted)
+                if is_for_all(row["read"], limit):
+                    self.assertEqual(decoded(lambda: (vm.decode(kind(data)), 0))[0], row["from_bytes"])
+                if is_for_all(row["scale_decode"], limit):
+                    self.assertEqual(decoded(vm.scale_decode, kind(data)), (row["scale_decode"], row["scale_consumed"]))
 
 
 class Values(unittest.TestCase):
