@@ -195,18 +195,27 @@ static Py_ssize_t read_items(const uint8_t *bytes, size_t length, PyObject *item
     return PyByteArray_Resize(items, (Py_ssize_t)(count * sizeof(multihash_item))) < 0 ? -1 : (Py_ssize_t)consumed;
 }
 
+/* The error of bytes that do not start with a multihash, or None if there are no bytes. */
+static PyObject *error_of(const state *own, const uint8_t *bytes, size_t length)
+{
+    char text[MULTIHASH_MESSAGE_SIZE];
+    multihash_decoded found = multihash_read(bytes, length);
+    unsigned long long size = found.size, consumed = found.consumed;
+    if (length == 0) Py_RETURN_NONE;
+    multihash_message(text, sizeof text, bytes, length, MULTIHASH_DIGEST_MAX);
+    return PyObject_CallFunction(own->error, "IKiKs", found.status, size, 0, consumed, text);
+}
+
 static PyObject *read_many(PyObject *module, PyObject *data)
 {
     Py_buffer view;
-    (void)module;
     if (get_buffer(data, "data", PyBUF_SIMPLE, &view) < 0) return NULL;
-    PyObject *items = PyByteArray_FromStringAndSize(NULL, 0), *rest = NULL;
-    Py_ssize_t consumed = items == NULL ? -1 : read_items(view.buf, (size_t)view.len, items);
-    /* Another thread may change the buffer once it is released. An error depends on these bytes of the rest alone. */
-    Py_ssize_t left = view.len - consumed < MULTIHASH_LENGTH_MAX ? view.len - consumed : MULTIHASH_LENGTH_MAX;
-    if (consumed >= 0) rest = PyBytes_FromStringAndSize(left == 0 ? NULL : (const char *)view.buf + consumed, left);
+    const uint8_t *bytes = view.buf;
+    PyObject *items = PyByteArray_FromStringAndSize(NULL, 0), *error = NULL;
+    Py_ssize_t consumed = items == NULL ? -1 : read_items(bytes, (size_t)view.len, items);
+    if (consumed >= 0) error = error_of(PyModule_GetState(module), bytes + consumed, (size_t)(view.len - consumed));
     PyBuffer_Release(&view);
-    if (rest != NULL) return Py_BuildValue("NnN", items, consumed, rest);
+    if (error != NULL) return Py_BuildValue("NnN", items, consumed, error);
     Py_XDECREF(items);
     return NULL;
 }

@@ -61,6 +61,7 @@ CALLS["order"] = lambda: (VALUE == OTHER, VALUE < OTHER, VALUE == 1, VALUE == Na
 CALLS["gaps"] = lambda data: vm.decode(memoryview(data)[::2]), [LONG]
 CALLS["many"] = vm._core.read_many, [bytes(OTHER) * 9]
 CALLS["many short ones"] = vm._core.read_many, [bytes(640)]
+CALLS["many and an error"] = lambda data: str(vm._core.read_many(data)[2]), [bytes(9)]
 CALLS["reader"] = lambda data, limit: vm.read_from(io.BytesIO(data), limit), [bytes(OTHER), 1 << 62]
 CALLS["frames"] = lambda data: frames_of(io.BytesIO(data)), [FRAMES]
 CALLS["frames in parts"] = lambda data: frames_of(Parts(data)), [FRAMES]

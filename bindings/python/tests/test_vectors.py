@@ -8,7 +8,6 @@ from array import array
 from operator import setitem
 from pathlib import Path
 from types import SimpleNamespace
-from unittest.mock import patch
 
 import verified_multihash as vm
 from verified_multihash import Multihash, MultihashError, Status
@@ -139,16 +138,3 @@ class Many(unittest.TestCase):
         data += b"more"  # the columns keep no buffer of it
         self.assertRaises(BufferError, vm.read_many, memoryview(data)[::2])
         self.assertRaises(TypeError, setitem, found.codes, 0, 1)
-
-    def test_changed(self):
-        """Another thread may change the bytes after they were decoded: the error is of what was decoded."""
-        data, read_many = bytearray(b"\0\0\x80\0"), vm._core.read_many
-
-        def changes(given):
-            found = read_many(given)
-            data.clear()
-            return found
-
-        with patch("verified_multihash._core.read_many", changes):
-            found = vm.read_many(data)
-        self.assertEqual((found.consumed, found.error.status, found.error.consumed), (2, Status.NOT_MINIMAL, 2))

@@ -71,13 +71,7 @@ def read_many(data: Buffer) -> Columns:
     `data` must be contiguous. No digest is copied, and no object is made for a multihash: the columns are memoryviews,
     which other packages use without a copy. No MultihashError is raised: `error` of the columns has it.
     """
-    items, consumed, rest = _core.read_many(data)  # of the rest, the bytes that an error depends on
-    error = None
-    if rest:
-        try:
-            read(rest)
-        except MultihashError as found:
-            error = found.with_traceback(None)
+    items, consumed, error = _core.read_many(data)
     view = memoryview(items).toreadonly()
     size = struct.calcsize("N")
     in_code = 8 // size  # an item of the C library is a code in eight bytes, and an offset and a length of this size

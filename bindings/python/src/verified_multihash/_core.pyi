@@ -5,6 +5,8 @@ from typing import ClassVar, Generic, Literal, Self, TypeVar
 
 from _typeshed import ReadableBuffer as Buffer
 
+from ._error import MultihashError
+
 _Item = TypeVar("_Item")
 
 DIGEST_MAX: int
@@ -80,7 +82,7 @@ def scale_decode(data: Buffer) -> tuple[Multihash, int]:
     """Decodes the multihash at the start of `data` from its SCALE encoding. Returns it and the length read."""
 
 def head(data: Buffer, /) -> tuple[int, int, int]: ...
-def read_many(data: Buffer, /) -> tuple[bytearray, int, bytes]: ...
+def read_many(data: Buffer, /) -> tuple[bytearray, int, MultihashError | None]: ...
 def read_varint(data: Buffer) -> tuple[int, int]:
     """Decodes the varint at the start of `data`. Returns the value, below 2**63, and the length of the varint."""
 
