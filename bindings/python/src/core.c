@@ -254,13 +254,13 @@ static PyObject *scale_encode(PyObject *module, PyObject *const *given, Py_ssize
     return encoded(module, multihash_scale_encode, "OO:scale_encode", given, count, named);
 }
 
-static PyObject *encoded_len(PyObject *module, PyObject *const *given, Py_ssize_t count, PyObject *named)
+static PyObject *encoded_length(PyObject *module, PyObject *const *given, Py_ssize_t count, PyObject *named)
 {
     static char *names[] = {"code", "digest_length", NULL};
     PyObject *code, *length;
     uint64_t number;
     size_t size;
-    if (get_arguments(given, count, named, "OO:encoded_len", names, &code, &length) < 0) return NULL;
+    if (get_arguments(given, count, named, "OO:encoded_length", names, &code, &length) < 0) return NULL;
     if (get_number(code, "code", &number) < 0 || get_size(length, "digest_length", &size) < 0) return NULL;
     multihash_encoded made = multihash_encoded_length(number, size);
     if (made.status == MULTIHASH_OK) return PyLong_FromSize_t(made.length);
@@ -316,8 +316,8 @@ static PyMethodDef functions[] = {
     {"encode", WITH_NAMES(encode), "encode(code, digest)\n--\n\nReturns the encoding of a code and a digest."},
     {"scale_encode", WITH_NAMES(scale_encode),
      "scale_encode(code, digest)\n--\n\nReturns the SCALE encoding of a code and a digest."},
-    {"encoded_len", WITH_NAMES(encoded_len),
-     "encoded_len(code, digest_length)\n--\n\n"
+    {"encoded_length", WITH_NAMES(encoded_length),
+     "encoded_length(code, digest_length)\n--\n\n"
      "Returns the length of the encoding of a code and a digest of that length."},
     {"compare", WITH_NAMES(compare),
      "compare(left, right)\n--\n\nReturns -1, 0 or 1: the order of two multihashes."},

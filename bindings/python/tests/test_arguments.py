@@ -33,7 +33,7 @@ LARGE = (1 << 63, 1 << 64, (1 << 64) + 18, 10**4000)
 NAMED_CALLS = {
     vm.decode: [b"\1\3abc"], vm.read: [b"\1\3abc", CODE], vm.head: [b"\1\3"], vm.scale_decode: [bytes(9)],
     vm.read_varint: [b"\xff\1"], vm.encode_varint: [CODE],
-    vm.encode: [CODE, b"abc"], vm.scale_encode: [CODE, b"abc"], vm.encoded_len: [CODE, 2],
+    vm.encode: [CODE, b"abc"], vm.scale_encode: [CODE, b"abc"], vm.encoded_length: [CODE, 2],
     vm.compare: [Multihash(CODE, b""), VALUE], vm.read_from: [io.BytesIO(bytes(8)), 2], Multihash: [CODE, b"abc"],
     MultihashError: [4, 3, 0, 7, "text"],
 }  # fmt: skip
@@ -49,7 +49,7 @@ TEXTS = [
     (vm.read_varint, [b"\xff" * 9], "the varint has more than nine bytes"),
     (vm.encode_varint, [1 << 63], "the value is 2^63 or more"),
     (vm.encode, [1 << 63, b""], "the code is 2^63 or more"),
-    (vm.encoded_len, [18, 1 << 70], "the digest has 1180591620717411303424 bytes, and the limit is 255"),
+    (vm.encoded_length, [18, 1 << 70], "the digest has 1180591620717411303424 bytes, and the limit is 255"),
     (vm.head, [b"\x92\0\1"], "the varint of the code is not minimal: it ends in a zero byte"),
     (vm.decode, ["1220"], "data must be bytes (Multihash.fromhex takes text), not str"),
     (vm.read, [None], "data must be a bytes-like object, not NoneType"),
@@ -119,8 +119,8 @@ def buffers():
 # What takes a number, the name of that, and the status for one that is too large, if any.
 NUMBERS = [
     *((lambda number, call=call: call(number, b""), "code", Status.INVALID_CODE) for call in ENCODERS),
-    (lambda number: vm.encoded_len(number, 0), "code", Status.INVALID_CODE),
-    (lambda number: vm.encoded_len(18, number), "digest_length", Status.INVALID_SIZE),
+    (lambda number: vm.encoded_length(number, 0), "code", Status.INVALID_CODE),
+    (lambda number: vm.encoded_length(18, number), "digest_length", Status.INVALID_SIZE),
     (vm.encode_varint, "value", Status.OVERFLOW),
 ]
 # What reads with a limit.

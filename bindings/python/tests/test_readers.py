@@ -1,5 +1,5 @@
-"""The readers, over bytes that come in parts, late, cut, too many or with an error: those of multihashes and of frames, over
-files and over streams. test_vectors.py reads each vector."""
+"""The readers of multihashes and of frames, over files and streams whose bytes come in parts, late, truncated, too many or
+with an error. test_vectors.py reads each vector."""
 
 import asyncio
 import functools

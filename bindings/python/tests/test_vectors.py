@@ -99,7 +99,7 @@ class Values(unittest.TestCase):
                 self.assertEqual(encoded(vm.scale_encode, code, digest), row["scale"])
                 self.assertEqual(encoded(lambda: bytes(Multihash(code, digest))), encoding)
                 if " " not in encoding:
-                    self.assertEqual(vm.encoded_len(code, len(digest)), len(encoding) // 2)
+                    self.assertEqual(vm.encoded_length(code, len(digest)), len(encoding) // 2)
                 if encoding.endswith("00") and not digest:
                     varint = vm.encode_varint(code)
                     self.assertEqual(varint.hex() + "00", encoding)

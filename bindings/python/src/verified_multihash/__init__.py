@@ -19,7 +19,7 @@ from . import _core, hashes
 
 from ._core import (
     DIGEST_MAX, HEAD_MAX, LENGTH_MAX, SCALE_LENGTH_MAX, VARINT_LENGTH_MAX, Multihash, compare, decode, encode,
-    encode_varint, encoded_len, read, read_varint, scale_decode, scale_encode,
+    encode_varint, encoded_length, read, read_varint, scale_decode, scale_encode,
 )  # fmt: skip
 from ._error import MultihashError
 from ._readers import AsyncFrameReader, AsyncMultihashReader, FrameReader, MultihashReader, read_from
@@ -29,15 +29,15 @@ from ._types import Buffer
 __all__ = [
     "AsyncFrameReader", "AsyncMultihashReader", "Columns", "DIGEST_MAX", "FrameReader", "HEAD_MAX", "Head",
     "LENGTH_MAX", "Multihash", "MultihashError", "MultihashReader", "SCALE_LENGTH_MAX", "Status", "VARINT_LENGTH_MAX",
-    "__version__", "compare", "decode", "encode", "encode_varint", "encoded_len", "hashes", "head", "read", "read_from",
-    "read_many", "read_varint", "scale_decode", "scale_encode",
+    "__version__", "compare", "decode", "encode", "encode_varint", "encoded_length", "hashes", "head", "read",
+    "read_from", "read_many", "read_varint", "scale_decode", "scale_encode",
 ]  # fmt: skip
 
 __version__ = "1.0.0"
 
 
 class Head(NamedTuple):
-    """The two varints at the start of an encoding: the code and the digest's length. `consumed` is the length of both."""
+    """The two varints at the start of an encoding: the code and the digest's length. They have `consumed` bytes."""
 
     code: int
     digest_length: int
@@ -49,8 +49,8 @@ class Columns(NamedTuple):
 
     `codes` has the codes. The digest is `data[offsets[i] : offsets[i] + lengths[i]]`, if `data` is of bytes.
     `consumed` is the number of bytes consumed: those of all multihashes in the columns.
-    `error` is why the bytes from `consumed` on are no multihash, with a `consumed` of its own from there on, or None if there
-    are none.
+    `error` is why the bytes from `consumed` on are no multihash, or None if there are none. Its own `consumed` counts
+    from there.
     """
 
     codes: memoryview

@@ -95,7 +95,7 @@ def encode(code: int, digest: Buffer) -> bytes:
 def scale_encode(code: int, digest: Buffer) -> bytes:
     """Returns the SCALE encoding of a code and a digest."""
 
-def encoded_len(code: int, digest_length: int) -> int:
+def encoded_length(code: int, digest_length: int) -> int:
     """Returns the length of the encoding of a code and a digest of that length."""
 
 def compare(left: Multihash, right: Multihash) -> int:
