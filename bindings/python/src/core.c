@@ -96,21 +96,12 @@ PyObject *decoded_whole(const state *own, PyObject *data)
     return multihash;
 }
 
-/* The first bytes of `data`, the only argument of a function. */
-static int get_data(PyObject *const *given, Py_ssize_t count, PyObject *named, const char *format, Py_ssize_t most,
-                    input *from)
-{
-    static char *names[] = {"data", NULL};
-    PyObject *data;
-    if (get_arguments(given, count, named, format, names, &data, NULL) < 0) return -1;
-    return get_input(data, "data", most, from);
-}
+static char *data_alone[] = {"data", NULL};
 
 static PyObject *decode(PyObject *module, PyObject *const *given, Py_ssize_t count, PyObject *named)
 {
-    static char *names[] = {"data", NULL};
     PyObject *data;
-    if (get_arguments(given, count, named, "O:decode", names, &data, NULL) < 0) return NULL;
+    if (get_arguments(given, count, named, "O:decode", data_alone, &data, NULL) < 0) return NULL;
     return decoded_whole(PyModule_GetState(module), data);
 }
 
@@ -133,8 +124,9 @@ static PyObject *scale_decode(PyObject *module, PyObject *const *given, Py_ssize
 {
     const state *own = PyModule_GetState(module);
     input from;
-    PyObject *multihash;
-    if (get_data(given, count, named, "O:scale_decode", MULTIHASH_SCALE_LENGTH_MAX, &from) < 0) return NULL;
+    PyObject *data, *multihash;
+    if (get_arguments(given, count, named, "O:scale_decode", data_alone, &data, NULL) < 0) return NULL;
+    if (get_input(data, "data", MULTIHASH_SCALE_LENGTH_MAX, &from) < 0) return NULL;
     multihash_decoded found = multihash_scale_decode(from.bytes, from.length);
     if (found.status == MULTIHASH_OK) {
         multihash = decoded(own, &from, found, MULTIHASH_DIGEST_MAX);
@@ -168,7 +160,9 @@ static PyObject *read_varint(PyObject *module, PyObject *const *given, Py_ssize_
 {
     input from;
     char text[MULTIHASH_MESSAGE_SIZE];
-    if (get_data(given, count, named, "O:read_varint", MULTIHASH_VARINT_LENGTH_MAX, &from) < 0) return NULL;
+    PyObject *data;
+    if (get_arguments(given, count, named, "O:read_varint", data_alone, &data, NULL) < 0) return NULL;
+    if (get_input(data, "data", MULTIHASH_VARINT_LENGTH_MAX, &from) < 0) return NULL;
     multihash_varint found = multihash_read_varint(from.bytes, from.length);
     Py_DECREF(from.owner);
     if (found.status == MULTIHASH_OK) {

@@ -39,8 +39,6 @@ NAMED_CALLS = {
 }  # fmt: skip
 
 
-FILE = "file must be a binary file, such as open(path, 'rb'), not str"
-NAME = "name must be in hashes.CODES, such as 'sha2-256', not "
 # Calls with the texts of their errors. messages.tsv has the texts of inputs.
 TEXTS = [
     (vm.read_varint, [b""], "the input is empty"),
@@ -52,27 +50,20 @@ TEXTS = [
     (vm.encoded_length, [18, 1 << 70], "the digest has 1180591620717411303424 bytes, and the limit is 255"),
     (vm.head, [b"\x92\0\1"], "the varint of the code is not minimal: it ends in a zero byte"),
     (vm.decode, ["1220"], "data must be bytes (Multihash.fromhex takes text), not str"),
-    (vm.read, [None], "data must be a bytes-like object, not NoneType"),
     (Multihash.fromhex, [b"1220"], "text must be a str (decode takes bytes), not bytes"),
     (Multihash, [18, "abc"], "digest must be bytes (bytes.fromhex takes hexadecimal), not str"),
     (Multihash, ["sha1", b""], "code must be an int (hashes.CODES has the codes of names), not str"),
-    (vm.FrameReader, [io.BytesIO(), None], "limit must be an int, not NoneType"),
     (vm.compare, [b"\1\0", VALUE], "left must be a Multihash, not bytes"),
-    (vm.MultihashReader, ["path"], FILE),
+    (vm.MultihashReader, ["path"], "file must be a binary file, such as open(path, 'rb'), not str"),
     (vm.AsyncFrameReader, [3], "stream must have a read that is awaited, as an asyncio.StreamReader has, not int"),
     (vm.read_from, [io.StringIO("1220")], "the result of read must be bytes (open the file in binary mode), not str"),
     (vm.read_from, [Mock(read=int)], "the result of read must be a bytes-like object, not int"),
-    (hashes.digest, [b"", "sha256"], NAME + "'sha256'"),
-    (hashes.digest, [b"", "x" * 999], NAME + repr("x" * 999)[:60]),
+    (hashes.digest, [b"", "x" * 99], "name must be in hashes.CODES, such as 'sha2-256', not '" + "x" * 59),
     (hashes.digest, ["sha1", b""], "name must be a str such as 'sha2-256', or a code, not bytes"),
-    (hashes.digest, [b"", "blake3"], "hashlib does not have blake3 here, whose code is 0x1e"),
-    (hashes.digest, ["abc", "sha1"], "data must be a bytes-like object, not str"),
     (hashes.digest, [bytes(256), "identity"], "identity takes at most 255 bytes of content, got 256"),
     (hashes.digest, [b"", "sha1", [1]], "functions must map names or codes to functions, not list"),
-    (hashes.verify, [Multihash(1, b""), b""], "no hash function is known for the code 0x1"),
     (hashes.verify, ["1220", b""], "multihash must be a Multihash or its encoding, not str"),
     (hashes.verify, [b"abc", VALUE], "data must be a bytes-like object, not Multihash"),
-    (hashes.digest_file, ["path", "sha1"], FILE),
     (hashes.digest_file, [io.StringIO("abc"), "sha1"], "the result of read must be a bytes-like object, not str"),
 ]
 
