@@ -1,7 +1,6 @@
 -- What the library's definitions say of results and errors, in the words of `Results`.
-use Rattle.std.proofs.Common.{arith}
-use Rattle.std.proofs.Common.{◌≡◌, ◌≢◌, ◌↔◌, ◌⊎◌, IsOkAnd, ◌<◌, ℕ, Bool, Some, Result, inl, inr, ap, ◌∙◌, IsTrue}
-use Rattle.multihash.specs.Fault.{OutOfMemory, IsOutOfMemoryFault}
+use Rattle.std.proofs.Common.{◌≡◌, ◌≢◌, ◌↔◌, IsOkAnd, ℕ, Bool, Some, Result, arith}
+use Rattle.multihash.specs.Fault.{OutOfMemory}
 use Rattle.multihash.specs.Multihash.{Fields, pair_of}
 use Rattle.multihash.specs.Outcome.{IsResultOf}
 use Rattle.multihash.specs.Pair.{Pair}
@@ -17,22 +16,16 @@ verdict_stated r v is = grind arith
 
 -- an allocation failed
 pub memory_error : (e : Refusal) → IsOutOfMemory e → e ≡ of_io OutOfMemory
-memory_error e (error, is, memory) = is ∙ ap of_io memory
+memory_error e is = grind arith
 
 -- an error of the reader itself
 pub own_error : (e : Refusal) → IsReaderError e → IsOwnError e
-own_error e (error, is, inl (text, other)) = inr (text, is ∙ ap of_io other)
-own_error e (error, is, inr memory) = inl (is ∙ ap of_io memory)
+own_error e is = grind arith
 
 -- an error of writing
 pub write_error : (allocates : Bool) (before after : ℕ) (is_full : Type 0) {e : Refusal}
     → IsIo (IsWriterFaultOrFull allocates before after is_full) e → IsWriterError allocates before after is_full e
-write_error allocates before after is_full (error, is, inr (zero, same, full)) = inr (inl (same, full, is ∙ ap of_io zero))
-write_error allocates before after is_full {e = e} (error, is, inl fault) = caused fault.cause where
-  caused : (before < after) ⊎ (IsTrue allocates × IsOutOfMemoryFault error × (after ≡ before))
-      → IsWriterError allocates before after is_full e
-  caused (inl rose) = inl (rose, own_error e (error, is, fault.kind))
-  caused (inr (allocating, memory, same)) = inr (inr (same, allocating, is ∙ ap of_io memory))
+write_error allocates before after is_full {e} is = grind (arith, own_error)
 
 -- a verdict that is neither of the two of a truncated input is not incomplete
 pub is_complete : (v : Verdict) → v ≢ malformed insufficient → v ≢ unexpected_eof → ¬ (IsIncomplete v)

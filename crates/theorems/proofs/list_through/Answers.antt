@@ -1,7 +1,6 @@
 -- What was written is a concatenation of encodings, and reading a concatenation of encodings returns their pairs, unless an
 -- allocation or the reader itself fails (`unless_failed`).
-use Rattle.std.proofs.Common.{arith}
-use Rattle.std.proofs.Common.{map, ◌≡◌, ◌⊎◌, ◌<◌, ℕ, Result, Ok, Err, MatchResult, IsErrAnd, sym, subst}
+use Rattle.std.proofs.Common.{map, ◌≡◌, ◌⊎◌, ◌<◌, ℕ, Result, MatchResult, arith}
 use Rattle.std.proofs.lemmas.List.{length-map}
 use Rattle.multihash.specs.Multihash.{pair_of}
 use Rattle.multihash.specs.Fault.{OutOfMemory}
@@ -18,11 +17,6 @@ unless_failed : {A : Type 0} (P : A → Type 0) (Writer IsListed : Refusal → T
     → CountsReaderFailures IsReaderError IsListed before after r → (after ≡ before → MatchResult r P IsOutOfMemory)
     → MatchResult r P (λ e. (e ≡ of_io OutOfMemory) ⊎ Writer e ⊎ ((before < after) × IsOwnError e))
 unless_failed P Writer IsListed r counts met = grind (arith, own_error, memory_error)
-
--- what holds of the writer's error holds of the result
-error_passed : {A : Type 0} (r : Result A Refusal) (e : Refusal) (P : Refusal → Type 0) → IsErrAnd r (λ x. x ≡ e) → P e → IsErrAnd r P
-error_passed (Ok x) e P given holds = given
-error_passed (Err x) e P given holds = subst P (sym given) holds
 
 pub returns-in_err-write_list-clause-written : goal.returns-in_err-write_list-clause-written
 returns-in_err-write_list-clause-written g c = grind (arith)

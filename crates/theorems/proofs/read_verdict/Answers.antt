@@ -1,8 +1,6 @@
 -- `read` decides at the first byte that can: each clause is one of its contract with what is proved of all inputs, that
 -- they have one verdict and at most one shortest prefix that settles it (`one_verdict`, `settles`).
-use Rattle.std.proofs.Common.{arith}
-use Rattle.std.proofs.Common.{◌≡◌, ◌≢◌, ◌↔◌, ◌⊎◌, ◌<◌, ◌++◌, ℕ, List, Option, Some, None, Result, Ok, Err, IfSome, IsErrAnd, IsOkAnd}
-use Rattle.std.proofs.Common.{inl, inr, ap, ◌∙◌, subst, [], IfErr}
+use Rattle.std.proofs.Common.{◌≡◌, ◌≢◌, ◌↔◌, ◌⊎◌, ◌<◌, ◌++◌, ℕ, List, Option, Some, None, Result, IfSome, IsErrAnd, IsOkAnd, inl, inr, ap, ◌∙◌, subst, [], IfErr, arith}
 use Rattle.std.specs.Io.KnownBytes.{IsAtEnd}
 use Rattle.std.proofs.lemmas.Option.{IfSome_then}
 use Rattle.multihash.specs.Bytes.{ExactlyOne, IsPrefix}
@@ -63,6 +61,12 @@ truncated_incomplete : (S : ℕ) (rest : List ℕ) → HasVerdict S rest (malfor
 truncated_incomplete S rest (inl short) = (malformed insufficient, short, tt)
 truncated_incomplete S rest (inr eof) = (unexpected_eof, eof, tt)
 
+failed_or_incomplete : (S before after : ℕ) (rest : List ℕ)
+    → (before < after) ⊎ HasVerdict S rest (malformed insufficient) ⊎ HasVerdict S rest unexpected_eof
+    → (before < after) ⊎ ((v : Verdict) × HasVerdict S rest v × IsIncomplete v)
+failed_or_incomplete S before after rest (inl failed) = inl failed
+failed_or_incomplete S before after rest (inr truncated) = inr (truncated_incomplete S rest truncated)
+
 -- nothing that was consumed settles
 none_settles : (S before after : ℕ) (old new : Option (List ℕ))
     → IfSome old (λ rest. (before < after) ⊎ ((v : Verdict) × HasVerdict S rest v × IsIncomplete v) →
@@ -71,19 +75,14 @@ none_settles : (S before after : ℕ) (old new : Option (List ℕ))
     (consumed left : List ℕ) × (new ≡ Some left) × (rest ≡ consumed ++ left)
     × ((front : List ℕ) → IsPrefix front consumed → ¬ (Settles S front)))
 none_settles S before after old new unsettled = IfSome_then old unsettled
-    (λ rest took truncated. let taken = took (early rest truncated) in
+    (λ rest took either. let taken = took (failed_or_incomplete S before after rest either) in
     let (left, is, cut) = Consumes-known rest taken.consumed new taken.consumes in
-    (taken.consumed, left, is, cut, taken.unsettled)) where
-      early : (rest : List ℕ) → (before < after) ⊎ HasVerdict S rest (malformed insufficient) ⊎ HasVerdict S rest unexpected_eof
-          → (before < after) ⊎ ((v : Verdict) × HasVerdict S rest v × IsIncomplete v)
-      early rest (inl failed) = inl failed
-      early rest (inr truncated) = inr (truncated_incomplete S rest truncated)
+    (taken.consumed, left, is, cut, taken.unsettled))
 
 -- a result that a verdict has is an error if the verdict is incomplete
 incomplete_error : {S : ℕ} (P : Refusal → Type 0) (r : Result (Fields S) Refusal) (v : Verdict) → IsResultOf r v → IsIncomplete v → IfErr r P
     → (e : Refusal) × IsErrorOf e v × P e
-incomplete_error P (Ok m) v is incomplete at = absurd (subst IsIncomplete is incomplete)
-incomplete_error P (Err e) v is incomplete at = (e, is, at)
+incomplete_error P r v is incomplete at = grind arith
 
 -- what was consumed of a truncated input
 truncated_consumed : (S before after : ℕ) (old new : Option (List ℕ)) (r : Result (Fields S) Refusal)
@@ -104,9 +103,7 @@ truncated_consumed S before after (Some rest) new r unique verdict err = λ same
   where
     ended : after ≡ before → (w : Verdict) → HasVerdict S rest w → IsIncomplete w
         → (e : Refusal) × IsErrorOf e w × ConsumesAtError S e (Some rest) new
-    ended same w has incomplete =
-        let (v, is, of_v) = verdict same in
-        incomplete_error (λ e. ConsumesAtError S e (Some rest) new) r w (subst (IsResultOf r) (unique S rest v w is has) of_v) incomplete err
+    ended same w has incomplete = grind (arith, incomplete_error)
 
 -- no prefix of a truncated input settles
 truncated_unsettled : (S : ℕ) (old : Option (List ℕ))
