@@ -1,9 +1,8 @@
 -- A text is shown by one list of lines, names no bytes or is rejected with the error of one verdict, and no two
 -- of these; and what runs did where the bytes of the input and the outputs are known. With a weaker part of a
 -- definition two may hold, or less is known.
-use Rattle.std.proofs.Common.{arith}
+use Rattle.std.proofs.Common.{◌≡◌, ◌≤◌, ℕ, List, [], ◌++◌, codes, sym, ap, ◌∙◌, subst, inl, inr, append-nil, arith}
 use Rattle.std.proofs.lemmas.Grind.{common_steps}
-use Rattle.std.proofs.Common.{◌≡◌, ◌≤◌, ℕ, List, [], ◌++◌, codes, sym, ap, ◌∙◌, subst, inl, inr, append-nil}
 use Rattle.std.specs.Prelude.{⊤, ◌⊎◌, Option, Some, length}
 use Rattle.multihash.specs.Bytes.{IsPrefix, IsStrictPrefix}
 use Rattle.multihash.specs.Verdict.{Verdict, accepted, HasWholeVerdict}
@@ -82,10 +81,8 @@ keeps_output e kept input left out new h = grind arith
 
 -- a prefix of the error's line, or of that of out of memory
 tried : (new line : List ℕ) → TriesToAppend (Some []) (Some new) line → IsPrefix new line
-tried new line (inl all) = ([], sym (subst (λ (z : List ℕ). z ++ [] ≡ line) (sym all) (append-nil line)))
-tried new line (inr part) = (part.strict.0, subst (λ (z : List ℕ). line ≡ z ++ part.strict.0) (sym part.appends) part.strict.2)
+tried new line tries = grind (arith, append-nil)
 
 reports : (new : List ℕ) (e : RunError) → ReportsError (Some []) (Some new) e
     → IsPrefix new (error_line (run_error_text e)) ⊎ IsPrefix new (error_line (codes "out of memory"))
-reports new e (inl line) = inl (tried new (error_line (run_error_text e)) line)
-reports new e (inr memory) = inr (tried new (error_line (codes "out of memory")) memory)
+reports new e report = grind (arith, tried)

@@ -88,7 +88,7 @@ pub fn run<I: Read, O: Write, E: Write>(
     match show_input(alloc, input, out) {
         Ok(()) => 0,
         Err(e) => {
-            tell(alloc, err, &e);
+            report(alloc, err, &e);
             1
         }
     }
@@ -176,7 +176,7 @@ fn write_whole<W: Write>(out: &mut W, bytes: &[u8]) -> Result<(), RunError>
 }
 
 // Writes the line with the reason, if it can.
-fn tell<E: Write>(alloc: Global, err: &mut E, e: &RunError)
+fn report<E: Write>(alloc: Global, err: &mut E, e: &RunError)
     ensures { ReportsError (E.contents err.old) (E.contents err.new) e.now }
 {
     let _ = match format!(in alloc; "mh_show: {e}\n") {

@@ -1,4 +1,6 @@
 //! The program over memory: a reader and a writer that count their calls, move few bytes per call, and then end or fail.
+ghost use Rattle.std.specs.Prelude.{◌≡◌, IfOk};
+
 use super::run;
 use crate::show::{ShowError, show};
 use std::alloc::Global;
@@ -14,7 +16,9 @@ const NOT_READ: &[u8] = b"mh_show: input not read\n";
 const NOT_WRITTEN: &[u8] = b"mh_show: output not written\n";
 
 // What a call returns that moves no byte.
-fn end(error: Option<ErrorKind>) -> io::Result<usize> {
+fn end(error: Option<ErrorKind>) -> io::Result<usize>
+    ensures { IfOk result (λ n. n ≡ 0) }
+{
     match error {
         Some(kind) => Err(kind.into()),
         None => Ok(0),
@@ -55,12 +59,12 @@ struct SlowWriter {
 }
 
 impl SlowWriter {
-    fn new(alloc: Global) -> Self {
+    fn new(alloc: Global, capacity: usize, error: Option<ErrorKind>) -> Self {
         SlowWriter {
             written: Vec::new(alloc),
-            capacity: 256,
+            capacity,
             most: 256,
-            error: None,
+            error,
             calls: 0,
         }
     }
@@ -91,33 +95,38 @@ struct Streams<'a> {
 }
 
 impl<'a> Streams<'a> {
-    // The input ends after these bytes, and the outputs accept all bytes.
-    fn new(alloc: Global, left: &'a [u8], most: usize) -> Self {
+    // The outputs accept all bytes.
+    fn new(alloc: Global, left: &'a [u8], most: usize, error: Option<ErrorKind>) -> Self {
         let input = SlowReader {
             left,
             most,
-            error: None,
+            error,
             calls: 0,
         };
         Streams {
             input,
-            out: SlowWriter::new(alloc),
-            err: SlowWriter::new(alloc),
+            out: SlowWriter::new(alloc, 256, None),
+            err: SlowWriter::new(alloc, 256, None),
         }
     }
 
     // A run ends with this status and these outputs, after that many calls of each stream.
     fn expect(
-        mut self,
+        self,
         rt: &(impl Abort + AllocGlobal),
         wanted: (u8, &[u8], &[u8]),
         calls: (usize, usize, usize),
     ) {
-        let status = run(rt.alloc(), &mut self.input, &mut self.out, &mut self.err);
-        assert_eq!(rt; self.out.written.as_slice(), wanted.1);
-        assert_eq!(rt; self.err.written.as_slice(), wanted.2);
+        let Streams {
+            mut input,
+            mut out,
+            mut err,
+        } = self;
+        let status = run(rt.alloc(), &mut input, &mut out, &mut err);
+        assert_eq!(rt; out.written.as_slice(), wanted.1);
+        assert_eq!(rt; err.written.as_slice(), wanted.2);
         assert_eq!(rt; status, wanted.0);
-        assert_eq!(rt; (self.input.calls, self.out.calls, self.err.calls), calls);
+        assert_eq!(rt; (input.calls, out.calls, err.calls), calls);
     }
 }
 
@@ -130,8 +139,7 @@ const NOT_CONNECTED: Option<ErrorKind> = Some(ErrorKind::NotConnected);
 fn a_read_that_fails_is_the_last(rt: HostRuntime) {
     for error in [INTERRUPTED, NOT_CONNECTED] {
         for (text, calls) in [(b"".as_slice(), 1), (b"1603", 2), (EXAMPLE, 3)] {
-            let mut streams = Streams::new(rt.alloc(), text, 5);
-            streams.input.error = error;
+            let streams = Streams::new(rt.alloc(), text, 5, error);
             streams.expect(&rt, (1, b"", NOT_READ), (calls, 0, 1));
         }
     }
@@ -140,16 +148,16 @@ fn a_read_that_fails_is_the_last(rt: HostRuntime) {
 // More bytes than an input may have: the reader is never asked for all of them.
 #[test]
 fn a_reader_that_never_ends(rt: HostRuntime) {
-    let streams = Streams::new(rt.alloc(), &[b'0'; 70000], 1);
+    let streams = Streams::new(rt.alloc(), &[b'0'; 70000], 1, None);
     streams.expect(&rt, (1, b"", NOT_READ), (65537, 0, 1));
 }
 
 #[test]
 fn one_byte_a_call_is_the_same(rt: HostRuntime) {
-    let mut streams = Streams::new(rt.alloc(), EXAMPLE, 1);
+    let mut streams = Streams::new(rt.alloc(), EXAMPLE, 1, None);
     streams.out.most = 1;
     streams.expect(&rt, (0, EXAMPLE_LINES, b""), (11, 29, 0));
-    let mut streams = Streams::new(rt.alloc(), b"zz", 1);
+    let mut streams = Streams::new(rt.alloc(), b"zz", 1, None);
     streams.err.most = 1;
     streams.expect(&rt, (1, b"", b"mh_show: not hexadecimal\n"), (3, 0, 25));
 }
@@ -161,7 +169,7 @@ fn the_lines_of_a_long_digest_are_one_write(rt: HostRuntime) {
     let mut lines = [b'0'; 151];
     lines[..22].copy_from_slice(b"code 0\nsize 64\ndigest ");
     lines[150] = b'\n';
-    let streams = Streams::new(rt.alloc(), &digits, 200);
+    let streams = Streams::new(rt.alloc(), &digits, 200, None);
     streams.expect(&rt, (0, &lines, b""), (2, 1, 0));
 }
 
@@ -180,7 +188,7 @@ fn a_rejected_input_has_status_1(rt: HostRuntime) {
         ("0001", "mh_show: failed to fill whole buffer\n"),
     ];
     for (text, reason) in rows {
-        let streams = Streams::new(rt.alloc(), text.as_bytes(), 256);
+        let streams = Streams::new(rt.alloc(), text.as_bytes(), 256, None);
         streams.expect(&rt, (1, b"", reason.as_bytes()), (2, 0, 1));
     }
 }
@@ -190,12 +198,12 @@ fn a_rejected_input_has_status_1(rt: HostRuntime) {
 fn a_write_that_fails_is_the_last(rt: HostRuntime) {
     for error in [None, INTERRUPTED, NOT_CONNECTED] {
         for (shown, calls) in [(b"".as_slice(), 1), (b"code 22\nsi", 2)] {
-            let mut streams = Streams::new(rt.alloc(), EXAMPLE, 9);
-            (streams.out.capacity, streams.out.error) = (shown.len(), error);
+            let mut streams = Streams::new(rt.alloc(), EXAMPLE, 9, None);
+            streams.out = SlowWriter::new(rt.alloc(), shown.len(), error);
             streams.expect(&rt, (1, shown, NOT_WRITTEN), (3, calls, 1));
         }
-        let mut streams = Streams::new(rt.alloc(), b"zz", 9);
-        (streams.err.capacity, streams.err.error) = (4, error);
+        let mut streams = Streams::new(rt.alloc(), b"zz", 9, None);
+        streams.err = SlowWriter::new(rt.alloc(), 4, error);
         streams.expect(&rt, (1, b"", b"mh_s"), (2, 0, 2));
     }
 }

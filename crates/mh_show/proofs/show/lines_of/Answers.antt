@@ -1,7 +1,6 @@
 -- The digits are those of the digest, and a dash stands for none (`digest_text`), so the format writes the three lines
 -- (`three_lines`).
-use Rattle.std.proofs.Common.{◌≡◌, ◌<◌, ℕ, List, [], ◌∷◌, ◌++◌, length, codes, Result, Ok, Err, IfOk, String, Global, string_bytes, ap}
-use Rattle.std.proofs.Common.{◌∙◌, append_assoc, arith, rules}
+use Rattle.std.proofs.Common.{◌≡◌, ◌<◌, ℕ, List, [], ◌∷◌, ◌++◌, length, codes, Result, IfOk, String, Global, string_bytes, ap, ◌∙◌, append_assoc, rules, arith}
 use Rattle.std.specs.Fmt.{decimal}
 use Rattle.hex.specs.Hex.{encode_lower, encode_with}
 use Rattle.multihash.specs.Pair.{Pair}
@@ -13,8 +12,7 @@ use Rattle.mh_show.proofs.show.lines_of.Goals.{then-is_empty, else-is_empty}
 -- equal texts
 same_text : {E : Type 0} (r : Result (String Global) E) (a b : List ℕ) → IfOk r (λ s. string_bytes s ≡ a) → a ≡ b
     → IfOk r (λ s. string_bytes s ≡ b)
-same_text (Ok s) a b h e = h ∙ e
-same_text (Err x) a b h e = tt
+same_text r a b h e = grind arith
 
 -- the digits of a digest, or a dash
 digest_text : (digest digits text : List ℕ) → digits ≡ encode_lower digest → (length digits ≡ 0 → text ≡ codes "-")

@@ -1,6 +1,5 @@
 -- A text has one line (`line_unique`), so what the calls say of the line that was found holds of each line of the text.
-use Rattle.std.proofs.Common.{arith}
-use Rattle.std.proofs.Common.{◌≡◌, ℕ, ◌%◌, ◌⊎◌, List, length, Result, Ok, Err, sym, ap, ◌∙◌, subst, inl, inr}
+use Rattle.std.proofs.Common.{◌≡◌, ℕ, ◌%◌, ◌⊎◌, List, length, Result, Err, sym, ap, ◌∙◌, subst, inl, inr, arith}
 use Rattle.std.specs.Result.{IsErrAnd}
 use Rattle.hex.specs.declared.error.FromHexError.{FromHexError}
 use Rattle.hex.specs.declared.error.FromHexError.TheVariants.{OutOfMemory}
@@ -24,8 +23,7 @@ not_rejected line bytes e (inr rejected) named gives = cc (sym rejected ∙ name
 
 -- the error that is returned is the one that was made
 same_error : {T : Type 0} (r : Result T ShowError) (e made : ShowError) → r ≡ Err e → IsErrAnd r (λ x. x ≡ made) → e ≡ made
-same_error (Ok t) e made same given = absurd given
-same_error (Err x) e made same given = cc (same, given)
+same_error r e made same given = grind arith
 
 pub returns-in_err-bytes-clause-not_hex : goal.returns-in_err-bytes-clause-not_hex
 returns-in_err-bytes-clause-not_hex c line bytes same is_line named =
