@@ -25,21 +25,21 @@ fn error_of(text: &'static str) -> Error
 
 /// A reader of a slice, which returns at most `most` bytes per call. Its input is known.
 #[derive(Drop)]
-pub struct SlowReader<'a> {
+pub struct Cuts<'a> {
     pub left: &'a [u8],
     most: usize,
     ghost gives_some: { 0 < most },
 }
 
-impl<'a> SlowReader<'a> {
+impl<'a> Cuts<'a> {
     pub fn new(left: &'a [u8], most: usize) -> Self
         requires { 0 < most }
     {
-        SlowReader { left, most }
+        Cuts { left, most }
     }
 }
 
-impl Read for SlowReader<'_> {
+impl Read for Cuts<'_> {
     ghost rest = { λ r. Some r.left.now };
 
     ghost failures = { λ _. 0 };
@@ -53,10 +53,10 @@ impl Read for SlowReader<'_> {
     }
 }
 
-/// A slow reader whose call after the first `successes` calls fails, and no other, with an error of this text.
+/// As [`Cuts`], but the call after the first `successes` calls fails, and no other, with an error of this text.
 #[derive(Drop)]
-pub struct FailingReader<'a> {
-    pub inner: SlowReader<'a>,
+pub struct FailAt<'a> {
+    pub inner: Cuts<'a>,
     /// The number of calls.
     pub calls: usize,
     successes: usize,
@@ -64,9 +64,9 @@ pub struct FailingReader<'a> {
     failed: bool,
 }
 
-impl<'a> FailingReader<'a> {
-    pub fn new(inner: SlowReader<'a>, successes: usize, text: &'static str) -> Self {
-        FailingReader {
+impl<'a> FailAt<'a> {
+    pub fn new(inner: Cuts<'a>, successes: usize, text: &'static str) -> Self {
+        FailAt {
             inner,
             calls: 0,
             successes,
@@ -76,7 +76,7 @@ impl<'a> FailingReader<'a> {
     }
 }
 
-impl Read for FailingReader<'_> {
+impl Read for FailAt<'_> {
     ghost rest = { λ r. Some r.inner.left.now };
 
     ghost failures = { λ r. (if r.failed then 1 else 0) };
@@ -94,9 +94,9 @@ impl Read for FailingReader<'_> {
 
 /// A reader of a slice, whose input is not known.
 #[derive(Drop)]
-pub struct UnknownReader<'a>(pub &'a [u8]);
+pub struct Silent<'a>(pub &'a [u8]);
 
-impl Read for UnknownReader<'_> {
+impl Read for Silent<'_> {
     ghost rest = { λ _. None };
 
     ghost failures = { λ _. 0 };
@@ -145,7 +145,7 @@ impl Read for CountingReader<'_> {
 
 /// A writer that accepts at most `most` bytes per call, and is full after `capacity` bytes, which it has allocated.
 #[derive(Drop)]
-pub struct SlowWriter {
+pub struct Drip {
     pub written: Vec<u8>,
     capacity: usize,
     most: usize,
@@ -153,11 +153,11 @@ pub struct SlowWriter {
     ghost takes_some: { 0 < most },
 }
 
-impl SlowWriter {
+impl Drip {
     pub fn new(alloc: Global, capacity: usize, most: usize) -> Result<Self, AllocError>
         requires { 0 < most }
     {
-        Ok(SlowWriter {
+        Ok(Drip {
             written: Vec::with_capacity(alloc, capacity)?,
             capacity,
             most,
@@ -165,7 +165,7 @@ impl SlowWriter {
     }
 }
 
-impl Write for SlowWriter {
+impl Write for Drip {
     const ALLOCATES: bool = false;
 
     ghost allocates = { false };
@@ -189,10 +189,10 @@ impl Write for SlowWriter {
     }
 }
 
-/// A slow writer whose call after the first `successes` calls fails, and no other, with an error of this text.
+/// As [`Drip`], but the call after the first `successes` calls fails, and no other, with an error of this text.
 #[derive(Drop)]
-pub struct FailingWriter {
-    pub inner: SlowWriter,
+pub struct FailWrite {
+    pub inner: Drip,
     /// The number of calls.
     pub calls: usize,
     successes: usize,
@@ -200,9 +200,9 @@ pub struct FailingWriter {
     failed: bool,
 }
 
-impl FailingWriter {
-    pub fn new(inner: SlowWriter, successes: usize, text: &'static str) -> Self {
-        FailingWriter {
+impl FailWrite {
+    pub fn new(inner: Drip, successes: usize, text: &'static str) -> Self {
+        FailWrite {
             inner,
             calls: 0,
             successes,
@@ -212,7 +212,7 @@ impl FailingWriter {
     }
 }
 
-impl Write for FailingWriter {
+impl Write for FailWrite {
     const ALLOCATES: bool = false;
 
     ghost allocates = { false };

@@ -5,7 +5,7 @@ use crate::expect::{check, check_eq, expect_ok};
 use examples::content::{UnknownCode, is_damaged, verify};
 use examples::std_reader::StdReader;
 use examples::{loops, parts};
-use fakes::{FailingReader, SlowReader};
+use fakes::{Cuts, FailAt};
 use form::{
     Bytes, Case, FormError, Number, Stream, all_from_bytes, first_error, from_bytes, to_bytes,
     write_items,
@@ -25,7 +25,7 @@ const IDENTIFIER: [u8; 36] = [
 
 // A reader of `std`, whose call is interrupted if that of the other one fails.
 #[derive(Drop)]
-struct InterruptedReader<'a>(FailingReader<'a>);
+struct InterruptedReader<'a>(FailAt<'a>);
 
 impl std::io::Read for InterruptedReader<'_> {
     fn read(&mut self, buf: &mut [u8]) -> std::io::Result<usize> {
@@ -40,7 +40,7 @@ impl std::io::Read for InterruptedReader<'_> {
 fn expect_read(rt: &impl Abort, bytes: &[u8], most: usize, at: usize)
     requires { 0 < most }
 {
-    let inner = FailingReader::new(SlowReader::new(bytes, most), at, "");
+    let inner = FailAt::new(Cuts::new(bytes, most), at, "");
     let mut reader = StdReader::new(InterruptedReader(inner));
     let mut buffer = [0u8; 200];
     let mut filled = 0usize;

@@ -1,10 +1,7 @@
 //! Readers and writers: how often each is called, borrowed or not; that an error is passed on unchanged, with no call
 //! after it; and the bytes in a slice, of which no contract states more than their number.
 use crate::expect::{FULL, check, check_eq, expect_ok, has_text, is_passed_on};
-use fakes::{
-    CountingReader, CountingWriter, FailingReader, FailingWriter, OUT_OF_MEMORY, SlowReader,
-    SlowWriter, UnknownReader,
-};
+use fakes::{CountingReader, CountingWriter, Cuts, Drip, FailAt, FailWrite, Silent, OUT_OF_MEMORY};
 use form::{Block, Form, FormError, Stream};
 use multihash::list::{read_list, write_list};
 use multihash::no_std_io::{self, Read, Write};
@@ -118,15 +115,15 @@ fn reading_makes_as_many_calls(rt: HostRuntime) {
 fn few_bytes_a_call_are_the_same(rt: HostRuntime) {
     for encoding in ALL {
         let wanted = encoding.bytes();
-        let mut unknown = UnknownReader(wanted);
+        let mut unknown = Silent(wanted);
         check!(&rt; expect_ok!(&rt; encoding.is_read(rt.alloc(), &mut unknown)), encoding);
         for most in [1, 2, 3, 7] {
-            let slow = SlowReader::new(encoding.input(), most);
-            let mut reader = FailingReader::new(slow, wanted.len(), LINK_DOWN);
+            let slow = Cuts::new(encoding.input(), most);
+            let mut reader = FailAt::new(slow, wanted.len(), LINK_DOWN);
             check!(&rt; expect_ok!(&rt; encoding.is_read(rt.alloc(), &mut reader)), encoding);
             check_eq!(&rt; reader.inner.left, &[9], encoding);
-            let slow = expect_ok!(&rt; SlowWriter::new(rt.alloc(), wanted.len(), most));
-            let mut writer = FailingWriter::new(slow, wanted.len(), DISK_GONE);
+            let slow = expect_ok!(&rt; Drip::new(rt.alloc(), wanted.len(), most));
+            let mut writer = FailWrite::new(slow, wanted.len(), DISK_GONE);
             check_eq!(&rt; encoding.write(&mut writer).ok(), Some(wanted.len()), encoding);
             check_eq!(&rt; writer.inner.written.as_slice(), wanted, encoding);
         }
@@ -136,7 +133,7 @@ fn few_bytes_a_call_are_the_same(rt: HostRuntime) {
 fn expect_failed_read(rt: &impl Abort, alloc: Global, encoding: Encoding, at: usize) {
     let input = encoding.input();
     for text in [LINK_DOWN, OUT_OF_MEMORY] {
-        let mut reader = FailingReader::new(SlowReader::new(input, 1), at, text);
+        let mut reader = FailAt::new(Cuts::new(input, 1), at, text);
         check!(rt; is_passed_on(&encoding.is_read(alloc, &mut reader), text), encoding);
         check_eq!(rt; reader.calls, at.saturating_add(1), encoding);
         check_eq!(rt; reader.inner.left.len(), input.len().saturating_sub(at), encoding);
@@ -169,8 +166,8 @@ fn is_failed<T>(outcome: &Result<T, FormError>, text: &str) -> bool {
 fn a_stream_passes_an_error_on(rt: HostRuntime) {
     for at in 0..4 {
         for text in [LINK_DOWN, OUT_OF_MEMORY] {
-            let slow = SlowReader::new(&[3, 7, 7, 7], 1);
-            let mut stream = Stream::new(FailingReader::new(slow, at, text));
+            let slow = Cuts::new(&[3, 7, 7, 7], 1);
+            let mut stream = Stream::new(FailAt::new(slow, at, text));
             let outcome = stream.read_next::<Block<3>>(rt.alloc());
             check!(&rt; is_failed(&outcome, text), at);
         }
@@ -189,7 +186,7 @@ fn the_end_is_read_once(rt: HostRuntime) {
     check_eq!(&rt; reader.calls, (3, 0, 1));
     check_eq!(&rt; stream.inner.calls, (2, 1, 0));
     // The default `read_exact` ends with the call that meets the end.
-    let mut reader = FailingReader::new(SlowReader::new(&[1, 2, 3], 2), 600, LINK_DOWN);
+    let mut reader = FailAt::new(Cuts::new(&[1, 2, 3], 2), 600, LINK_DOWN);
     check!(&rt; reader.read_exact(&mut [0; 4]).is_err());
     check_eq!(&rt; reader.calls, 3);
 }
@@ -219,7 +216,7 @@ fn a_borrowed_reader_is_called_once(rt: HostRuntime) {
     expect_one_call(&rt, &mut [0]);
     expect_one_call(&rt, &mut [0; 150]);
     for text in [LINK_DOWN, OUT_OF_MEMORY] {
-        let mut reader = FailingReader::new(SlowReader::new(&[7], 1), 0, text);
+        let mut reader = FailAt::new(Cuts::new(&[7], 1), 0, text);
         check!(&rt; is_passed_on(&Binary.is_read_borrowed(rt.alloc(), &mut reader), text));
         check_eq!(&rt; reader.calls, 1);
     }
@@ -263,8 +260,8 @@ fn a_borrowed_writer_is_called_once(rt: HostRuntime) {
         check_eq!(&rt; writer.calls, (1, 0), len);
     }
     for text in [DISK_GONE, OUT_OF_MEMORY] {
-        let slow = expect_ok!(&rt; SlowWriter::new(rt.alloc(), 700, 1));
-        let mut writer = FailingWriter::new(slow, 0, text);
+        let slow = expect_ok!(&rt; Drip::new(rt.alloc(), 700, 1));
+        let mut writer = FailWrite::new(slow, 0, text);
         check!(&rt; is_passed_on(&Binary.write_borrowed(&mut writer), text));
         check_eq!(&rt; writer.calls, 1);
     }
@@ -274,8 +271,8 @@ fn a_borrowed_writer_is_called_once(rt: HostRuntime) {
 fn expect_failed_write(rt: &impl Abort, alloc: Global, encoding: Encoding, at: usize) {
     for text in [DISK_GONE, OUT_OF_MEMORY, FULL] {
         let (capacity, successes) = if text == FULL { (at, 700) } else { (700, at) };
-        let slow = expect_ok!(rt; SlowWriter::new(alloc, capacity, 1));
-        let mut writer = FailingWriter::new(slow, successes, text);
+        let slow = expect_ok!(rt; Drip::new(alloc, capacity, 1));
+        let mut writer = FailWrite::new(slow, successes, text);
         check!(rt; is_passed_on(&encoding.write(&mut writer), text), (encoding, at));
         check_eq!(rt; writer.inner.written.as_slice(), encoding.bytes().get(..at).unwrap_or(&[]));
         check_eq!(rt; writer.calls, at.saturating_add(1), (encoding, at));

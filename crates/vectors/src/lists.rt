@@ -4,7 +4,7 @@ ghost use Rattle.std.specs.Prelude.{◌<◌, ◌^◌};
 
 use crate::page::Page;
 use crate::values::compared;
-use fakes::SlowReader;
+use fakes::Cuts;
 use multihash::no_std_io::Read;
 use multihash::{Error, Multihash};
 use serde_json::Value;
@@ -116,7 +116,7 @@ impl<const S: usize> Reading<S> {
         requires capacity { S < 2 ^ 16 }
         requires some { 0 < most }
     {
-        let mut slow = SlowReader::new(input, most);
+        let mut slow = Cuts::new(input, most);
         let found = Verdict(encoding.read(&mut slow));
         let consumed = input.len().saturating_sub(slow.left.len());
         Reading { found, consumed }

@@ -3,7 +3,7 @@ ghost use Rattle.std.specs.Prelude.{◌<◌, ◌^◌};
 
 use crate::page::{Bytes, Found, Left, Outcome, Page, Pair, rows};
 use crate::values::value;
-use fakes::{FailingReader, OUT_OF_MEMORY, SlowReader, SlowWriter};
+use fakes::{Cuts, Drip, FailAt, OUT_OF_MEMORY};
 use multihash::list::{read_list, write_list};
 use multihash::no_std_io::{self, Read, Write};
 use multihash::{Error, Multihash};
@@ -44,7 +44,7 @@ fn print_list(page: &mut Page, input: &[u8], count: usize) {
         &found,
     );
     for most in 1..8 {
-        let mut slow = SlowReader::new(input, most);
+        let mut slow = Cuts::new(input, most);
         let outcome = read_list::<4, _>(page.alloc, &mut slow, count);
         page.check(
             "  the list",
@@ -77,8 +77,8 @@ pub fn print_lists(page: &mut Page) {
 fn print_exact_reads(page: &mut Page) {
     let (mut left, mut four, mut three) = ([1u8, 2, 3].as_slice(), [9; 4], [0; 3]);
     let (mut slow, mut others) = (
-        SlowReader::new(&[1, 2, 3], 2),
-        SlowReader::new(&[1, 2, 3], 2),
+        Cuts::new(&[1, 2, 3], 2),
+        Cuts::new(&[1, 2, 3], 2),
     );
     let short = Outcome(left.read_exact(&mut four));
     let cut_short = Outcome(slow.read_exact(&mut [0; 4]));
@@ -97,9 +97,9 @@ pub fn print_readers(page: &mut Page) {
     print_exact_reads(page);
     let mut left = [0, 2, 9].as_slice();
     let outcome = Multihash::<2>::read(&mut left);
-    let mut slow = SlowReader::new(&[0, 2, 9], 1);
+    let mut slow = Cuts::new(&[0, 2, 9], 1);
     let cut = Multihash::<2>::read(&mut slow);
-    let mut reader = FailingReader::new(SlowReader::new(&[0, 1, 65], 1), 1, "link down");
+    let mut reader = FailAt::new(Cuts::new(&[0, 1, 65], 1), 1, "link down");
     let failed = Multihash::<4>::read(&mut reader);
     rows!(page;
         "read::<2>([00 02 09])" => Found(outcome, left);
@@ -137,7 +137,7 @@ fn print_slice_writes(page: &mut Page) {
 }
 
 fn print_slow_writes(page: &mut Page) {
-    if let Ok(mut slow) = SlowWriter::new(page.alloc, 5, 2) {
+    if let Ok(mut slow) = Drip::new(page.alloc, 5, 2) {
         rows!(page;
             "capacity 5, 2 bytes a call, write([01 02 03])" => Outcome(slow.write(&[1, 2, 3]));
             "  then write_all([03 04 05 06])" => Outcome(slow.write_all(&[3, 4, 5, 6]));
@@ -216,8 +216,8 @@ type Mh = Multihash<0>;
 
 pub fn print_errors(page: &mut Page) {
     page.heading("Errors: the text, and the tests that apply");
-    let mut reader = FailingReader::new(SlowReader::new(&[], 1), 0, OUT_OF_MEMORY);
-    let mut other = FailingReader::new(SlowReader::new(&[], 1), 0, "link down");
+    let mut reader = FailAt::new(Cuts::new(&[], 1), 0, OUT_OF_MEMORY);
+    let mut other = FailAt::new(Cuts::new(&[], 1), 0, "link down");
     let own: Result<(), _> = Err(Error::from(no_std_io::Error::other("x")));
     errors!(page;
         "wrap::<0>(0, \"A\")" => Mh::wrap(0, b"A"),
