@@ -9,7 +9,7 @@
 //! `WriteAllLaws`, `appends_nothing` and `appends_concatenated`.
 //!
 //! The clauses need these definitions, and words of Rattle's `std`. Each definition is made of those before it.
-//! They are in the modules of `crates/multihash/specs` that are named first, those of `Results` in
+//! Each line names a module of `crates/multihash/specs`, and its definitions. `Results` is in
 //! `crates/theorems/specs`.
 //!
 //! - `Bytes`: `ExactlyOne`, `IsBytes`, `IsPrefix`, `IsStrictPrefix`, `place_value`
