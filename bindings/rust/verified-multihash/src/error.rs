@@ -8,7 +8,7 @@ use io::ErrorKind;
 
 /// Why a multihash or a varint was not read, written or made.
 ///
-/// Its text is a sentence: `the input ends inside the digest (12 of 32 bytes)`. An error has exactly one kind:
+/// Its message is a sentence: `the input ends inside the digest (12 of 32 bytes)`. An error has exactly one kind:
 /// [`invalid_size`](Self::invalid_size), [`invalid_code`](Self::invalid_code) or [`io`](Self::io) is `Some`, or one of
 /// [`is_insufficient`](Self::is_insufficient), [`is_overflow`](Self::is_overflow) and
 /// [`is_not_minimal`](Self::is_not_minimal) is true. The [`source`](std::error::Error::source) is the error of the reader

@@ -25,7 +25,8 @@ impl<const S: usize> Multihash<S> {
     ///
     /// # Errors
     ///
-    /// For a digest of more than `S` bytes or more than 255, and for a code of 2^63 or more.
+    /// - [`Error::invalid_size`] with the digest's length if it exceeds `S` or 255.
+    /// - Otherwise [`Error::invalid_code`] with the code if it is 2^63 or more.
     ///
     /// # Examples
     ///
@@ -75,9 +76,9 @@ impl<const S: usize> Multihash<S> {
     ///
     /// The bytes that were read before an error are consumed.
     ///
-    /// - The reader's error, if it fails. `Interrupted` is returned too, except inside the digest.
-    /// - An error if the next bytes are not a multihash with a digest of at most `S` bytes. No byte of a digest
-    ///   that is too long is read.
+    /// - [`Error::io`] with the reader's error, if it fails. `Interrupted` is returned too, except inside the digest.
+    /// - The errors of [`Multihash::from_bytes`], except that more bytes may follow. If a digest is too long, none of
+    ///   its bytes is read.
     pub fn read<R: Read>(mut r: R) -> Result<Self, Error> {
         Self::read_from(&mut r)
     }
@@ -97,7 +98,7 @@ impl<const S: usize> Multihash<S> {
     ///
     /// # Errors
     ///
-    /// Those of [`Multihash::read`], but for an input that ends before the multihash.
+    /// Those of [`Multihash::read`], except that of an input that ends before the multihash.
     pub fn read_next<R: Read>(mut r: R) -> Result<Option<Self>, Error> {
         match proved::Multihash::read_next(&mut r) {
             Ok(value) => Ok(value.map(Self)),
@@ -109,7 +110,12 @@ impl<const S: usize> Multihash<S> {
     ///
     /// # Errors
     ///
-    /// If `bytes` is not an encoding, or encodes a digest of more than `S` bytes.
+    /// - [`Error::is_insufficient`] if the bytes end before or inside a varint.
+    /// - [`Error::is_overflow`] if a varint has more than nine bytes.
+    /// - [`Error::is_not_minimal`] if a varint of more than one byte ends in a zero byte.
+    /// - [`Error::invalid_size`] with the digest's length if it exceeds `S` or 255, and with the number of trailing
+    ///   bytes if some follow the multihash.
+    /// - [`Error::io`] with an unexpected end of file if the bytes end before the end of the digest.
     ///
     /// # Examples
     ///
@@ -161,7 +167,7 @@ impl<const S: usize> Multihash<S> {
     ///
     /// # Errors
     ///
-    /// For a digest of more than `R` bytes.
+    /// [`Error::invalid_size`] with the digest's length if it exceeds `R`.
     pub fn resize<const R: usize>(&self) -> Result<Multihash<R>, Error> {
         match self.0.resize() {
             Ok(value) => Ok(Multihash(value)),
@@ -188,9 +194,12 @@ impl<const S: usize> Multihash<S> {
     ///
     /// # Errors
     ///
-    /// The reader's error, if it fails, and an error if the input ends before, if the code is 2^63 or more, or if the
-    /// digest has more than `S` bytes. The bytes that were read before an error are consumed, and none of a digest that
-    /// is too long.
+    /// The bytes that were read before an error are consumed.
+    ///
+    /// - [`Error::io`] with the reader's error, if it fails, and with an unexpected end of file if the input ends inside
+    ///   the encoding.
+    /// - [`Error::invalid_code`] with the code if it is 2^63 or more.
+    /// - [`Error::invalid_size`] with the digest's length if it exceeds `S`. None of its bytes is read.
     pub fn scale_decode<R: Read>(mut r: R) -> Result<Self, Error> {
         match proved::Multihash::scale_decode(&mut r) {
             Ok(value) => Ok(Self(value)),
