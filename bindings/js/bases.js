@@ -17,7 +17,7 @@ export function unhex(text, name = 'text') {
   const at = text.search(/[^0-9a-f]/i);
   if (at >= 0 || text.length % 2 !== 0) {
     const what = at < 0 ? `an odd number of digits, ${text.length}` :
-      `${JSON.stringify(String.fromCodePoint(text.codePointAt(at)))} at index ${at}, which is no hexadecimal digit`;
+      `${JSON.stringify(String.fromCodePoint(text.codePointAt(at)))} at index ${at}, which is not a hexadecimal digit`;
     throw new MultihashError(`the ${name} has ${what}`, { status: 'not_hexadecimal' });
   }
   const bytes = new Uint8Array(text.length / 2);
@@ -94,7 +94,7 @@ function fromBase32(text) {
 }
 
 /**
- * The bases, by the prefixes of texts. `other` matches a character that is no digit. `encode` returns digits without the
+ * The bases, by the prefixes of texts. `other` matches a character that is not a digit. `encode` returns digits without the
  * prefix, and `decode` expects digits without it. `decode` returns undefined if the last digit is superfluous, or if its
  * unused bits are not zero.
  */

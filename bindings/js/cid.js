@@ -86,10 +86,10 @@ export class CID {
     if (!base) throw new CIDError('unknown_base', 'the text must start with b, f, z or Qm');
     const at = text.slice(start, CID_TEXT_MAX).search(base.other);
     if (at >= 0) // the character is not shown: it may be one that changes how the text is displayed
-      throw new CIDError('invalid_digit', `the character at index ${start + at} is no digit of ${base.name}`);
+      throw new CIDError('invalid_digit', `the character at index ${start + at} is not a ${base.name} digit`);
     if (text.length > CID_TEXT_MAX) throw new CIDError('too_long', `the text has more than ${CID_TEXT_MAX} characters`);
     const bytes = base.decode(text.slice(start));
-    if (!bytes) throw new CIDError('trailing_bits', `the last digit of ${base.name} has bits of no byte`);
+    if (!bytes) throw new CIDError('trailing_bits', `the last ${base.name} digit has superfluous bits`);
     if (isVersion0(bytes) !== hasNoPrefix)
       throw new CIDError('wrong_prefix', 'a CID of version 0 has the text Qm.., and no other has');
     return CID.decode(bytes);

@@ -21,8 +21,8 @@
 
 namespace multihash {
 
-/* Why bytes are no multihash, or why a code and a digest have no encoding, with a message of multihash_message.h. The
- * message of a CID is the text of its status. */
+/* Why bytes are not a multihash, or why a code and a digest cannot be encoded, with a message of multihash_message.h.
+ * The message of a CID is the text of its status. */
 class error : public std::invalid_argument {
   public:
     error(multihash_status status, const char *message) : std::invalid_argument(message), status_(status) {}
@@ -115,7 +115,7 @@ class value : private ordered<value> {
         for (const char *at = text.data(), *end = at + text.size(); at != end; at += 2) {
             unsigned byte = 0;
             if (std::from_chars(at, at + 2, byte, 16).ptr != at + 2) {
-                throw std::invalid_argument("the text has a character that is no digit");
+                throw std::invalid_argument("the text has a character that is not a hexadecimal digit");
             }
             bytes += static_cast<char>(byte);
         }

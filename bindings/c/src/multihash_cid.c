@@ -198,9 +198,9 @@ const char *multihash_cid_status_text(multihash_status status)
     static const char *const texts[] = {
         [MULTIHASH_INSUFFICIENT] = "the input is empty, or ends before or inside a varint",
         [MULTIHASH_CID_UNKNOWN_BASE] = "the text must start with b, f, z or Qm",
-        [MULTIHASH_CID_INVALID_DIGIT] = "a character is no digit of the base",
+        [MULTIHASH_CID_INVALID_DIGIT] = "a character is not a digit of the base",
         [MULTIHASH_CID_TOO_LONG] = "the text is too long",
-        [MULTIHASH_CID_TRAILING_BITS] = "the last digit has bits of no byte",
+        [MULTIHASH_CID_TRAILING_BITS] = "the last digit has superfluous bits",
         [MULTIHASH_CID_WRONG_PREFIX] = "a CID of version 0 has the text Qm.., and no other has",
         [MULTIHASH_CID_UNKNOWN_VERSION] = "the version is unknown",
         [MULTIHASH_CID_NOT_VERSION_0] = "version 0 has the codec 0x70 and a multihash of SHA2-256 with 32 bytes",

@@ -146,7 +146,7 @@ template <typename Call> static void check_message(Call call, const std::string 
 static void check_texts()
 {
     check_message([] { value::from_hex("120"); }, "the text has an odd number of digits");
-    check_message([] { value::from_hex("1g"); }, "the text has a character that is no digit");
+    check_message([] { value::from_hex("1g"); }, "the text has a character that is not a hexadecimal digit");
     check_message([] { value::from_hex("1203aabb"); }, "the input ends inside the digest (2 of 3 bytes)");
     check_message([] { value::from_hex(""); }, "the input is empty");
     check_message([] { value(1ull << 63, ""); }, "the code 9223372036854775808 is 2^63 or more");

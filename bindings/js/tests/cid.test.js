@@ -46,9 +46,9 @@ test('messages', () => {
   const rows = [
     ['', 'insufficient', 'the text is empty'],
     ['mAVUSIA', 'unknown_base', 'the text must start with b, f, z or Qm'],
-    ['bafk\ud800', 'invalid_digit', 'the character at index 4 is no digit of base32'],
+    ['bafk\ud800', 'invalid_digit', 'the character at index 4 is not a base32 digit'],
     ['f'.padEnd(600, '0'), 'too_long', 'the text has more than 553 characters'],
-    ['fa', 'trailing_bits', 'the last digit of base16 has bits of no byte'],
+    ['fa', 'trailing_bits', 'the last base16 digit has superfluous bits'],
     ['QmA', 'wrong_prefix', 'a CID of version 0 has the text Qm.., and no other has'],
     [`z${OLD}`, 'wrong_prefix', 'a CID of version 0 has the text Qm.., and no other has'],
     ['f01d5', 'insufficient', 'codec: the input ends inside the varint'],

@@ -55,7 +55,7 @@ test('a code is a number if that is exact', () => {
 test('texts and JSON', () => {
   for (const text of [hex(EXAMPLE), hex(EXAMPLE).toUpperCase()]) assert.equal(`${Multihash.fromHex(text)}`, hex(EXAMPLE));
   const noHex = [['1g01', 'g', 1], ['0x16', 'x', 1], ['\n160', '\\n', 0], ['1\u{1f600}', '\u{1f600}', 1]]
-    .map(([text, digit, at]) => [text, `the text has "${digit}" at index ${at}, which is no hexadecimal digit`]);
+    .map(([text, digit, at]) => [text, `the text has "${digit}" at index ${at}, which is not a hexadecimal digit`]);
   for (const [text, message] of [['162', 'the text has an odd number of digits, 3'], ...noHex])
     assert.throws(() => Multihash.fromHex(text), { name: 'MultihashError', status: 'not_hexadecimal', message });
   const json = { code: 18, size: 2, digest: '00ab' };

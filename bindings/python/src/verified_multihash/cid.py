@@ -40,16 +40,16 @@ _SHA256 = b"\x12\x20"  # the code, and the length of the digest
 
 
 class CIDError(ValueError):
-    """The error of a text, of bytes or of fields that are no CID. Its text says what is wrong.
+    """The error of a string, bytes or fields that are not a CID. Its message says what is wrong.
 
     `status` is the kind of the error, which has the same name in other languages:
     A name of Status, in lower case: the version, the codec or the multihash is invalid or truncated, or bytes follow it,
     as that Status says; `__cause__` is the MultihashError. An empty text is `insufficient`.
     `unknown_base`: the text does not start with `b`, `f`, `z` or `Qm`.
-    `invalid_digit`: a character is no digit of the base.
+    `invalid_digit`: a character is not a digit of the base.
     `too_long`: the text has more than TEXT_MAX characters.
-    `trailing_bits`: the last digit has bits that belong to no byte, or that are not zero.
-    `wrong_prefix`: a CID of version 0 has a prefix, or a text that starts with `Qm` is of no CID of version 0.
+    `trailing_bits`: the last digit is superfluous, or its unused bits are not zero.
+    `wrong_prefix`: a CID of version 0 has a prefix, or a text that starts with `Qm` is not of version 0.
     `unknown_version`: the version of bytes is not 1, or that of fields neither 0 nor 1.
     `not_version_0`: version 0 has another codec or multihash than it may have.
     """
@@ -106,12 +106,12 @@ class CID:
         name, not_digit, encode, decode = _BASES[base]
         found = not_digit.search(text, start, TEXT_MAX)
         if found:  # the character is not shown: it may be one that changes how the text is displayed
-            raise CIDError("invalid_digit", f"the character at index {found.start()} is no digit of {name}")
+            raise CIDError("invalid_digit", f"the character at index {found.start()} is not a {name} digit")
         if len(text) > TEXT_MAX:
             raise CIDError("too_long", f"the text has more than {TEXT_MAX} characters")
         data = decode(text[start:])
         if encode(data) != text[start:]:
-            raise CIDError("trailing_bits", f"the last digit of {name} has bits of no byte")
+            raise CIDError("trailing_bits", f"the last {name} digit has superfluous bits")
         if data.startswith(_SHA256) != is_version_0:
             raise CIDError("wrong_prefix", "a CID of version 0 has the text Qm.., and no other has")
         return cls.decode(data)
@@ -206,7 +206,7 @@ def _from_base58(digits: str) -> bytes:
     return bytes(zeros) + number.to_bytes((number.bit_length() + 7) // 8, "big")
 
 
-# By the prefix of a text: the name of the base, what is no digit of it, and functions that encode and decode digits. What
+# By the prefix of a text: the name of the base, what is not a digit of it, and functions that encode and decode digits. What
 # decodes ignores bits that belong to no byte.
 _BASES: Mapping[str, tuple[str, re.Pattern[str], Callable[[bytes], str], Callable[[str], bytes]]] = {
     "b": ("base32", re.compile("[^a-z2-7]"), _to_base32, _from_base32),

@@ -83,15 +83,15 @@ fn hexadecimal() {
     assert_eq!(full.to_string().parse().ok(), Some(full));
 }
 
-/// Texts that are no multihash, some longer than any encoding.
+/// Texts that are not a multihash, some longer than any encoding.
 #[test]
 fn rejected_texts() {
     let full = Multihash::<255>::wrap(u64::MAX >> 1, &[7; 255]).expect("it fits");
     for (text, wanted) in [
         (&*"0".repeat(535), "the text has an odd number of digits, 535"),
-        ("1203é1", "the text has \"é\" at index 4, which is no hexadecimal digit"),
-        ("+1", "the text has \"+\" at index 0, which is no hexadecimal digit"),
-        (&*("0".repeat(535) + " "), "the text has \" \" at index 535, which is no hexadecimal digit"),
+        ("1203é1", "the text has \"é\" at index 4, which is not a hexadecimal digit"),
+        ("+1", "the text has \"+\" at index 0, which is not a hexadecimal digit"),
+        (&*("0".repeat(535) + " "), "the text has \" \" at index 535, which is not a hexadecimal digit"),
         (&*format!("{full}00"), "1 byte follows the multihash"),
         (&*"00".repeat(300), "298 bytes follow the multihash"),
         (&*format!("12ac02{}", "00".repeat(300)), "the digest has 300 bytes, and the limit is 255"),
