@@ -14,10 +14,10 @@ import textwrap
 import time
 from pathlib import Path
 
+C = Path(__file__).parent
 # multihash_ffi.h is for other languages.
-HEADERS = [
-    Path(__file__).parent / "include" / f"multihash{part}.h" for part in ("", "_message", "_names", "_cid", "_frame")
-]
+HEADERS = [C / "include" / f"multihash{part}.h" for part in ("", "_message", "_names", "_cid", "_frame")]
+EXAMPLE = re.findall(r"```c\n(for .*?)```", (C / "README.md").read_text("utf-8"), re.S)[0]
 COMMENT = r"/\*((?:(?!\*/).)*)\*/\n"
 ABOUT = COMMENT + "#ifndef"
 # A type, constants, or a function, whose declaration has a parenthesis.
@@ -43,7 +43,7 @@ def page(headers: dict[str, str], date: time.struct_time) -> str:
     """Returns the page of these headers, which have names."""
     everything = "".join(headers.values())
     parts = re.findall(PART, everything, re.S)
-    functions = [name for _, declared in parts for name in re.findall(r"(\w+)\(", declared)]
+    functions = [name for _, part in parts if not part.startswith("typedef") for name in re.findall(r"(\w+)\(", part)]
     version = re.findall(r'MULTIHASH_VERSION "(.*)"', everything)[0]
     made = [time.strftime(f".Dd %B {date.tm_mday}, %Y", date), ".Dt MULTIHASH 3", ".Os", ".Sh NAME"]
     made += [*(f".Nm {name} ," for name in ["multihash", *functions[:-1]]), f".Nm {functions[-1]}"]
@@ -51,10 +51,11 @@ def page(headers: dict[str, str], date: time.struct_time) -> str:
     made += [".Ql pkg-config --cflags --libs multihash_c", "prints the options for the compiler."]
     made += [".Sh SYNOPSIS", *(f".In {name}" for name in headers), ".Sh DESCRIPTION"]
     abouts = re.findall(ABOUT, everything, re.S)
-    made += [line for about in abouts for line in paragraphs(about)][1:]
+    made += [line for name, about in zip(headers, abouts) for line in [f".Ss {name}", *paragraphs(about)[1:]]]
     for comment, declared in parts:
         names = re.findall(r"(\w+)\(|\} (\w+);|typedef \w+ (\w+);|#define (\w+)", declared)
         made += [f".Ss {''.join(names[0])}", ".Bd -literal", declared, ".Ed", *paragraphs(comment)]
+    made += [".Sh EXAMPLES", "Decode the multihashes in a buffer:", ".Bd -literal", EXAMPLE + ".Ed"]
     made += [".Sh ERRORS", ".Bl -tag -width Ds"]
     made += [f".It Dv {name}\n{text(comment)}" for comment, name in re.findall(STATUS, everything, re.S)]
     made += [".El", ".Sh SEE ALSO", '.Lk https://multiformats.io/multihash/ "The multihash format"']

@@ -6,8 +6,8 @@
  * version 0 are the multihash alone, of SHA2-256 with 32 bytes, and the codec is MULTIHASH_CID_DAG_PB. Each CID has
  * exactly one encoding, and one text in each base: other texts, with capitals or padding, are rejected.
  *
- * The functions are in multihash_cid.c. The preconditions of multihash.h hold for them too. They need no C library and
- * allocate nothing; the stack needs 2 kB. They are tested, not checked for all inputs. */
+ * The functions are in multihash_cid.c. They call only functions of multihash.h, allocate nothing, and use 2 kB of
+ * stack. The preconditions of multihash.h hold for them too. They are tested, not checked for all inputs. */
 #ifndef MULTIHASH_CID_H
 #define MULTIHASH_CID_H
 
@@ -34,13 +34,13 @@ extern "C" {
 enum {
     /* The text does not start with b, f, z or Qm; or a version has no text in the base. */
     MULTIHASH_CID_UNKNOWN_BASE = 16,
-    /* A character of the text is no digit of its base. */
+    /* A character of the text is not a digit of its base. */
     MULTIHASH_CID_INVALID_DIGIT = 17,
     /* The text is longer than each text of a CID. */
     MULTIHASH_CID_TOO_LONG = 18,
-    /* The last digit of the text has bits that belong to no byte, or that are not zero. */
+    /* The last digit of the text is superfluous, or its unused bits are not zero. */
     MULTIHASH_CID_TRAILING_BITS = 19,
-    /* A CID of version 0 has a prefix, or a text that starts with Qm is of no CID of version 0. */
+    /* A CID of version 0 has a prefix, or a text that starts with Qm is not of version 0. */
     MULTIHASH_CID_WRONG_PREFIX = 20,
     /* The version of bytes is not 1, or that of multihash_cid_encode neither 0 nor 1. */
     MULTIHASH_CID_UNKNOWN_VERSION = 21,

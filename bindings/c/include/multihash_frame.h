@@ -2,7 +2,7 @@
  * Copyright (c) 2026 The Gilmekhus developers */
 
 /* Frames of a stream: a varint, and then as many bytes, such as a section of a CAR file or a message of libp2p. The
- * function is in multihash_frame.c. It needs no C library, and allocates nothing. */
+ * function is in multihash_frame.c. It calls only multihash_read_varint and `reader`, and allocates nothing. */
 #ifndef MULTIHASH_FRAME_H
 #define MULTIHASH_FRAME_H
 

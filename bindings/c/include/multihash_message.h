@@ -1,10 +1,10 @@
 /* SPDX-License-Identifier: MIT
  * Copyright (c) 2026 The Gilmekhus developers */
 
-/* Messages for the errors of multihash.h, with the numbers that the text of a status lacks: "the input ends inside the
+/* Messages for the errors of multihash.h, with the numbers that the text of a status does not have: "the input ends inside the
  * digest (3 of 32 bytes)". These functions are defined in the header, over snprintf.
  *
- * Call one after a function of multihash.h has failed. Each but multihash_print_message writes the message to `text` as
+ * Call one of them after a function of multihash.h has failed. Each but multihash_print_message writes the message to `text` as
  * snprintf does: at most `text_size` bytes, of which the last is zero. If `text_size` is 0, `text` may be null. It
  * returns the length of the whole message, without the zero byte: if that is `text_size` or more, the message was
  * truncated. A buffer of MULTIHASH_MESSAGE_SIZE bytes is large enough for each message. */
@@ -23,7 +23,7 @@ extern "C" {
 /* The size in bytes of a buffer for each message. */
 #define MULTIHASH_MESSAGE_SIZE 128
 
-/* The texts. Those of JavaScript and Rust are made of these functions, by tools/generate tables. */
+/* The messages. tools/generate tables makes the JavaScript messages from these functions. */
 
 static inline int mh_text_empty(char *text, size_t text_size)
 {
