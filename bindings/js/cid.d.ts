@@ -22,14 +22,14 @@ export const CID_TEXT_MAX: 553;
 export type CIDStatus =
   | Exclude<MultihashStatus, 'invalid_code' | 'not_hexadecimal'>
   | 'unknown_base' // the text does not start with `b`, `f`, `z` or `Qm`
-  | 'invalid_digit' // a character is no digit of the base
+  | 'invalid_digit' // a character is not a digit of the base
   | 'too_long' // the text has more than `CID_TEXT_MAX` characters
   | 'trailing_bits' // the last digit is superfluous, or its unused bits are not zero
   | 'wrong_prefix' // the text of a CID of version 0 has a prefix, or a text that starts with `Qm` is not of version 0
   | 'unknown_version' // the bytes have a version other than 1, or `CID.of` got one other than 0 and 1
   | 'not_version_0'; // the codec or the multihash is not one that version 0 can have
 
-/** The error of a text, of bytes or of fields that are no CID. Arguments of a wrong type throw a `TypeError` instead. */
+/** The error of a string, bytes or fields that are not a CID. Arguments of a wrong type throw a `TypeError` instead. */
 export class CIDError extends Error {
   constructor(status: CIDStatus, message: string, options?: { cause?: unknown });
   readonly status: CIDStatus;
@@ -48,13 +48,13 @@ export class CID {
    * the status `unknown_version`, `not_version_0` or, for the codec, `overflow`.
    */
   static of(version: 0 | 1, codec: Wide, multihash: Multihash): CID;
-  /** Decodes `bytes`, which must be exactly one CID. */
+  /** Decodes `bytes`, which must be exactly one CID. Throws a `CIDError`. */
   static decode(bytes: Uint8Array): CID;
-  /** Decodes the CID at the start of `bytes`. `consumed` is the length of its encoding. */
+  /** Decodes the CID at the start of `bytes`. `consumed` is the length of its encoding. Throws a `CIDError`. */
   static read(bytes: Uint8Array): { readonly cid: CID; readonly consumed: number };
   /**
    * Decodes a text: `b..` (base32), `f..` (base16), `z..` (base58btc), or `Qm..` (version 0). A CID has one text in each
-   * base, and no other is accepted: no capitals, no padding.
+   * base, and no other is accepted: no capitals, no padding. Throws a `CIDError`.
    */
   static parse(text: string): CID;
   readonly version: 0 | 1;

@@ -30,7 +30,10 @@ export interface Details {
 /** The error of invalid input. An argument of a wrong type or range throws a `TypeError` or a `RangeError` instead. */
 export class MultihashError extends Error {
   constructor(message: string, details: Details);
-  /** Whether the input is truncated. In all calls but `decode` and `fromHex` more input can change the result only then. */
+  /**
+   * Whether the input is truncated. If it is not, more input cannot change the result, except for `decode` and
+   * `fromHex`, which reject trailing bytes.
+   */
   readonly isIncomplete: boolean;
   /** The same fields as a plain object, which `structuredClone` and `postMessage` keep in most engines. */
   readonly cause: Details;
@@ -111,18 +114,32 @@ export interface Head {
   readonly consumed: number;
 }
 
-/** Decodes `bytes`, which must be exactly one multihash. */
+/**
+ * Decodes `bytes`, which must be exactly one multihash.
+ * @throws {MultihashError} They are not a multihash: they are malformed, are truncated, or continue after it.
+ */
 export function decode(bytes: Uint8Array): Multihash;
-/** Decodes the multihash at the start of `bytes`, with a digest of at most `limit` bytes, by default 255. */
+/**
+ * Decodes the multihash at the start of `bytes`. More bytes may follow.
+ * @param limit The maximum length of the digest, by default 255.
+ * @throws {MultihashError} They do not start with such a multihash. If `isIncomplete` is true, append bytes and call
+ * again.
+ */
 export function read(bytes: Uint8Array, limit?: Wide): Read;
 /**
  * Decodes the multihashes in `bytes`, one after the other, up to the end or the first that is invalid or truncated. It
  * copies no digest, throws no `MultihashError`, and takes a fraction of the time of `read` for each.
  */
 export function readMany(bytes: Uint8Array): Columns;
-/** Decodes the two varints before a digest. */
+/**
+ * Decodes the two varints at the start of `bytes`. The digest may be missing.
+ * @throws {MultihashError} A varint is malformed or truncated.
+ */
 export function head(bytes: Uint8Array): Head;
-/** Decodes the varint at the start of `bytes`. `consumed` is the varint's length. */
+/**
+ * Decodes the varint at the start of `bytes`. `consumed` is the varint's length.
+ * @throws {MultihashError} The varint is malformed or truncated.
+ */
 export function readVarint(bytes: Uint8Array): { readonly value: Wide; readonly consumed: number };
 /** Returns the varint of a number. Throws a `MultihashError` with the status `overflow` if that is 2^63 or more. */
 export function encodeVarint(value: Wide): Uint8Array;
@@ -131,15 +148,31 @@ export function encodeVarint(value: Wide): Uint8Array;
  * wrote. Throws what `encodeVarint` does, and a `RangeError` if the varint does not fit; then it wrote nothing.
  */
 export function writeVarint(value: Wide, bytes: Uint8Array, at?: number): number;
-/** Returns the encoding of a code and a digest. */
+/**
+ * Returns the encoding of a code and a digest.
+ * @throws {MultihashError} The digest has more than 255 bytes, or the code is a `bigint` from 2^63 to 2^64 - 1.
+ */
 export function encode(code: Wide, digest: Uint8Array): Uint8Array;
-/** Returns the length of the encoding of a code and a digest of `digestLength` bytes. */
+/**
+ * Returns the length of the encoding of a code and a digest of `digestLength` bytes.
+ * @throws {MultihashError} As `encode`.
+ */
 export function encodedLength(code: Wide, digestLength: Wide): number;
-/** Compares by code, then by digest length, then by the first digest byte that differs. */
+/**
+ * Returns -1 if `left` comes first, 0 if both are equal, and 1 if `right` comes first. Compares by code, then by digest
+ * length, then by the first digest byte that differs.
+ */
 export function compare(left: Multihash, right: Multihash): -1 | 0 | 1;
-/** Decodes the multihash at the start of `bytes` from SCALE. */
+/**
+ * Decodes the SCALE encoding at the start of `bytes`. More bytes may follow.
+ * @throws {MultihashError} The encoding is truncated, or its code is 2^63 or more.
+ */
 export function scaleDecode(bytes: Uint8Array): Read;
-/** Returns the SCALE encoding: the code in eight bytes, the digest's length in one byte, the digest. */
+/**
+ * Returns the SCALE encoding: the code in eight bytes, least significant first, the digest's length in one byte, and
+ * the digest.
+ * @throws {MultihashError} As `encode`.
+ */
 export function scaleEncode(code: Wide, digest: Uint8Array): Uint8Array;
 
 /** The part of `ReadableStream` that this package uses. */
