@@ -292,29 +292,38 @@ static PyObject *compare(PyObject *module, PyObject *const *given, Py_ssize_t co
 
 static PyMethodDef functions[] = {
     {"decode", WITH_NAMES(decode),
-     "decode(data)\n--\n\nDecodes `data`, which must be exactly one multihash."},
+     "decode(data)\n--\n\nDecodes `data`, which must be exactly one multihash.\n\n"
+     "Raises MultihashError if it is malformed or truncated, or if bytes follow the multihash."},
     {"read", WITH_NAMES(read_front),
      "read(data, limit=255)\n--\n\n"
      "Decodes the multihash at the start of `data`, with a digest of at most `limit` bytes.\n\n"
-     "Returns the multihash and the length of its encoding."},
+     "Returns the multihash and the length of its encoding. More bytes may follow. Raises MultihashError if `data`\n"
+     "does not start with such a multihash. If `is_incomplete` of the error is true, append bytes and call again."},
     {"scale_decode", WITH_NAMES(scale_decode),
      "scale_decode(data)\n--\n\n"
-     "Decodes the multihash at the start of `data` from its SCALE encoding. Returns it and the length read."},
+     "Decodes the SCALE encoding at the start of `data`. Returns the multihash and the length of the encoding.\n\n"
+     "Raises MultihashError if the encoding is truncated, or if the code is 2**63 or more."},
     {"head", head, METH_O, NULL},
     {"read_many", read_many, METH_O, NULL},
     {"read_varint", WITH_NAMES(read_varint),
      "read_varint(data)\n--\n\n"
-     "Decodes the varint at the start of `data`. Returns the value, below 2**63, and the length of the varint."},
+     "Decodes the varint at the start of `data`. Returns the value, below 2**63, and the length of the varint.\n\n"
+     "Raises MultihashError if the varint is malformed or truncated."},
     {"encode_varint", WITH_NAMES(encode_varint),
-     "encode_varint(value)\n--\n\nReturns the varint of a value below 2**63."},
-    {"encode", WITH_NAMES(encode), "encode(code, digest)\n--\n\nReturns the encoding of a code and a digest."},
+     "encode_varint(value)\n--\n\n"
+     "Returns the varint of a value. Raises MultihashError for a value of 2**63 or more."},
+    {"encode", WITH_NAMES(encode),
+     "encode(code, digest)\n--\n\nReturns the encoding of a code and a digest.\n\n"
+     "Raises MultihashError for a code of 2**63 or more, and for a digest of more than DIGEST_MAX bytes."},
     {"scale_encode", WITH_NAMES(scale_encode),
-     "scale_encode(code, digest)\n--\n\nReturns the SCALE encoding of a code and a digest."},
+     "scale_encode(code, digest)\n--\n\n"
+     "Returns the SCALE encoding of a code and a digest. Raises what `encode` raises."},
     {"encoded_length", WITH_NAMES(encoded_length),
      "encoded_length(code, digest_length)\n--\n\n"
-     "Returns the length of the encoding of a code and a digest of that length."},
+     "Returns the length of the encoding of a code and a digest of that length. Raises what `encode` raises."},
     {"compare", WITH_NAMES(compare),
-     "compare(left, right)\n--\n\nReturns -1, 0 or 1: the order of two multihashes."},
+     "compare(left, right)\n--\n\n"
+     "Returns -1 if `left` is less than `right`, 0 if they are equal, and 1 if it is greater."},
     {"set_error", set_error, METH_O, NULL},
     {NULL, NULL, 0, NULL},
 };

@@ -49,7 +49,7 @@ class Columns(NamedTuple):
 
     `codes` has the codes. The digest is `data[offsets[i] : offsets[i] + lengths[i]]`, if `data` is of bytes.
     `consumed` is the number of bytes consumed: those of all multihashes in the columns.
-    `error` is why the bytes from `consumed` on are no multihash, or None if there are none. Its own `consumed` counts
+    `error` is the MultihashError of the bytes from `consumed` on, or None if there are none. Its own `consumed` counts
     from there.
     """
 

@@ -70,35 +70,48 @@ class FileReader(Reader[_Item]):
         """Returns the next multihash or frame, or None at the end of the file."""
 
 def decode(data: Buffer) -> Multihash:
-    """Decodes `data`, which must be exactly one multihash."""
+    """Decodes `data`, which must be exactly one multihash.
+
+    Raises MultihashError if it is malformed or truncated, or if bytes follow the multihash.
+    """
 
 def read(data: Buffer, limit: int = ...) -> tuple[Multihash, int]:
     """Decodes the multihash at the start of `data`, with a digest of at most `limit` bytes.
 
-    Returns the multihash and the length of its encoding.
+    Returns the multihash and the length of its encoding. More bytes may follow. Raises MultihashError if `data`
+    does not start with such a multihash. If `is_incomplete` of the error is true, append bytes and call again.
     """
 
 def scale_decode(data: Buffer) -> tuple[Multihash, int]:
-    """Decodes the multihash at the start of `data` from its SCALE encoding. Returns it and the length read."""
+    """Decodes the SCALE encoding at the start of `data`. Returns the multihash and the length of the encoding.
+
+    Raises MultihashError if the encoding is truncated, or if the code is 2**63 or more.
+    """
 
 def head(data: Buffer, /) -> tuple[int, int, int]: ...
 def read_many(data: Buffer, /) -> tuple[bytearray, int, MultihashError | None]: ...
 def read_varint(data: Buffer) -> tuple[int, int]:
-    """Decodes the varint at the start of `data`. Returns the value, below 2**63, and the length of the varint."""
+    """Decodes the varint at the start of `data`. Returns the value, below 2**63, and the length of the varint.
+
+    Raises MultihashError if the varint is malformed or truncated.
+    """
 
 def encode_varint(value: int) -> bytes:
-    """Returns the varint of a value below 2**63."""
+    """Returns the varint of a value. Raises MultihashError for a value of 2**63 or more."""
 
 def encode(code: int, digest: Buffer) -> bytes:
-    """Returns the encoding of a code and a digest."""
+    """Returns the encoding of a code and a digest.
+
+    Raises MultihashError for a code of 2**63 or more, and for a digest of more than DIGEST_MAX bytes.
+    """
 
 def scale_encode(code: int, digest: Buffer) -> bytes:
-    """Returns the SCALE encoding of a code and a digest."""
+    """Returns the SCALE encoding of a code and a digest. Raises what `encode` raises."""
 
 def encoded_length(code: int, digest_length: int) -> int:
-    """Returns the length of the encoding of a code and a digest of that length."""
+    """Returns the length of the encoding of a code and a digest of that length. Raises what `encode` raises."""
 
 def compare(left: Multihash, right: Multihash) -> int:
-    """Returns -1, 0 or 1: the order of two multihashes."""
+    """Returns -1 if `left` is less than `right`, 0 if they are equal, and 1 if it is greater."""
 
 def set_error(error: type[ValueError], /) -> None: ...

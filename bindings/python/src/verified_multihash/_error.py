@@ -7,10 +7,10 @@ from ._status import INCOMPLETE, TEXTS, Status
 
 
 class MultihashError(ValueError):
-    """The error of invalid input, or of a code or digest that is too large. Its text says what is wrong.
+    """The error of invalid input, or of a code or digest that is too large. Its message says what is wrong.
 
     `status` is the kind of the error, a Status.
-    `size` is the invalid size: the length of the digest or the number of trailing bytes, otherwise 0.
+    `size` is the invalid size: the length of the digest or frame, or the number of trailing bytes; otherwise 0.
     `code` is the invalid code, otherwise 0.
     `consumed` is the number of bytes that were consumed.
     """
@@ -29,8 +29,8 @@ class MultihashError(ValueError):
 
     @property
     def is_incomplete(self) -> bool:
-        """Whether the input is truncated. In `read`, `read_many`, `read_varint`, `head`, `scale_decode` and the readers,
-        only then can more input change the result."""
+        """Whether the input is truncated. If it is not, more input cannot change the result, except for `decode` and
+        `fromhex`, which reject trailing bytes."""
         return self.status in INCOMPLETE
 
 
