@@ -137,7 +137,7 @@ impl<const S: usize> Multihash<S> {
     ///
     /// # Errors
     ///
-    /// The writer's error, if it fails. A prefix of the encoding may have been written.
+    /// [`Error::io`] with the writer's error, if it fails. A prefix of the encoding may have been written.
     pub fn write<W: Write>(&self, mut w: W) -> Result<usize, Error> {
         self.0.write(&mut w)
     }
@@ -185,7 +185,7 @@ impl<const S: usize> Multihash<S> {
     ///
     /// # Errors
     ///
-    /// The writer's error, if it fails. A prefix of the encoding may have been written.
+    /// [`Error::io`] with the writer's error, if it fails. A prefix of the encoding may have been written.
     pub fn scale_encode<W: Write>(&self, mut w: W) -> Result<usize, Error> {
         self.0.scale_encode(&mut w)
     }

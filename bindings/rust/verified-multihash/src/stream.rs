@@ -48,8 +48,9 @@ impl<const S: usize> Decoder<S> {
     ///
     /// # Errors
     ///
-    /// If the next bytes are not a multihash with a digest of at most `S` bytes. The part was consumed up to and
-    /// including the byte that determines the error, and each later call returns the same error.
+    /// [`Error::is_overflow`], [`Error::is_not_minimal`] or [`Error::invalid_size`], as [`Multihash::read`] returns them.
+    /// The part was consumed up to and including the byte that determines the error, and each later call returns the same
+    /// error.
     pub fn decode(&mut self, part: &mut &[u8]) -> Result<Option<Multihash<S>>, Error> {
         if self.length == 0 {
             let mut input = *part;

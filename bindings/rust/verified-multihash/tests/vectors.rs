@@ -124,7 +124,7 @@ fn check_head(input: &[u8], column: &str, count: usize) {
     }
 }
 
-/// An input that arrives in parts is decoded as `read` decodes it, and consumed up to there. What is no multihash is kept.
+/// An input that arrives in parts is decoded as `read` decodes it, and consumed up to there. What is not a multihash is kept.
 fn check_parts<const S: usize>(input: &[u8], length: usize, column: &str, count: usize) {
     let (mut decoder, mut decoded, mut consumed) = (Decoder::<S>::new(), Ok(None), 0);
     for part in input.chunks(length) {
