@@ -192,7 +192,7 @@ const NAMES: &[(u64, &str)] = &[
 extern "C" {{
 #endif
 
-/* What multihash_code returns for a text that is no name. It is no valid code. */
+/* What multihash_code returns for a text that is not a name. It is not a valid code. */
 #define MULTIHASH_NO_CODE UINT64_MAX
 
 struct mh_name {{

@@ -97,7 +97,7 @@ export function checkedObject(value, name) {
   return value;
 }
 
-/** Returns the options of a call. Throws a TypeError if they are no object, or have a name that is not in the list. */
+/** Returns the options of a call. Throws a TypeError if they are not an object, or have a name that is not in the list. */
 export function checkedOptions(options, names) {
   const other = Object.keys(checkedObject(options, 'options')).find((key) => !names.includes(key));
   if (other !== undefined) throw new TypeError(`options can have ${names.join(' and ')}, got ${shown(other)}`);

@@ -35,7 +35,7 @@ MultihashError.prototype.name = 'MultihashError'; // a static block would need S
 /** The message for a varint that is too long or not minimal; `varint` names it. */
 const malformed = (varint, status) => (status === 'overflow' ? texts.overflow(varint) : texts.notMinimal(varint));
 
-/** The message for bytes that, from the index `at` on, are no multihash with a digest of at most `limit` bytes. */
+/** The message for bytes that, from the index `at` on, are not a multihash with a digest of at most `limit` bytes. */
 function reasonOf(status, bytes, at, end, limit) {
   const { size, next } = format.head(bytes, at, end);
   const rest = end - next;

@@ -15,7 +15,7 @@ class Received {
   consumed = 0; // the number of bytes of the items
   count = 0; // the number of items
 
-  /** Appends a copy of bytes. Throws a TypeError if they are no Uint8Array, or detached. */
+  /** Appends a copy of bytes. Throws a TypeError if they are not a Uint8Array, or are detached. */
   append(bytes, name) {
     const length = checkedLength(bytes, name);
     if (this.end + length > this.bytes.length) {

@@ -4,7 +4,7 @@ import { wrongType } from './arguments.js';
 const ignore = () => {};
 
 /**
- * Returns an object that reads the chunks of a ReadableStream, which in Safari is no async iterable, or of an async
+ * Returns an object that reads the chunks of a ReadableStream, which in Safari is not an async iterable, or of an async
  * iterable. Its `next` is that of an iterator, `release` unlocks a stream for other readers, and `close` ends the source.
  */
 export function sourceOf(source, name, others = '') {

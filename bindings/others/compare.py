@@ -46,7 +46,7 @@ def drawn(draw: random.Random) -> bytes:
 
 
 def reason_of(data: bytes) -> str:
-    """Returns why the input is no canonical encoding, or an empty string."""
+    """Returns why the input is not a canonical encoding, or an empty string."""
     try:
         *_, end = read(255, data)
         return "trailing bytes" if end < len(data) else ""

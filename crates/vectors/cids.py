@@ -22,7 +22,7 @@ BASE58 = "123456789ABCDEFGHJKLMNPQRSTUVWXYZabcdefghijkmnopqrstuvwxyz"
 ALPHABETS = {"b": "abcdefghijklmnopqrstuvwxyz234567", "f": "0123456789abcdef", "z": BASE58}
 LONGEST_TEXT = 1 + 2 * (1 + 9 + 266)
 VERSION_0 = b"\x12\x20"
-# Characters that are no digits, or of another base.
+# Characters that are not digits, or are digits of another base.
 OTHERS = "019ABFIOQZalz=+/-_ \t\n\r\0\\\x7f\x80\u00e9\u0130\u017f\u0660\u200e\u202e\u2066\ufeff\uff11\uff42\U0001d7ce"
 
 

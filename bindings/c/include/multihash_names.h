@@ -14,7 +14,7 @@
 extern "C" {
 #endif
 
-/* What multihash_code returns for a text that is no name. It is no valid code. */
+/* What multihash_code returns for a text that is not a name. It is not a valid code. */
 #define MULTIHASH_NO_CODE UINT64_MAX
 
 struct mh_name {

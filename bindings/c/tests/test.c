@@ -273,7 +273,7 @@ static void check_encode(multihash_encoded result, uint64_t code, size_t out_len
 }
 
 /* Messages that messages.tsv of crates/vectors does not have: of encodings, of a prefix of a longer input, truncated
- * ones, and of what is no error. */
+ * ones, and of what is not an error. */
 static void check_messages(void)
 {
     static const uint8_t digest[300] = {0}, ok[] = {0, 1, 7};

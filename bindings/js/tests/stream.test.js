@@ -117,7 +117,7 @@ test('time and memory are linear in the items, and in the chunks of an item', as
   assert.ok(process.cpuUsage(start).user < 2e6); // quadratic time would be many times as long
 });
 
-test('a source that fails, and a chunk that is no bytes', async () => {
+test('a source that fails, and a chunk that is not bytes', async () => {
   const part = STREAM.slice(0, 20);
   const failing = async function* () {
     yield part;

@@ -62,7 +62,7 @@ export const KINDS = [
   (bytes) => Buffer.from(amid(bytes).buffer, 3, bytes.length),
 ];
 
-/** Chunks in the same memory, and empty ones, as sources may have them. What a generator returns is no chunk. */
+/** Chunks in the same memory, and empty ones, as sources may have them. What a generator returns is not a chunk. */
 export async function* chunks(...parts) {
   const memory = new Uint8Array(2048);
   for (const part of parts) {

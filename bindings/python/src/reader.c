@@ -245,7 +245,7 @@ static PyObject *reader_fail(PyObject *self, PyObject *error)
 {
     reader_object *reader = (reader_object *)self;
     reader->wanted = 0;
-    /* A call that was cancelled has lost nothing, and its error is no Exception. */
+    /* A call that was cancelled has lost nothing, and its error is not an Exception. */
     reader->has_lost = PyErr_GivenExceptionMatches(error, PyExc_Exception) &&
                        !PyErr_GivenExceptionMatches(error, PyExc_BlockingIOError);
     Py_RETURN_NONE;

@@ -69,7 +69,7 @@ class Hashes(unittest.TestCase):
         self.assertFalse(issubclass(UNSUPPORTED, MultihashError))
 
     def test_odd_functions(self):
-        """A function of a caller that fails, is false, or returns no digest of a multihash."""
+        """A function of a caller that fails, is false, or does not return a digest of a multihash."""
         for fails in ({"update": MultihashError(Status.OVERFLOW)}, {"digest": MultihashError(Status.OVERFLOW)}):
             self.assertRaises(MultihashError, hashes.digest, b"abc", 0x11, {0x11: function(**fails)})
             self.assertRaises(MultihashError, hashes.verify, Multihash(0x11, b""), b"abc", {0x11: function(**fails)})
@@ -114,7 +114,7 @@ class Hashes(unittest.TestCase):
         self.assertEqual(hashes.digest_file(file, "sha1"), hashes.digest(b"abc", "sha1"))
 
     def test_identity(self):
-        """It has at most 255 bytes: more are no content of a multihash."""
+        """It has at most 255 bytes: more are not content of a multihash."""
         for more in (bytes(300), memoryview(bytes(256)).cast("I")):
             self.assertIs(hashes.verify(Multihash(0, b"abc"), more), False)
             self.assertIs(hashes.verify_file(Multihash(0, b"abc"), io.BytesIO(more)), False)

@@ -152,7 +152,7 @@ class Main(unittest.TestCase):
             self.assertEqual(run(text, input="zz"), (0, SHOWN, ""))
         self.assertEqual(run("1205", input=HEX), failed("the input ends before the digest (0 of 5 bytes)"))
         self.assertEqual(run("", input=HEX), failed("the input is empty"))
-        for words, text in (("\udcff",), HEX), ((), "\udcff"):  # a byte that is no UTF-8
+        for words, text in (("\udcff",), HEX), ((), "\udcff"):  # a byte that is not UTF-8
             self.assertEqual(run(*words, input=text), failed("not hexadecimal"))
         self.assertRegex(run(HEX, HEX)[2], r"\[HEX\]")
 
