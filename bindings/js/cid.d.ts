@@ -1,4 +1,4 @@
-// Content identifiers (CIDs), as bytes and as texts.
+// Content identifiers (CIDs), as bytes and as strings.
 import type { Multihash, Status as MultihashStatus, Wide } from './index.js';
 
 /** The codecs that most CIDs have, by their names in the multicodec table. Any other number below 2^63 is a codec too. */

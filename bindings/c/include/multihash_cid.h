@@ -1,10 +1,10 @@
 /* SPDX-License-Identifier: MIT
  * Copyright (c) 2026 The Gilmekhus developers */
 
-/* Content identifiers (CIDs), as bytes and as texts. A CID is a version, a codec, which is the number of the content's
+/* Content identifiers (CIDs), as bytes and as strings. A CID is a version, a codec, which is the number of the content's
  * format, and a multihash. The bytes of version 1 are the varints of 1 and of the codec, and the multihash; those of
  * version 0 are the multihash alone, of SHA2-256 with 32 bytes, and the codec is MULTIHASH_CID_DAG_PB. Each CID has
- * exactly one encoding, and one text in each base: other texts, with capitals or padding, are rejected.
+ * exactly one encoding, and one string in each base: others, with capitals or padding, are rejected.
  *
  * The functions are in multihash_cid.c. They call only functions of multihash.h, allocate nothing, and use 2 kB of
  * stack. The preconditions of multihash.h hold for them too. They are tested, not checked for all inputs. */

@@ -1,8 +1,8 @@
-"""Content identifiers (CIDs), as bytes and as texts. The bases are tested, not proved.
+"""Content identifiers (CIDs), as bytes and as strings. The bases are tested, not proved.
 
 A CID is a version, a codec, which is the number of the content's format, and a multihash. The bytes of version 1 are the
 varints of 1 and of the codec, and the multihash. The bytes of version 0 are the multihash alone: SHA2-256, 32 bytes. Each
-CID has exactly one encoding, and one text in each base: other texts, with capitals or padding, are rejected.
+CID has exactly one encoding, and one string in each base: others, with capitals or padding, are rejected.
 
     from verified_multihash.cid import CID, CODECS
 

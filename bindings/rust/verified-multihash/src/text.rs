@@ -1,4 +1,4 @@
-//! Hexadecimal texts.
+//! Hexadecimal strings.
 use crate::{Error, Multihash};
 use core::{fmt, str};
 
