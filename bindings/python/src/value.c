@@ -164,7 +164,8 @@ static PyObject *multihash_fromhex(PyObject *class, PyObject *text)
 
 static PyMethodDef multihash_methods[] = {
     {"fromhex", multihash_fromhex, METH_O | METH_CLASS,
-     "fromhex($type, text, /)\n--\n\nDecodes the multihash whose encoding is all of a text in hexadecimal."},
+     "fromhex($type, text, /)\n--\n\nDecodes the multihash whose encoding is all of a text in hexadecimal.\n\n"
+     "Raises ValueError if the text is not hexadecimal, and what `decode` raises."},
     {"hex", multihash_hex, METH_NOARGS, "hex($self)\n--\n\nReturns the encoding in hexadecimal, as str does."},
     {"hexdigest", multihash_hexdigest, METH_NOARGS,
      "hexdigest($self)\n--\n\nReturns the digest in hexadecimal, as the objects of hashlib do."},

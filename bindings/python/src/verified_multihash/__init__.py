@@ -61,7 +61,10 @@ class Columns(NamedTuple):
 
 
 def head(data: Buffer) -> Head:
-    """Decodes the two varints at the start of an encoding, without the digest, which may be missing or too long."""
+    """Decodes the two varints at the start of an encoding, without the digest, which may be missing or too long.
+
+    Raises MultihashError if a varint is malformed or truncated.
+    """
     return Head._make(_core.head(data))
 
 

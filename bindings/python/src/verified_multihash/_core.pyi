@@ -38,7 +38,10 @@ class Multihash:
     def __replace__(self, /, *, code: int = ..., digest: Buffer = ...) -> Self: ...
     @classmethod
     def fromhex(cls, text: str, /) -> Self:
-        """Decodes the multihash whose encoding is all of a text in hexadecimal."""
+        """Decodes the multihash whose encoding is all of a text in hexadecimal.
+
+        Raises ValueError if the text is not hexadecimal, and what `decode` raises.
+        """
     def hex(self) -> str:
         """Returns the encoding in hexadecimal, as str does."""
     def hexdigest(self) -> str:

@@ -94,7 +94,10 @@ class CID:
 
     @classmethod
     def parse(cls, text: str) -> Self:
-        """Decodes a text: `b..` (base32), `f..` (base16), `z..` (base58btc), or `Qm..` (version 0)."""
+        """Decodes a string: `b..` (base32), `f..` (base16), `z..` (base58btc), or `Qm..` (version 0).
+
+        Raises CIDError for other strings.
+        """
         if not isinstance(text, str):
             raise TypeError(f"text must be a str (CID.decode takes bytes), not {type(text).__name__}")
         if not text:
@@ -118,7 +121,7 @@ class CID:
 
     @classmethod
     def decode(cls, data: Buffer) -> Self:
-        """Decodes `data`, which must be exactly one CID."""
+        """Decodes `data`, which must be exactly one CID. Raises CIDError for other input."""
         cid, length = cls.read(data)
         more = memoryview(data).nbytes - length
         if more == 0:
@@ -129,7 +132,10 @@ class CID:
 
     @classmethod
     def read(cls, data: Buffer) -> tuple[Self, int]:
-        """Decodes the CID at the start of `data`. Returns it and the length of its encoding."""
+        """Decodes the CID at the start of `data`. Returns it and the length of its encoding.
+
+        More bytes may follow. Raises CIDError if `data` does not start with a CID.
+        """
         first = _first_bytes(data)
         version, codec, start, part = 0, CODECS["dag-pb"], 0, "version"
         try:
@@ -147,7 +153,7 @@ class CID:
         return cls(version, codec, multihash), start + length
 
     def text(self, base: str = "") -> str:
-        """Returns the text in the base of a prefix: `b` is base32, `f` base16, `z` base58btc, which has no prefix in
+        """Returns the string in the base of a prefix: `b` is base32, `f` base16, `z` base58btc, which has no prefix in
         version 0. Version 0 has no other base."""
         base = base or ("b" if self.version else "z")
         if base not in _BASES or (self.version == 0 and base != "z"):
