@@ -1,7 +1,7 @@
 //! Readers and writers: how often each is called, borrowed or not; that an error is passed on unchanged, with no call
 //! after it; and the bytes in a slice, of which no contract states more than their number.
 use crate::expect::{FULL, check, check_eq, expect_ok, has_text, is_passed_on};
-use fakes::{CountingReader, CountingWriter, Cuts, Drip, FailAt, FailWrite, Silent, OUT_OF_MEMORY};
+use fakes::{CountingReader, CountingWriter, Cuts, Drip, FailAt, FailWrite, OUT_OF_MEMORY, Silent};
 use form::{Block, Form, FormError, Stream};
 use multihash::list::{read_list, write_list};
 use multihash::no_std_io::{self, Read, Write};

@@ -76,10 +76,7 @@ pub fn print_lists(page: &mut Page) {
 
 fn print_exact_reads(page: &mut Page) {
     let (mut left, mut four, mut three) = ([1u8, 2, 3].as_slice(), [9; 4], [0; 3]);
-    let (mut slow, mut others) = (
-        Cuts::new(&[1, 2, 3], 2),
-        Cuts::new(&[1, 2, 3], 2),
-    );
+    let (mut slow, mut others) = (Cuts::new(&[1, 2, 3], 2), Cuts::new(&[1, 2, 3], 2));
     let short = Outcome(left.read_exact(&mut four));
     let cut_short = Outcome(slow.read_exact(&mut [0; 4]));
     let cut = Outcome(others.read_exact(&mut three));
