@@ -259,16 +259,17 @@ multihash_decoded multihash_scale_decode(const uint8_t *bytes, size_t bytes_leng
 multihash_encoded multihash_scale_encode(uint64_t code, const uint8_t *digest, size_t digest_length, uint8_t *out,
                                          size_t out_length)
 {
-    if (digest_length > MULTIHASH_DIGEST_MAX) {
-        return (multihash_encoded){.status = MULTIHASH_INVALID_SIZE, .size = digest_length};
+    multihash_encoded result = multihash_encoded_length(code, digest_length);
+    if (result.status != MULTIHASH_OK) return result;
+    result.length = 9 + digest_length;
+    if (result.length > out_length) {
+        result.status = MULTIHASH_NO_ROOM;
+        return result;
     }
-    if (code > NUMBER_MAX) return (multihash_encoded){.status = MULTIHASH_INVALID_CODE};
-    const size_t length = 9 + digest_length;
-    if (length > out_length) return (multihash_encoded){.status = MULTIHASH_NO_ROOM, .length = length};
     put_u64(out, code);
     out[8] = (uint8_t)digest_length;
     if (digest_length > 0) memcpy(out + 9, digest, digest_length);
-    return (multihash_encoded){.status = MULTIHASH_OK, .length = length};
+    return result;
 }
 
 /* ---- Comparing, and about the library */
