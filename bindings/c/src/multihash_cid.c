@@ -140,31 +140,41 @@ static size_t convert(const uint8_t *from, size_t from_length, unsigned from_bas
     return length;
 }
 
+/* Decodes the digits of a text, which start at an index. `bytes` has TEXT_MAX bytes. Returns the status. */
+static multihash_status decode_digits(const char *text, size_t text_length, size_t start, char base, uint8_t *bytes,
+                                      size_t *bytes_length)
+{
+    uint8_t values[TEXT_MAX];
+    const size_t length = text_length - start;
+    const char *const digits = digits_of(base);
+    if (digits == NULL) return MULTIHASH_CID_UNKNOWN_BASE;
+    for (size_t i = 0; i < length && start + i < TEXT_MAX; i++) {
+        const int value = value_of(digits, text[start + i]);
+        if (value < 0) return MULTIHASH_CID_INVALID_DIGIT;
+        values[i] = (uint8_t)value;
+    }
+    if (text_length > TEXT_MAX) return MULTIHASH_CID_TOO_LONG;
+    if (base == 'z') {
+        *bytes_length = convert(values, length, 58, bytes, 256);
+        return MULTIHASH_OK;
+    }
+    const unsigned bits = base == 'b' ? 5 : 4;
+    const size_t trailing = length * bits % 8; /* bits after the last whole byte */
+    *bytes_length = length * bits / 8;
+    regroup(values, length, bits, bytes, 8);
+    const int has_rest = trailing >= bits || (trailing > 0 && bytes[*bytes_length] != 0);
+    return has_rest ? MULTIHASH_CID_TRAILING_BITS : MULTIHASH_OK;
+}
+
 multihash_cid multihash_cid_parse(const char *text, size_t text_length, uint8_t *out, size_t out_length)
 {
-    uint8_t values[TEXT_MAX], bytes[TEXT_MAX];
+    uint8_t bytes[TEXT_MAX];
     size_t bytes_length;
     if (text_length == 0) return failed(MULTIHASH_INSUFFICIENT);
     const int has_prefix = !(text_length > 1 && text[0] == 'Q' && text[1] == 'm');
-    const char base = has_prefix ? text[0] : 'z';
-    const char *const digits = digits_of(base);
-    if (digits == NULL) return failed(MULTIHASH_CID_UNKNOWN_BASE);
-    const size_t start = has_prefix ? 1 : 0, length = text_length - start;
-    for (size_t i = 0; i < length && start + i < TEXT_MAX; i++) {
-        const int value = value_of(digits, text[start + i]);
-        if (value < 0) return failed(MULTIHASH_CID_INVALID_DIGIT);
-        values[i] = (uint8_t)value;
-    }
-    if (text_length > TEXT_MAX) return failed(MULTIHASH_CID_TOO_LONG);
-    if (base == 'z') {
-        bytes_length = convert(values, length, 58, bytes, 256);
-    } else {
-        const unsigned bits = base == 'b' ? 5 : 4;
-        const size_t trailing = length * bits % 8; /* bits after the last whole byte */
-        bytes_length = length * bits / 8;
-        regroup(values, length, bits, bytes, 8);
-        if (trailing >= bits || (trailing > 0 && bytes[bytes_length] != 0)) return failed(MULTIHASH_CID_TRAILING_BITS);
-    }
+    const multihash_status status =
+        decode_digits(text, text_length, has_prefix ? 1 : 0, has_prefix ? text[0] : 'z', bytes, &bytes_length);
+    if (status != MULTIHASH_OK) return failed(status);
     if (is_version_0(bytes, bytes_length) == has_prefix) return failed(MULTIHASH_CID_WRONG_PREFIX);
     const multihash_cid cid = multihash_cid_from_bytes(bytes, bytes_length);
     if (cid.status != MULTIHASH_OK) return cid;
