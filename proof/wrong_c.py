@@ -84,6 +84,7 @@ EDITS = (
     ("encode", "if (digest_length > 0) memcpy(out, digest", "memcpy(out, digest", "outside digest"),
     ("compare", "    if (left_digest_length == 0) return 0;", "", "outside left_digest"),
     ("compare", "memcmp(left_digest, right_digest, ", "memcmp(right_digest, left_digest, ", "wrong result: "),
+    ("status_text", 'return "the buffer is too', 'return "a buffer is too', "wrong result: "),
     ("is_incomplete", "status == MULTIHASH_INSUFFICIENT ||", "status == MULTIHASH_OVERFLOW ||", "wrong result: "),
     *(("read_varint", DECLARED, f"    {code}\n{DECLARED}", reason) for code, reason in INSERTED),
     # what another compiler or machine may take otherwise, in other places
