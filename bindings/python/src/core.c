@@ -288,7 +288,7 @@ static PyObject *compare(PyObject *module, PyObject *const *given, Py_ssize_t co
 
 /* ---- the module */
 
-#define WITH_NAMES(function) (PyCFunction)(void (*)(void))function, METH_FASTCALL | METH_KEYWORDS
+#define WITH_NAMES(function) (PyCFunction)(void (*)(void))(function), METH_FASTCALL | METH_KEYWORDS
 
 static PyMethodDef functions[] = {
     {"decode", WITH_NAMES(decode),
@@ -388,15 +388,15 @@ static PyModuleDef_Slot slots[] = {
 };
 
 static struct PyModuleDef definition = {
-    PyModuleDef_HEAD_INIT,
-    "_core",
-    "The library for C.",
-    sizeof(state),
-    functions,
-    slots,
-    visit_state,
-    clear_state,
-    free_state,
+    .m_base = PyModuleDef_HEAD_INIT,
+    .m_name = "_core",
+    .m_doc = "The library for C.",
+    .m_size = sizeof(state),
+    .m_methods = functions,
+    .m_slots = slots,
+    .m_traverse = visit_state,
+    .m_clear = clear_state,
+    .m_free = free_state,
 };
 
 PyMODINIT_FUNC PyInit__core(void)
