@@ -149,8 +149,8 @@ static PyObject *head(PyObject *module, PyObject *data)
         unsigned long long code = found.code, length = found.digest_length;
         result = Py_BuildValue("KKn", code, length, (Py_ssize_t)found.consumed);
     } else {
-        result = decoded(PyModule_GetState(module), &from, multihash_read(from.bytes, from.length),
-                         MULTIHASH_DIGEST_MAX);
+        result =
+            decoded(PyModule_GetState(module), &from, multihash_read(from.bytes, from.length), MULTIHASH_DIGEST_MAX);
     }
     Py_DECREF(from.owner);
     return result;
@@ -340,8 +340,7 @@ static int fill_module(PyObject *module)
     PyObject *fields = Py_BuildValue("ss", "code", "digest");
     int is_filled = file_reader != NULL && fields != NULL &&
                     PyObject_SetAttrString((PyObject *)own->type, "__match_args__", fields) == 0 &&
-                    PyModule_AddType(module, own->type) == 0 &&
-                    PyModule_AddType(module, (PyTypeObject *)reader) == 0 &&
+                    PyModule_AddType(module, own->type) == 0 && PyModule_AddType(module, (PyTypeObject *)reader) == 0 &&
                     PyModule_AddType(module, (PyTypeObject *)file_reader) == 0 &&
                     PyModule_AddIntConstant(module, "DIGEST_MAX", MULTIHASH_DIGEST_MAX) == 0 &&
                     PyModule_AddIntConstant(module, "HEAD_MAX", MULTIHASH_HEAD_MAX) == 0 &&

@@ -17,7 +17,7 @@ typedef struct reader_object {
     size_t kept;    /* the number of bytes read of the next item's body */
     unsigned long long consumed; /* the number of bytes of the items returned so far */
     unsigned long long count;    /* the number of these items */
-    multihash_head head;  /* what `bytes` start with; the code of a frame is 0 */
+    multihash_head head;         /* what `bytes` start with; the code of a frame is 0 */
     int is_framed;               /* whether the items are frames */
     int has_lost;                /* whether the file may have lost bytes */
     uint8_t bytes[MULTIHASH_HEAD_MAX];
@@ -267,8 +267,10 @@ static PyObject *reader_rest(PyObject *self, void *unused)
 }
 
 static PyMethodDef reader_methods[] = {
-    {"_begin", reader_begin, METH_NOARGS, NULL}, {"_end", reader_end, METH_O, NULL},
-    {"_fail", reader_fail, METH_O, NULL},        {"_take", reader_take, METH_NOARGS, NULL},
+    {"_begin", reader_begin, METH_NOARGS, NULL},
+    {"_end", reader_end, METH_O, NULL},
+    {"_fail", reader_fail, METH_O, NULL},
+    {"_take", reader_take, METH_NOARGS, NULL},
     {"__class_getitem__", Py_GenericAlias, METH_O | METH_CLASS, NULL},
     {NULL, NULL, 0, NULL},
 };
