@@ -1,5 +1,5 @@
 #!/usr/bin/env bash
-# Checks the scripts of the repository with shellcheck, black, pyflakes, mypy and tsc, and the library for C with
+# Checks the scripts of the repository with shellcheck, black, pyflakes, mypy and tsc, and the source in C with
 # clang-format, and compares the generated files with what tools/generate makes.
 # shellcheck source=checks/lib/tap.sh
 . "$(dirname "$0")/lib/tap.sh"
@@ -13,7 +13,7 @@ python=$({ listed '*.py'; scripts '^#!.*python'; } | sort -u)
 # All but the tests of the package for Python have types.
 typed=$(grep -v '^bindings/python/tests/' <<< "$python")
 
-c=$(listed bindings/c | grep -E '\.([ch]|[ch]pp)$' | grep -v _names) # the names are generated
+c=$(listed bindings/c bindings/python/src | grep -E '\.([ch]|[ch]pp)$' | grep -v _names) # the names are generated
 
 # Errors of syntax, of names that are unknown or not used, and of code that is not reached: JavaScript states no types.
 names() {
