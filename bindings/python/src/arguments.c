@@ -30,62 +30,62 @@ static void rename_error(const char *name, const char *expected, PyObject *argum
 
 int get_buffer(PyObject *argument, const char *name, int flags, Py_buffer *view)
 {
-    int found = PyObject_GetBuffer(argument, view, flags);
-    if (found < 0) rename_error(name, "a bytes-like object", argument); /* a number, a text or a list */
-    return found;
+    int status = PyObject_GetBuffer(argument, view, flags);
+    if (status < 0) rename_error(name, "a bytes-like object", argument); /* a number, a text or a list */
+    return status;
 }
 
-/* Copies the first `most` bytes of a buffer, or as many items of one with gaps. */
-static PyObject *copied(PyObject *argument, const Py_buffer *view, Py_ssize_t most)
+/* Copies the first `limit` bytes of a buffer, or as many items of one with gaps. */
+static PyObject *copied(PyObject *argument, const Py_buffer *view, Py_ssize_t limit)
 {
-    Py_ssize_t length = view->len < most ? view->len : most;
+    Py_ssize_t length = view->len < limit ? view->len : limit;
     if (PyBuffer_IsContiguous(view, 'C')) return PyBytes_FromStringAndSize(view->buf, length);
     PyObject *all = PyMemoryView_FromObject(argument);
-    PyObject *front = all == NULL ? NULL : PySequence_GetSlice(all, 0, most);
+    PyObject *front = all == NULL ? NULL : PySequence_GetSlice(all, 0, limit);
     PyObject *bytes = front == NULL ? NULL : PyBytes_FromObject(front);
     Py_XDECREF(all);
     Py_XDECREF(front);
     return bytes;
 }
 
-int get_input(PyObject *argument, const char *name, Py_ssize_t most, input *to)
+int get_input(PyObject *argument, const char *name, Py_ssize_t limit, input *to)
 {
     Py_buffer view;
-    Py_ssize_t whole = -1;
+    Py_ssize_t whole_length = -1;
     if (PyBytes_CheckExact(argument)) {
         to->owner = Py_NewRef(argument);
     } else {
         if (get_buffer(argument, name, PyBUF_FULL_RO, &view) < 0) return -1;
-        whole = view.len;
-        to->owner = copied(argument, &view, most);
+        whole_length = view.len;
+        to->owner = copied(argument, &view, limit);
         PyBuffer_Release(&view);
     }
     if (to->owner == NULL) return -1;
     to->bytes = (const uint8_t *)PyBytes_AsString(to->owner);
     to->length = (size_t)PyBytes_Size(to->owner);
-    to->whole = whole < 0 ? to->length : (size_t)whole;
+    to->whole_length = whole_length < 0 ? to->length : (size_t)whole_length;
     return 0;
 }
 
 /* CPython's parser, which takes longer, parses arguments with names and wrong ones. */
-int get_arguments(PyObject *const *given, Py_ssize_t count, PyObject *named, const char *format, char **names,
+int get_arguments(PyObject *const *args, Py_ssize_t nargs, PyObject *kwnames, const char *format, char **keywords,
                   PyObject **first, PyObject **second)
 {
-    Py_ssize_t most = second == NULL ? 1 : 2, least = format[1] == '|' ? 1 : most;
-    if (named == NULL && least <= count && count <= most) {
-        *first = given[0];
-        if (count == 2) *second = given[1];
+    Py_ssize_t max_count = second == NULL ? 1 : 2, min_count = format[1] == '|' ? 1 : max_count;
+    if (kwnames == NULL && min_count <= nargs && nargs <= max_count) {
+        *first = args[0];
+        if (nargs == 2) *second = args[1];
         return 0;
     }
-    PyObject *tuple = PyTuple_New(count), *others = PyDict_New();
-    int is_right = tuple != NULL && others != NULL;
-    for (Py_ssize_t at = 0; is_right && at < count; at++) PyTuple_SetItem(tuple, at, Py_NewRef(given[at]));
-    for (Py_ssize_t at = 0; is_right && named != NULL && at < PyTuple_Size(named); at++) {
-        is_right = PyDict_SetItem(others, PyTuple_GetItem(named, at), given[count + at]) == 0;
+    PyObject *tuple = PyTuple_New(nargs), *kwargs = PyDict_New();
+    int is_right = tuple != NULL && kwargs != NULL;
+    for (Py_ssize_t at = 0; is_right && at < nargs; at++) PyTuple_SetItem(tuple, at, Py_NewRef(args[at]));
+    for (Py_ssize_t at = 0; is_right && kwnames != NULL && at < PyTuple_Size(kwnames); at++) {
+        is_right = PyDict_SetItem(kwargs, PyTuple_GetItem(kwnames, at), args[nargs + at]) == 0;
     }
-    is_right = is_right && PyArg_ParseTupleAndKeywords(tuple, others, format, names, first, second);
+    is_right = is_right && PyArg_ParseTupleAndKeywords(tuple, kwargs, format, keywords, first, second);
     Py_XDECREF(tuple);
-    Py_XDECREF(others);
+    Py_XDECREF(kwargs);
     return is_right ? 0 : -1;
 }
 

@@ -13,27 +13,27 @@ PyTypeObject *type_in_c(PyTypeObject *type)
     return type;
 }
 
-const state *state_of(PyTypeObject *type)
+const module_state *state_of(PyTypeObject *type)
 {
     return PyType_GetModuleState(type_in_c(type));
 }
 
 /* Raises a MultihashError with these arguments, a tuple. It steals the reference, which may be null. */
-static PyObject *raise_with(const state *own, PyObject *arguments)
+static PyObject *raise_with(const module_state *state, PyObject *arguments)
 {
-    if (arguments != NULL) PyErr_SetObject(own->error, arguments);
+    if (arguments != NULL) PyErr_SetObject(state->error, arguments);
     Py_XDECREF(arguments);
     return NULL;
 }
 
-PyObject *raise_error(const state *own, multihash_status status, uint64_t size, uint64_t code, size_t consumed,
+PyObject *raise_error(const module_state *state, multihash_status status, uint64_t size, uint64_t code, size_t consumed,
                       const char *text)
 {
     unsigned long long numbers[] = {size, code, consumed};
-    return raise_with(own, Py_BuildValue("IKKKs", status, numbers[0], numbers[1], numbers[2], text));
+    return raise_with(state, Py_BuildValue("IKKKs", status, numbers[0], numbers[1], numbers[2], text));
 }
 
-PyObject *encoding_error(const state *own, multihash_status status, PyObject *length, PyObject *code)
+PyObject *encoding_error(const module_state *state, multihash_status status, PyObject *length, PyObject *code)
 {
     int is_size = status == MULTIHASH_INVALID_SIZE;
     PyObject *number = length == NULL ? NULL : PyNumber_Index(is_size ? length : code), *arguments = NULL;
@@ -47,7 +47,7 @@ PyObject *encoding_error(const state *own, multihash_status status, PyObject *le
         arguments = Py_BuildValue("IiOis", status, 0, number, 0, multihash_status_text(status));
     }
     Py_DECREF(number);
-    return raise_with(own, arguments);
+    return raise_with(state, arguments);
 }
 
 void write_varint_message(char *text, size_t text_size, multihash_status status, size_t length)
@@ -66,110 +66,111 @@ void write_varint_message(char *text, size_t text_size, multihash_status status,
 /* For the package: the class of errors. */
 static PyObject *set_error(PyObject *module, PyObject *class)
 {
-    state *own = PyModule_GetState(module);
-    PyObject *old = own->error;
-    own->error = Py_NewRef(class);
+    module_state *state = PyModule_GetState(module);
+    PyObject *old = state->error;
+    state->error = Py_NewRef(class);
     Py_DECREF(old);
     Py_RETURN_NONE;
 }
 
 /* ---- decoding */
 
-PyObject *decoded(const state *own, const input *from, multihash_decoded found, size_t limit)
+PyObject *decoded(const module_state *state, const input *from, multihash_decoded result, size_t limit)
 {
     char text[MULTIHASH_MESSAGE_SIZE];
-    if (found.status == MULTIHASH_OK) {
-        const char *digest = (const char *)from->bytes + found.digest_offset;
-        return new_multihash(own->type, found.code, PyBytes_FromStringAndSize(digest, (Py_ssize_t)found.digest_length));
+    if (result.status == MULTIHASH_OK) {
+        const char *digest = (const char *)from->bytes + result.digest_offset;
+        return new_multihash(state->type, result.code,
+                             PyBytes_FromStringAndSize(digest, (Py_ssize_t)result.digest_length));
     }
-    multihash_message(text, sizeof text, from->bytes, from->whole, limit);
-    return raise_error(own, found.status, found.size, found.code, found.consumed, text);
+    multihash_message(text, sizeof text, from->bytes, from->whole_length, limit);
+    return raise_error(state, result.status, result.size, result.code, result.consumed, text);
 }
 
-PyObject *decoded_whole(const state *own, PyObject *data)
+PyObject *decoded_whole(const module_state *state, PyObject *data)
 {
     input from;
     if (get_input(data, "data", MULTIHASH_LENGTH_MAX, &from) < 0) return NULL;
-    multihash_decoded found = multihash_from_prefix(from.bytes, from.length, from.whole);
-    PyObject *multihash = decoded(own, &from, found, MULTIHASH_DIGEST_MAX);
+    multihash_decoded result = multihash_from_prefix(from.bytes, from.length, from.whole_length);
+    PyObject *multihash = decoded(state, &from, result, MULTIHASH_DIGEST_MAX);
     Py_DECREF(from.owner);
     return multihash;
 }
 
 static char *data_alone[] = {"data", NULL};
 
-static PyObject *decode(PyObject *module, PyObject *const *given, Py_ssize_t count, PyObject *named)
+static PyObject *decode(PyObject *module, PyObject *const *args, Py_ssize_t nargs, PyObject *kwnames)
 {
     PyObject *data;
-    if (get_arguments(given, count, named, "O:decode", data_alone, &data, NULL) < 0) return NULL;
+    if (get_arguments(args, nargs, kwnames, "O:decode", data_alone, &data, NULL) < 0) return NULL;
     return decoded_whole(PyModule_GetState(module), data);
 }
 
-static PyObject *read_front(PyObject *module, PyObject *const *given, Py_ssize_t count, PyObject *named)
+static PyObject *read_front(PyObject *module, PyObject *const *args, Py_ssize_t nargs, PyObject *kwnames)
 {
-    static char *names[] = {"data", "limit", NULL};
-    PyObject *data, *most = NULL;
+    static char *keywords[] = {"data", "limit", NULL};
+    PyObject *data, *limit_argument = NULL;
     size_t limit = MULTIHASH_DIGEST_MAX;
     input from;
-    if (get_arguments(given, count, named, "O|O:read", names, &data, &most) < 0) return NULL;
-    if (most != NULL && get_size(most, "limit", &limit) < 0) return NULL;
+    if (get_arguments(args, nargs, kwnames, "O|O:read", keywords, &data, &limit_argument) < 0) return NULL;
+    if (limit_argument != NULL && get_size(limit_argument, "limit", &limit) < 0) return NULL;
     if (get_input(data, "data", MULTIHASH_LENGTH_MAX, &from) < 0) return NULL;
-    multihash_decoded found = multihash_read_limit(from.bytes, from.length, limit);
-    PyObject *multihash = decoded(PyModule_GetState(module), &from, found, limit);
+    multihash_decoded result = multihash_read_limit(from.bytes, from.length, limit);
+    PyObject *multihash = decoded(PyModule_GetState(module), &from, result, limit);
     Py_DECREF(from.owner);
-    return multihash == NULL ? NULL : Py_BuildValue("Nn", multihash, (Py_ssize_t)found.consumed);
+    return multihash == NULL ? NULL : Py_BuildValue("Nn", multihash, (Py_ssize_t)result.consumed);
 }
 
-static PyObject *scale_decode(PyObject *module, PyObject *const *given, Py_ssize_t count, PyObject *named)
+static PyObject *scale_decode(PyObject *module, PyObject *const *args, Py_ssize_t nargs, PyObject *kwnames)
 {
-    const state *own = PyModule_GetState(module);
+    const module_state *state = PyModule_GetState(module);
     input from;
     PyObject *data, *multihash;
-    if (get_arguments(given, count, named, "O:scale_decode", data_alone, &data, NULL) < 0) return NULL;
+    if (get_arguments(args, nargs, kwnames, "O:scale_decode", data_alone, &data, NULL) < 0) return NULL;
     if (get_input(data, "data", MULTIHASH_SCALE_LENGTH_MAX, &from) < 0) return NULL;
-    multihash_decoded found = multihash_scale_decode(from.bytes, from.length);
-    if (found.status == MULTIHASH_OK) {
-        multihash = decoded(own, &from, found, MULTIHASH_DIGEST_MAX);
+    multihash_decoded result = multihash_scale_decode(from.bytes, from.length);
+    if (result.status == MULTIHASH_OK) {
+        multihash = decoded(state, &from, result, MULTIHASH_DIGEST_MAX);
     } else {
         char text[MULTIHASH_MESSAGE_SIZE]; /* it depends on no more than was copied */
         multihash_scale_message(text, sizeof text, from.bytes, from.length);
-        multihash = raise_error(own, found.status, found.size, found.code, found.consumed, text);
+        multihash = raise_error(state, result.status, result.size, result.code, result.consumed, text);
     }
     Py_DECREF(from.owner);
-    return multihash == NULL ? NULL : Py_BuildValue("Nn", multihash, (Py_ssize_t)found.consumed);
+    return multihash == NULL ? NULL : Py_BuildValue("Nn", multihash, (Py_ssize_t)result.consumed);
 }
 
 static PyObject *head(PyObject *module, PyObject *data)
 {
     input from;
-    PyObject *result;
+    PyObject *fields;
     if (get_input(data, "data", MULTIHASH_HEAD_MAX, &from) < 0) return NULL;
-    multihash_head found = multihash_read_head(from.bytes, from.length);
-    if (found.status == MULTIHASH_OK) {
-        unsigned long long code = found.code, length = found.digest_length;
-        result = Py_BuildValue("KKn", code, length, (Py_ssize_t)found.consumed);
+    multihash_head result = multihash_read_head(from.bytes, from.length);
+    if (result.status == MULTIHASH_OK) {
+        unsigned long long code = result.code, length = result.digest_length;
+        fields = Py_BuildValue("KKn", code, length, (Py_ssize_t)result.consumed);
     } else {
-        result =
+        fields =
             decoded(PyModule_GetState(module), &from, multihash_read(from.bytes, from.length), MULTIHASH_DIGEST_MAX);
     }
     Py_DECREF(from.owner);
-    return result;
+    return fields;
 }
 
-static PyObject *read_varint(PyObject *module, PyObject *const *given, Py_ssize_t count, PyObject *named)
+static PyObject *read_varint(PyObject *module, PyObject *const *args, Py_ssize_t nargs, PyObject *kwnames)
 {
     input from;
     char text[MULTIHASH_MESSAGE_SIZE];
     PyObject *data;
-    if (get_arguments(given, count, named, "O:read_varint", data_alone, &data, NULL) < 0) return NULL;
+    if (get_arguments(args, nargs, kwnames, "O:read_varint", data_alone, &data, NULL) < 0) return NULL;
     if (get_input(data, "data", MULTIHASH_VARINT_LENGTH_MAX, &from) < 0) return NULL;
-    multihash_varint found = multihash_read_varint(from.bytes, from.length);
+    multihash_varint result = multihash_read_varint(from.bytes, from.length);
     Py_DECREF(from.owner);
-    if (found.status == MULTIHASH_OK) {
-        return Py_BuildValue("Kn", (unsigned long long)found.value, (Py_ssize_t)found.length);
+    if (result.status == MULTIHASH_OK) {
+        return Py_BuildValue("Kn", (unsigned long long)result.value, (Py_ssize_t)result.length);
     }
-    write_varint_message(text, sizeof text, found.status, from.whole);
-    return raise_error(PyModule_GetState(module), found.status, 0, 0, 0, text);
+    write_varint_message(text, sizeof text, result.status, from.whole_length);
+    return raise_error(PyModule_GetState(module), result.status, 0, 0, 0, text);
 }
 
 /* Decodes the multihashes of a buffer into `items`, a bytearray. Returns the number of bytes consumed, or -1 with an
@@ -190,14 +191,14 @@ static Py_ssize_t read_items(const uint8_t *bytes, size_t length, PyObject *item
 }
 
 /* The error of bytes that do not start with a multihash, or None if there are no bytes. */
-static PyObject *error_of(const state *own, const uint8_t *bytes, size_t length)
+static PyObject *error_of(const module_state *state, const uint8_t *bytes, size_t length)
 {
     char text[MULTIHASH_MESSAGE_SIZE];
-    multihash_decoded found = multihash_read(bytes, length);
-    unsigned long long size = found.size, consumed = found.consumed;
+    multihash_decoded result = multihash_read(bytes, length);
+    unsigned long long size = result.size, consumed = result.consumed;
     if (length == 0) Py_RETURN_NONE;
     multihash_message(text, sizeof text, bytes, length, MULTIHASH_DIGEST_MAX);
-    return PyObject_CallFunction(own->error, "IKiKs", found.status, size, 0, consumed, text);
+    return PyObject_CallFunction(state->error, "IKiKs", result.status, size, 0, consumed, text);
 }
 
 static PyObject *read_many(PyObject *module, PyObject *data)
@@ -218,70 +219,71 @@ static PyObject *read_many(PyObject *module, PyObject *data)
 
 typedef multihash_encoded encoder(uint64_t, const uint8_t *, size_t, uint8_t *, size_t);
 
-static PyObject *encoded(PyObject *module, encoder *function, const char *format, PyObject *const *given,
-                         Py_ssize_t count, PyObject *named)
+static PyObject *encoded(PyObject *module, encoder *function, const char *format, PyObject *const *args,
+                         Py_ssize_t nargs, PyObject *kwnames)
 {
-    static char *names[] = {"code", "digest", NULL};
+    static char *keywords[] = {"code", "digest", NULL};
     uint8_t out[MULTIHASH_LENGTH_MAX];
     PyObject *code, *bytes;
     uint64_t number;
     input digest;
-    if (get_arguments(given, count, named, format, names, &code, &bytes) < 0) return NULL;
+    if (get_arguments(args, nargs, kwnames, format, keywords, &code, &bytes) < 0) return NULL;
     if (get_number(code, "code", &number) < 0) return NULL;
     if (get_input(bytes, "digest", MULTIHASH_DIGEST_MAX, &digest) < 0) return NULL;
     /* A longer digest may not have been copied whole. */
-    multihash_encoded made = digest.whole > MULTIHASH_DIGEST_MAX
-                                 ? multihash_encoded_length(number, digest.whole)
-                                 : function(number, digest.bytes, digest.whole, out, sizeof out);
+    multihash_encoded result = digest.whole_length > MULTIHASH_DIGEST_MAX
+                                   ? multihash_encoded_length(number, digest.whole_length)
+                                   : function(number, digest.bytes, digest.whole_length, out, sizeof out);
     Py_DECREF(digest.owner);
-    if (made.status == MULTIHASH_OK) return PyBytes_FromStringAndSize((const char *)out, (Py_ssize_t)made.length);
-    return encoding_error(PyModule_GetState(module), made.status, PyLong_FromSize_t(digest.whole), code);
+    if (result.status == MULTIHASH_OK) return PyBytes_FromStringAndSize((const char *)out, (Py_ssize_t)result.length);
+    return encoding_error(PyModule_GetState(module), result.status, PyLong_FromSize_t(digest.whole_length), code);
 }
 
-static PyObject *encode(PyObject *module, PyObject *const *given, Py_ssize_t count, PyObject *named)
+static PyObject *encode(PyObject *module, PyObject *const *args, Py_ssize_t nargs, PyObject *kwnames)
 {
-    return encoded(module, multihash_encode, "OO:encode", given, count, named);
+    return encoded(module, multihash_encode, "OO:encode", args, nargs, kwnames);
 }
 
-static PyObject *scale_encode(PyObject *module, PyObject *const *given, Py_ssize_t count, PyObject *named)
+static PyObject *scale_encode(PyObject *module, PyObject *const *args, Py_ssize_t nargs, PyObject *kwnames)
 {
-    return encoded(module, multihash_scale_encode, "OO:scale_encode", given, count, named);
+    return encoded(module, multihash_scale_encode, "OO:scale_encode", args, nargs, kwnames);
 }
 
-static PyObject *encoded_length(PyObject *module, PyObject *const *given, Py_ssize_t count, PyObject *named)
+static PyObject *encoded_length(PyObject *module, PyObject *const *args, Py_ssize_t nargs, PyObject *kwnames)
 {
-    static char *names[] = {"code", "digest_length", NULL};
+    static char *keywords[] = {"code", "digest_length", NULL};
     PyObject *code, *length;
     uint64_t number;
     size_t size;
-    if (get_arguments(given, count, named, "OO:encoded_length", names, &code, &length) < 0) return NULL;
+    if (get_arguments(args, nargs, kwnames, "OO:encoded_length", keywords, &code, &length) < 0) return NULL;
     if (get_number(code, "code", &number) < 0 || get_size(length, "digest_length", &size) < 0) return NULL;
-    multihash_encoded made = multihash_encoded_length(number, size);
-    if (made.status == MULTIHASH_OK) return PyLong_FromSize_t(made.length);
-    return encoding_error(PyModule_GetState(module), made.status, Py_NewRef(length), code);
+    multihash_encoded result = multihash_encoded_length(number, size);
+    if (result.status == MULTIHASH_OK) return PyLong_FromSize_t(result.length);
+    return encoding_error(PyModule_GetState(module), result.status, Py_NewRef(length), code);
 }
 
-static PyObject *encode_varint(PyObject *module, PyObject *const *given, Py_ssize_t count, PyObject *named)
+static PyObject *encode_varint(PyObject *module, PyObject *const *args, Py_ssize_t nargs, PyObject *kwnames)
 {
-    static char *names[] = {"value", NULL};
+    static char *keywords[] = {"value", NULL};
     uint8_t out[MULTIHASH_VARINT_LENGTH_MAX];
     PyObject *value;
     uint64_t number;
-    if (get_arguments(given, count, named, "O:encode_varint", names, &value, NULL) < 0) return NULL;
+    if (get_arguments(args, nargs, kwnames, "O:encode_varint", keywords, &value, NULL) < 0) return NULL;
     if (get_number(value, "value", &number) < 0) return NULL;
-    multihash_encoded made = multihash_write_varint(number, out, sizeof out);
-    if (made.status == MULTIHASH_OK) return PyBytes_FromStringAndSize((const char *)out, (Py_ssize_t)made.length);
-    return raise_error(PyModule_GetState(module), made.status, 0, 0, 0, "the value is 2^63 or more");
+    multihash_encoded result = multihash_write_varint(number, out, sizeof out);
+    if (result.status == MULTIHASH_OK) return PyBytes_FromStringAndSize((const char *)out, (Py_ssize_t)result.length);
+    return raise_error(PyModule_GetState(module), result.status, 0, 0, 0, "the value is 2^63 or more");
 }
 
-static PyObject *compare(PyObject *module, PyObject *const *given, Py_ssize_t count, PyObject *named)
+static PyObject *compare(PyObject *module, PyObject *const *args, Py_ssize_t nargs, PyObject *kwnames)
 {
-    static char *names[] = {"left", "right", NULL};
-    const state *own = PyModule_GetState(module);
+    static char *keywords[] = {"left", "right", NULL};
+    const module_state *state = PyModule_GetState(module);
     PyObject *sides[2];
-    if (get_arguments(given, count, named, "OO:compare", names, &sides[0], &sides[1]) < 0) return NULL;
+    if (get_arguments(args, nargs, kwnames, "OO:compare", keywords, &sides[0], &sides[1]) < 0) return NULL;
     for (int side = 0; side < 2; side++) {
-        if (!PyObject_TypeCheck(sides[side], own->type)) return wrong_type(names[side], "a Multihash", sides[side]);
+        if (!PyObject_TypeCheck(sides[side], state->type))
+            return wrong_type(keywords[side], "a Multihash", sides[side]);
     }
     return PyLong_FromLong(order_of(sides[0], sides[1]));
 }
@@ -330,17 +332,18 @@ static PyMethodDef functions[] = {
 
 static int fill_module(PyObject *module)
 {
-    state *own = PyModule_GetState(module);
-    own->error = Py_NewRef(PyExc_ValueError); /* until the package sets it */
-    own->type = (PyTypeObject *)PyType_FromModuleAndSpec(module, &multihash_spec, NULL);
-    if (own->type == NULL) return -1;
+    module_state *state = PyModule_GetState(module);
+    state->error = Py_NewRef(PyExc_ValueError); /* until the package sets it */
+    state->type = (PyTypeObject *)PyType_FromModuleAndSpec(module, &multihash_spec, NULL);
+    if (state->type == NULL) return -1;
     PyObject *reader = PyType_FromModuleAndSpec(module, &reader_spec, NULL);
     if (reader == NULL) return -1;
     PyObject *file_reader = PyType_FromModuleAndSpec(module, &file_reader_spec, reader);
     PyObject *fields = Py_BuildValue("ss", "code", "digest");
     int is_filled = file_reader != NULL && fields != NULL &&
-                    PyObject_SetAttrString((PyObject *)own->type, "__match_args__", fields) == 0 &&
-                    PyModule_AddType(module, own->type) == 0 && PyModule_AddType(module, (PyTypeObject *)reader) == 0 &&
+                    PyObject_SetAttrString((PyObject *)state->type, "__match_args__", fields) == 0 &&
+                    PyModule_AddType(module, state->type) == 0 &&
+                    PyModule_AddType(module, (PyTypeObject *)reader) == 0 &&
                     PyModule_AddType(module, (PyTypeObject *)file_reader) == 0 &&
                     PyModule_AddIntConstant(module, "DIGEST_MAX", MULTIHASH_DIGEST_MAX) == 0 &&
                     PyModule_AddIntConstant(module, "HEAD_MAX", MULTIHASH_HEAD_MAX) == 0 &&
@@ -355,17 +358,17 @@ static int fill_module(PyObject *module)
 
 static int visit_state(PyObject *module, visitproc visit, void *arg)
 {
-    state *own = PyModule_GetState(module);
-    Py_VISIT(own->type);
-    Py_VISIT(own->error);
+    module_state *state = PyModule_GetState(module);
+    Py_VISIT(state->type);
+    Py_VISIT(state->error);
     return 0;
 }
 
 static int clear_state(PyObject *module)
 {
-    state *own = PyModule_GetState(module);
-    Py_CLEAR(own->type);
-    Py_CLEAR(own->error);
+    module_state *state = PyModule_GetState(module);
+    Py_CLEAR(state->type);
+    Py_CLEAR(state->error);
     return 0;
 }
 
@@ -390,7 +393,7 @@ static struct PyModuleDef definition = {
     .m_base = PyModuleDef_HEAD_INIT,
     .m_name = "_core",
     .m_doc = "The library for C.",
-    .m_size = sizeof(state),
+    .m_size = sizeof(module_state),
     .m_methods = functions,
     .m_slots = slots,
     .m_traverse = visit_state,

@@ -18,7 +18,7 @@ typedef struct input {
     PyObject *owner; /* the argument, if it is a bytes object, or a copy of its first bytes */
     const uint8_t *bytes;
     size_t length;
-    size_t whole; /* the length of the argument */
+    size_t whole_length; /* of the argument */
 } input;
 
 /* Raises a TypeError, `name must be expected, not its type`, and returns null. */
@@ -30,11 +30,11 @@ PyObject *wrong_type(const char *name, const char *expected, PyObject *argument)
 /* The buffer of any object that supports the protocol. */
 int get_buffer(PyObject *argument, const char *name, int flags, Py_buffer *view);
 
-/* The bytes of any object that supports the buffer protocol: at least the first `most`. */
-int get_input(PyObject *argument, const char *name, Py_ssize_t most, input *to);
+/* The bytes of any object that supports the buffer protocol: at least the first `limit`. */
+int get_input(PyObject *argument, const char *name, Py_ssize_t limit, input *to);
 
 /* One argument or two of a function with METH_FASTCALL and METH_KEYWORDS, by position or name. */
-int get_arguments(PyObject *const *given, Py_ssize_t count, PyObject *named, const char *format, char **names,
+int get_arguments(PyObject *const *args, Py_ssize_t nargs, PyObject *kwnames, const char *format, char **keywords,
                   PyObject **first, PyObject **second);
 
 /* An int that is not negative. One of 2^63 or more becomes UINT64_MAX, which the library rejects too. */
@@ -46,32 +46,32 @@ int get_size(PyObject *argument, const char *name, size_t *size);
 /* ---- core.c */
 
 /* The state of the module: the types Multihash and MultihashError. */
-typedef struct state {
+typedef struct module_state {
     PyTypeObject *type;
     PyObject *error;
-} state;
+} module_state;
 
 /* The type of this module that a type is or is derived from: its base is object. */
 PyTypeObject *type_in_c(PyTypeObject *type);
 
 /* The state of the module of a type, which keeps it. */
-const state *state_of(PyTypeObject *type);
+const module_state *state_of(PyTypeObject *type);
 
 /* Raises a MultihashError, and returns null. */
-PyObject *raise_error(const state *own, multihash_status status, uint64_t size, uint64_t code, size_t consumed,
+PyObject *raise_error(const module_state *state, multihash_status status, uint64_t size, uint64_t code, size_t consumed,
                       const char *text);
 
 /* Raises the error of an encoding of a digest of that length, to which it steals the reference, and a code. */
-PyObject *encoding_error(const state *own, multihash_status status, PyObject *length, PyObject *code);
+PyObject *encoding_error(const module_state *state, multihash_status status, PyObject *length, PyObject *code);
 
 /* Writes why an input of that length does not start with a varint. */
 void write_varint_message(char *text, size_t text_size, multihash_status status, size_t length);
 
 /* The multihash that a decoding found in an input, or its error. `limit` is that of a digest's length. */
-PyObject *decoded(const state *own, const input *from, multihash_decoded found, size_t limit);
+PyObject *decoded(const module_state *state, const input *from, multihash_decoded result, size_t limit);
 
 /* The multihash whose encoding is the whole of a buffer. */
-PyObject *decoded_whole(const state *own, PyObject *data);
+PyObject *decoded_whole(const module_state *state, PyObject *data);
 
 /* ---- value.c and reader.c */
 

@@ -4,17 +4,17 @@
 
 /* The most bytes of a body that the file is first asked for. Then it is asked for as many as were read, so memory grows
  * with the bytes that arrive, not with the length that a head claims. */
-#define FIRST ((size_t)1 << 16)
+#define FIRST_CHUNK ((size_t)1 << 16)
 
 typedef struct reader_object {
     PyObject_HEAD
-    const state *own;
-    PyObject *read; /* the method of the file */
-    PyObject *body; /* the bytes read of the next item's body, or null if none were read */
-    size_t limit;   /* the maximum length of a body */
-    size_t wanted;  /* the number of bytes that the running call of the file was asked for, or 0 if none runs */
-    size_t length;  /* the number of bytes read of the next item's head */
-    size_t kept;    /* the number of bytes read of the next item's body */
+    const module_state *state;
+    PyObject *read;     /* the method of the file */
+    PyObject *body;     /* the bytes read of the next item's body, or null if none were read */
+    size_t limit;       /* the maximum length of a body */
+    size_t wanted;      /* the number of bytes that the running call of the file was asked for, or 0 if none runs */
+    size_t head_length; /* the number of bytes read of the next item's head */
+    size_t body_length; /* the number of bytes read of the next item's body */
     unsigned long long consumed; /* the number of bytes of the items returned so far */
     unsigned long long count;    /* the number of these items */
     multihash_head head;         /* what `bytes` start with; the code of a frame is 0 */
@@ -27,7 +27,7 @@ typedef struct reader_object {
 static void drop(reader_object *reader)
 {
     reader->head.status = MULTIHASH_INSUFFICIENT;
-    reader->length = reader->kept = 0;
+    reader->head_length = reader->body_length = 0;
     Py_CLEAR(reader->body);
 }
 
@@ -39,17 +39,17 @@ static int check_idle(const reader_object *reader)
     return -1;
 }
 
-static int reader_init(PyObject *self, PyObject *arguments, PyObject *named)
+static int reader_init(PyObject *self, PyObject *args, PyObject *kwargs)
 {
     reader_object *reader = (reader_object *)self;
-    PyObject *read, *most;
+    PyObject *read, *limit_argument;
     size_t limit;
     int is_framed = 0;
-    (void)named;
-    if (!PyArg_ParseTuple(arguments, "OO|p:Reader", &read, &most, &is_framed)) return -1;
-    if (get_size(most, "limit", &limit) < 0 || check_idle(reader) < 0) return -1;
+    (void)kwargs;
+    if (!PyArg_ParseTuple(args, "OO|p:Reader", &read, &limit_argument, &is_framed)) return -1;
+    if (get_size(limit_argument, "limit", &limit) < 0 || check_idle(reader) < 0) return -1;
     drop(reader);
-    reader->own = state_of(Py_TYPE(self));
+    reader->state = state_of(Py_TYPE(self));
     reader->limit = is_framed || limit < MULTIHASH_DIGEST_MAX ? limit : MULTIHASH_DIGEST_MAX;
     reader->consumed = 0;
     reader->count = 0;
@@ -96,12 +96,13 @@ static multihash_head head_of(const uint8_t *bytes, size_t length, int is_framed
 static size_t missing(reader_object *reader)
 {
     multihash_head *head = &reader->head;
-    if (reader->length == 0) return reader->is_framed ? 1 : 2; /* no head is shorter */
-    if (head->status == MULTIHASH_INSUFFICIENT) *head = head_of(reader->bytes, reader->length, reader->is_framed);
+    if (reader->head_length == 0) return reader->is_framed ? 1 : 2; /* no head is shorter */
+    if (head->status == MULTIHASH_INSUFFICIENT) *head = head_of(reader->bytes, reader->head_length, reader->is_framed);
     if (head->status == MULTIHASH_INSUFFICIENT) return 1;
     if (head->status != MULTIHASH_OK || head->digest_length > reader->limit) return 0;
-    uint64_t left = head->digest_length - reader->kept, most = reader->kept > FIRST ? reader->kept : FIRST;
-    return (size_t)(left < most ? left : most);
+    uint64_t left = head->digest_length - reader->body_length;
+    uint64_t max_chunk = reader->body_length > FIRST_CHUNK ? reader->body_length : FIRST_CHUNK;
+    return (size_t)(left < max_chunk ? left : max_chunk);
 }
 
 /* Begins a call of the file for the bytes that are wanted: 1, or 0 if the next result is known; negative with an error
@@ -124,8 +125,8 @@ static int begin(reader_object *reader)
 static int keep(reader_object *reader, const input *from)
 {
     if (reader->head.status != MULTIHASH_OK) {
-        memcpy(reader->bytes + reader->length, from->bytes, from->whole);
-        reader->length += from->whole;
+        memcpy(reader->bytes + reader->head_length, from->bytes, from->whole_length);
+        reader->head_length += from->whole_length;
         return 0;
     }
     if (reader->body == NULL) {
@@ -133,7 +134,7 @@ static int keep(reader_object *reader, const input *from)
     } else {
         PyBytes_Concat(&reader->body, from->owner); /* in place, if nothing else has the object */
     }
-    reader->kept += from->whole;
+    reader->body_length += from->whole_length;
     return reader->body == NULL ? -1 : 0;
 }
 
@@ -148,23 +149,23 @@ static int end(reader_object *reader, PyObject *chunk)
     reader->has_lost = chunk != Py_None;
     if (chunk == Py_None) PyErr_SetString(PyExc_BlockingIOError, "the file has no bytes now");
     if (!is_there) return -1;
-    if (from.whole > most) {
-        PyErr_Format(PyExc_ValueError, "the file returned %zu bytes to read(%zu)", from.whole, most);
+    if (from.whole_length > most) {
+        PyErr_Format(PyExc_ValueError, "the file returned %zu bytes to read(%zu)", from.whole_length, most);
     } else {
-        reader->has_lost = from.whole > 0 && keep(reader, &from) < 0;
+        reader->has_lost = from.whole_length > 0 && keep(reader, &from) < 0;
     }
     Py_DECREF(from.owner);
-    return reader->has_lost ? -1 : from.whole > 0;
+    return reader->has_lost ? -1 : from.whole_length > 0;
 }
 
 /* Calls the file, after `begin`, and keeps what it returned. */
 static int read_chunk(reader_object *reader)
 {
-    int kept = -1;
+    int status = -1;
     PyObject *read = Py_NewRef(reader->read), *count = PyLong_FromSize_t(reader->wanted);
     PyObject *chunk = count == NULL ? NULL : PyObject_CallFunctionObjArgs(read, count, NULL);
     if (chunk != NULL) {
-        kept = end(reader, chunk);
+        status = end(reader, chunk);
     } else {
         reader->wanted = 0;
         reader->has_lost = !PyErr_ExceptionMatches(PyExc_BlockingIOError);
@@ -172,7 +173,7 @@ static int read_chunk(reader_object *reader)
     Py_XDECREF(chunk);
     Py_XDECREF(count);
     Py_DECREF(read);
-    return kept;
+    return status;
 }
 
 static PyObject *frame_error(const reader_object *reader)
@@ -181,33 +182,34 @@ static PyObject *frame_error(const reader_object *reader)
     multihash_status status = reader->head.status;
     uint64_t length = reader->head.digest_length, size = 0;
     if (status != MULTIHASH_OK) {
-        write_varint_message(reason, sizeof reason, status, reader->length);
+        write_varint_message(reason, sizeof reason, status, reader->head_length);
     } else if (length > reader->limit) {
         status = MULTIHASH_INVALID_SIZE;
         size = length;
         mh_text_too_long(reason, sizeof reason, "frame", length, reader->limit);
     } else {
         status = MULTIHASH_UNEXPECTED_EOF;
-        mh_text_truncated(reason, sizeof reason, "frame", reader->kept, length);
+        mh_text_truncated(reason, sizeof reason, "frame", reader->body_length, length);
     }
     snprintf(text, sizeof text, "frame %llu at offset %llu: %s", reader->count, reader->consumed, reason);
-    return raise_error(reader->own, status, size, 0, reader->length, text);
+    return raise_error(reader->state, status, size, 0, reader->head_length, text);
 }
 
 /* The next item, which is dropped, or None if nothing of one was read. After an error it stays, for `rest`. */
 static PyObject *take(reader_object *reader)
 {
     const multihash_head *head = &reader->head;
-    if (reader->length == 0) Py_RETURN_NONE;
-    if (head->status != MULTIHASH_OK || reader->kept < head->digest_length) {
+    if (reader->head_length == 0) Py_RETURN_NONE;
+    if (head->status != MULTIHASH_OK || reader->body_length < head->digest_length) {
         if (reader->is_framed) return frame_error(reader);
-        input from = {NULL, reader->bytes, reader->length, reader->length + reader->kept};
-        return decoded(reader->own, &from, multihash_read_limit(from.bytes, from.length, reader->limit), reader->limit);
+        input from = {NULL, reader->bytes, reader->head_length, reader->head_length + reader->body_length};
+        return decoded(reader->state, &from, multihash_read_limit(from.bytes, from.length, reader->limit),
+                       reader->limit);
     }
     PyObject *item = reader->body == NULL ? PyBytes_FromStringAndSize(NULL, 0) : Py_NewRef(reader->body);
-    if (!reader->is_framed) item = new_multihash(reader->own->type, head->code, item);
+    if (!reader->is_framed) item = new_multihash(reader->state->type, head->code, item);
     if (item == NULL) return NULL;
-    reader->consumed += reader->length + reader->kept;
+    reader->consumed += reader->head_length + reader->body_length;
     reader->count++;
     drop(reader);
     return item;
@@ -229,16 +231,16 @@ static PyObject *reader_next(PyObject *self, PyObject *unused)
  * or to fail, and the result. The first two return the number of bytes that are wanted, or 0 if the result is known. */
 static PyObject *reader_begin(PyObject *self, PyObject *unused)
 {
-    int begun = begin((reader_object *)self);
+    int status = begin((reader_object *)self);
     (void)unused;
-    return begun < 0 ? NULL : PyLong_FromSize_t(begun ? ((reader_object *)self)->wanted : 0);
+    return status < 0 ? NULL : PyLong_FromSize_t(status > 0 ? ((reader_object *)self)->wanted : 0);
 }
 
 static PyObject *reader_end(PyObject *self, PyObject *chunk)
 {
-    int kept = end((reader_object *)self, chunk);
-    if (kept < 0) return NULL;
-    return kept > 0 ? reader_begin(self, NULL) : PyLong_FromLong(0);
+    int status = end((reader_object *)self, chunk);
+    if (status < 0) return NULL;
+    return status > 0 ? reader_begin(self, NULL) : PyLong_FromLong(0);
 }
 
 static PyObject *reader_fail(PyObject *self, PyObject *error)
@@ -260,7 +262,7 @@ static PyObject *reader_take(PyObject *self, PyObject *unused)
 static PyObject *reader_rest(PyObject *self, void *unused)
 {
     const reader_object *reader = (const reader_object *)self;
-    PyObject *rest = PyBytes_FromStringAndSize((const char *)reader->bytes, (Py_ssize_t)reader->length);
+    PyObject *rest = PyBytes_FromStringAndSize((const char *)reader->bytes, (Py_ssize_t)reader->head_length);
     (void)unused;
     if (rest != NULL && reader->body != NULL) PyBytes_Concat(&rest, reader->body);
     return rest;

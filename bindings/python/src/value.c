@@ -9,29 +9,29 @@ typedef struct multihash_object {
 
 PyObject *new_multihash(PyTypeObject *type, uint64_t code, PyObject *digest)
 {
-    multihash_object *made = digest == NULL ? NULL : (multihash_object *)PyType_GenericAlloc(type, 0);
-    if (made == NULL) {
+    multihash_object *multihash = digest == NULL ? NULL : (multihash_object *)PyType_GenericAlloc(type, 0);
+    if (multihash == NULL) {
         Py_XDECREF(digest);
         return NULL;
     }
-    made->code = code;
-    made->digest = digest;
-    return (PyObject *)made;
+    multihash->code = code;
+    multihash->digest = digest;
+    return (PyObject *)multihash;
 }
 
-static PyObject *multihash_new(PyTypeObject *type, PyObject *given, PyObject *named)
+static PyObject *multihash_new(PyTypeObject *type, PyObject *args, PyObject *kwargs)
 {
-    static char *names[] = {"code", "digest", NULL};
+    static char *keywords[] = {"code", "digest", NULL};
     PyObject *code, *bytes;
     uint64_t number;
     input digest;
-    if (!PyArg_ParseTupleAndKeywords(given, named, "OO:Multihash", names, &code, &bytes)) return NULL;
+    if (!PyArg_ParseTupleAndKeywords(args, kwargs, "OO:Multihash", keywords, &code, &bytes)) return NULL;
     if (get_number(code, "code", &number) < 0) return NULL;
     if (get_input(bytes, "digest", MULTIHASH_DIGEST_MAX, &digest) < 0) return NULL;
-    multihash_status status = multihash_encoded_length(number, digest.whole).status;
+    multihash_status status = multihash_encoded_length(number, digest.whole_length).status;
     if (status == MULTIHASH_OK) return new_multihash(type, number, digest.owner);
     Py_DECREF(digest.owner);
-    return encoding_error(state_of(type), status, PyLong_FromSize_t(digest.whole), code);
+    return encoding_error(state_of(type), status, PyLong_FromSize_t(digest.whole_length), code);
 }
 
 static void multihash_dealloc(PyObject *self)
@@ -47,9 +47,9 @@ static void multihash_dealloc(PyObject *self)
 static const uint8_t *digest_of(PyObject *value, size_t *length)
 {
     char *bytes = NULL;
-    Py_ssize_t found = 0;
-    PyBytes_AsStringAndSize(((multihash_object *)value)->digest, &bytes, &found);
-    *length = (size_t)found;
+    Py_ssize_t size = 0;
+    PyBytes_AsStringAndSize(((multihash_object *)value)->digest, &bytes, &size);
+    *length = (size_t)size;
     return (const uint8_t *)bytes;
 }
 
@@ -91,8 +91,8 @@ static PyObject *multihash_bytes(PyObject *self, PyObject *unused)
     uint8_t out[MULTIHASH_LENGTH_MAX];
     size_t length;
     const uint8_t *digest = digest_of(self, &length);
-    multihash_encoded made = multihash_encode(((multihash_object *)self)->code, digest, length, out, sizeof out);
-    return PyBytes_FromStringAndSize((const char *)out, (Py_ssize_t)made.length); /* each Multihash has an encoding */
+    multihash_encoded result = multihash_encode(((multihash_object *)self)->code, digest, length, out, sizeof out);
+    return PyBytes_FromStringAndSize((const char *)out, (Py_ssize_t)result.length); /* each Multihash has an encoding */
 }
 
 static PyObject *multihash_hex(PyObject *self, PyObject *unused)
@@ -138,28 +138,28 @@ static PyObject *multihash_reduce(PyObject *self, PyObject *protocol)
     return PyObject_CallMethod((PyObject *)&PyBaseObject_Type, "__reduce_ex__", "Oi", self, 2);
 }
 
-static PyObject *multihash_replace(PyObject *self, PyObject *given, PyObject *named)
+static PyObject *multihash_replace(PyObject *self, PyObject *args, PyObject *kwargs)
 {
     const multihash_object *multihash = (const multihash_object *)self;
-    PyObject *fields = Py_BuildValue("{sKsO}", "code", multihash->code, "digest", multihash->digest), *made = NULL;
-    if (fields != NULL && (named == NULL || PyDict_Update(fields, named) == 0)) {
-        made = PyObject_Call((PyObject *)Py_TYPE(self), given, fields);
+    PyObject *fields = Py_BuildValue("{sKsO}", "code", multihash->code, "digest", multihash->digest), *result = NULL;
+    if (fields != NULL && (kwargs == NULL || PyDict_Update(fields, kwargs) == 0)) {
+        result = PyObject_Call((PyObject *)Py_TYPE(self), args, fields);
     }
     Py_XDECREF(fields);
-    return made;
+    return result;
 }
 
 static PyObject *multihash_fromhex(PyObject *class, PyObject *text)
 {
     if (!PyUnicode_Check(text)) return wrong_type("text", "a str (decode takes bytes)", text);
     PyObject *bytes = PyObject_CallMethod((PyObject *)&PyBytes_Type, "fromhex", "O", text);
-    PyObject *found = bytes == NULL ? NULL : decoded_whole(state_of((PyTypeObject *)class), bytes);
+    PyObject *multihash = bytes == NULL ? NULL : decoded_whole(state_of((PyTypeObject *)class), bytes);
     Py_XDECREF(bytes);
-    if (found == NULL || (PyObject *)Py_TYPE(found) == class) return found;
-    PyObject *pair = multihash_pair(found, NULL), *made = pair == NULL ? NULL : PyObject_Call(class, pair, NULL);
-    Py_DECREF(found);
+    if (multihash == NULL || (PyObject *)Py_TYPE(multihash) == class) return multihash;
+    PyObject *pair = multihash_pair(multihash, NULL), *result = pair == NULL ? NULL : PyObject_Call(class, pair, NULL);
+    Py_DECREF(multihash);
     Py_XDECREF(pair);
-    return made;
+    return result;
 }
 
 static PyMethodDef multihash_methods[] = {
