@@ -121,7 +121,7 @@ static int begin(reader_object *reader)
     return 1;
 }
 
-/* Keeps bytes of the next item; negative with an error set. */
+/* Keeps bytes of the next item. */
 static int keep(reader_object *reader, const input *from)
 {
     if (reader->head.status != MULTIHASH_OK) {
@@ -143,19 +143,26 @@ static int keep(reader_object *reader, const input *from)
 static int end(reader_object *reader, PyObject *chunk)
 {
     input from;
-    size_t most = reader->wanted;
-    int is_there = chunk != Py_None && get_input(chunk, RESULT_OF_READ, (Py_ssize_t)most, &from) == 0;
-    reader->wanted = 0;
-    reader->has_lost = chunk != Py_None;
-    if (chunk == Py_None) PyErr_SetString(PyExc_BlockingIOError, "the file has no bytes now");
-    if (!is_there) return -1;
-    if (from.whole_length > most) {
-        PyErr_Format(PyExc_ValueError, "the file returned %zu bytes to read(%zu)", from.whole_length, most);
-    } else {
-        reader->has_lost = from.whole_length > 0 && keep(reader, &from) < 0;
+    size_t wanted = reader->wanted;
+    if (chunk == Py_None) {
+        reader->wanted = 0;
+        PyErr_SetString(PyExc_BlockingIOError, "the file has no bytes now");
+        return -1;
+    }
+    int status = get_input(chunk, RESULT_OF_READ, (Py_ssize_t)wanted, &from);
+    reader->wanted = 0;   /* after the call, since the buffer of the chunk may call the reader */
+    reader->has_lost = 1; /* until the bytes are kept */
+    if (status < 0) return -1;
+    if (from.whole_length > wanted) {
+        PyErr_Format(PyExc_ValueError, "the file returned %zu bytes to read(%zu)", from.whole_length, wanted);
+        status = -1;
+    } else if (from.whole_length > 0) {
+        status = keep(reader, &from);
     }
     Py_DECREF(from.owner);
-    return reader->has_lost ? -1 : from.whole_length > 0;
+    if (status < 0) return -1;
+    reader->has_lost = 0;
+    return from.whole_length > 0;
 }
 
 /* Calls the file, after `begin`, and keeps what it returned. */
