@@ -1,22 +1,7 @@
 /* The functions of verified_multihash over the library for C, its errors and the module. */
 #include "core.h"
 
-/* ---- the state and errors */
-
-PyTypeObject *type_in_c(PyTypeObject *type)
-{
-    PyTypeObject *base = PyType_GetSlot(type, Py_tp_base);
-    while (base != &PyBaseObject_Type) {
-        type = base;
-        base = PyType_GetSlot(type, Py_tp_base);
-    }
-    return type;
-}
-
-const module_state *state_of(PyTypeObject *type)
-{
-    return PyType_GetModuleState(type_in_c(type));
-}
+/* ---- errors */
 
 /* Raises a MultihashError with these arguments, a tuple. It steals the reference, which may be null. */
 static PyObject *raise_with(const module_state *state, PyObject *arguments)

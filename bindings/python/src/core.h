@@ -51,12 +51,6 @@ typedef struct module_state {
     PyObject *error;
 } module_state;
 
-/* The type of this module that a type is or is derived from: its base is object. */
-PyTypeObject *type_in_c(PyTypeObject *type);
-
-/* The state of the module of a type, which keeps it. */
-const module_state *state_of(PyTypeObject *type);
-
 /* Raises a MultihashError, and returns null. */
 PyObject *raise_error(const module_state *state, multihash_status status, uint64_t size, uint64_t code, size_t consumed,
                       const char *text);
@@ -76,6 +70,12 @@ PyObject *decoded_whole(const module_state *state, PyObject *data);
 /* ---- value.c and reader.c */
 
 extern PyType_Spec multihash_spec, reader_spec, file_reader_spec; /* the last one is a subclass of the second */
+
+/* The type of this module that a type is or is derived from: its base is object. */
+PyTypeObject *type_in_c(PyTypeObject *type);
+
+/* The state of the module of a type, which keeps it. */
+const module_state *state_of(PyTypeObject *type);
 
 /* Makes a multihash of a code and a digest, and steals the reference, which is null after an error. */
 PyObject *new_multihash(PyTypeObject *type, uint64_t code, PyObject *digest);

@@ -7,6 +7,21 @@ typedef struct multihash_object {
     unsigned long long code;
 } multihash_object;
 
+PyTypeObject *type_in_c(PyTypeObject *type)
+{
+    PyTypeObject *base = PyType_GetSlot(type, Py_tp_base);
+    while (base != &PyBaseObject_Type) {
+        type = base;
+        base = PyType_GetSlot(type, Py_tp_base);
+    }
+    return type;
+}
+
+const module_state *state_of(PyTypeObject *type)
+{
+    return PyType_GetModuleState(type_in_c(type));
+}
+
 PyObject *new_multihash(PyTypeObject *type, uint64_t code, PyObject *digest)
 {
     multihash_object *multihash = digest == NULL ? NULL : (multihash_object *)PyType_GenericAlloc(type, 0);
