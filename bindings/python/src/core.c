@@ -20,19 +20,19 @@ PyObject *raise_error(const module_state *state, multihash_status status, uint64
 
 PyObject *encoding_error(const module_state *state, multihash_status status, PyObject *length, PyObject *code)
 {
+    char text[MULTIHASH_MESSAGE_SIZE];
+    uint64_t size;
     int is_size = status == MULTIHASH_INVALID_SIZE;
-    PyObject *number = length == NULL ? NULL : PyNumber_Index(is_size ? length : code), *arguments = NULL;
+    PyObject *number = length == NULL ? NULL : PyNumber_Index(is_size ? length : code);
     Py_XDECREF(length);
     if (number == NULL) return NULL;
-    if (is_size) {
-        PyObject *text =
-            PyUnicode_FromFormat("the digest has %S bytes, and the limit is %d", number, MULTIHASH_DIGEST_MAX);
-        arguments = text == NULL ? NULL : Py_BuildValue("IOiiN", status, number, 0, 0, text);
-    } else { /* the text has no number, which may be too long to show */
-        arguments = Py_BuildValue("IiOis", status, 0, number, 0, multihash_status_text(status));
+    if (is_size && get_number(number, "digest_length", &size) == 0 && size < UINT64_MAX) {
+        mh_text_too_long(text, sizeof text, "digest", size, MULTIHASH_DIGEST_MAX);
+    } else { /* without the number, which may be too long to show */
+        snprintf(text, sizeof text, "%s", multihash_status_text(status));
     }
-    Py_DECREF(number);
-    return raise_with(state, arguments);
+    return raise_with(state, is_size ? Py_BuildValue("INiis", status, number, 0, 0, text)
+                                     : Py_BuildValue("IiNis", status, 0, number, 0, text));
 }
 
 void write_varint_message(char *text, size_t text_size, multihash_status status, size_t length)

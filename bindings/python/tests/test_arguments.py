@@ -28,7 +28,7 @@ ENCODERS = [vm.encode, vm.scale_encode, Multihash]
 VALUE = Multihash(1, b"abc")
 CODE = 1 << 62
 NEGATIVE = (-1, -(1 << 63), -(1 << 63) - 1, -(10**5000))
-LARGE = (1 << 63, 1 << 64, (1 << 64) + 18, 10**4000)
+LARGE = (1 << 63, 1 << 64, (1 << 64) + 18, 10**5000)  # str takes no more than 4300 digits
 # Arguments with which a function is called by position, and by the names that it shows; large, so that each is a block.
 NAMED_CALLS = {
     vm.decode: [b"\1\3abc"], vm.read: [b"\1\3abc", CODE], vm.head: [b"\1\3"], vm.scale_decode: [bytes(9)],
@@ -47,7 +47,8 @@ TEXTS = [
     (vm.read_varint, [b"\xff" * 9], "the varint has more than nine bytes"),
     (vm.encode_varint, [1 << 63], "the value is 2^63 or more"),
     (vm.encode, [1 << 63, b""], "the code is 2^63 or more"),
-    (vm.encoded_length, [18, 1 << 70], "the digest has 1180591620717411303424 bytes, and the limit is 255"),
+    (vm.encoded_length, [18, (1 << 63) - 1], "the digest has 9223372036854775807 bytes, and the limit is 255"),
+    (vm.encoded_length, [18, 10**5000], "the digest or the input is too long"),
     (vm.head, [b"\x92\0\1"], "the varint of the code is not minimal: it ends in a zero byte"),
     (vm.decode, ["1220"], "data must be bytes (Multihash.fromhex takes text), not str"),
     (Multihash.fromhex, [b"1220"], "text must be a str (decode takes bytes), not bytes"),
