@@ -369,8 +369,8 @@ static void free_state(void *module)
 
 /* Interpreters may have locks of their own: all that changes is in the module's state. */
 static PyModuleDef_Slot slots[] = {
-    {Py_mod_exec, fill_module},
     {Py_mod_multiple_interpreters, Py_MOD_PER_INTERPRETER_GIL_SUPPORTED},
+    {Py_mod_exec, fill_module},
     {0, NULL},
 };
 
@@ -388,6 +388,6 @@ static struct PyModuleDef definition = {
 
 PyMODINIT_FUNC PyInit__core(void)
 {
-    if (Py_Version < 0x030c0000) slots[1].slot = 0; /* it does not know the second slot */
+    if (Py_Version < 0x030c0000) definition.m_slots = slots + 1; /* it does not know the first one */
     return PyModuleDef_Init(&definition);
 }
