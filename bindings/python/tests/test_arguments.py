@@ -147,20 +147,20 @@ class Arguments(unittest.TestCase):
             for number in NEGATIVE:
                 self.assertRaisesRegex(ValueError, "^%s must not be negative$" % name, call, number)
             for number in LARGE:
-                found = result_of(call, number)
+                result = result_of(call, number)
                 size, code = (number if status is each else 0 for each in (Status.INVALID_SIZE, Status.INVALID_CODE))
-                self.assertEqual(found[:4] if status else found, (status, size, code, 0) if status else VALUE)
+                self.assertEqual(result[:4] if status else result, (status, size, code, 0) if status else VALUE)
         for call in ENCODERS:  # the length is looked at first
             self.assertEqual(result_of(call, 1 << 64, bytes(256))[:2], (Status.INVALID_SIZE, 256))
 
     def test_limits(self):
         """Each call that reads has a limit, which is the longest digest if none is given."""
-        found = vm.DIGEST_MAX, vm.VARINT_LENGTH_MAX, vm.HEAD_MAX, vm.LENGTH_MAX, vm.SCALE_LENGTH_MAX
-        self.assertEqual(found, (255, 9, 18, 266, 264))
+        limits = vm.DIGEST_MAX, vm.VARINT_LENGTH_MAX, vm.HEAD_MAX, vm.LENGTH_MAX, vm.SCALE_LENGTH_MAX
+        self.assertEqual(limits, (255, 9, 18, 266, 264))
         for call, (size, *limit) in itertools.product(LIMITED, ((255,), (256,), (3, 3), (3, 2), (256, 1 << 64))):
-            found = result_of(call, b"\1" + vm.encode_varint(size) + bytes(size), *limit)
+            result = result_of(call, b"\1" + vm.encode_varint(size) + bytes(size), *limit)
             is_right = size <= min(*limit, 255, 255)
-            self.assertEqual(found if is_right else found[:2], Multihash(1, bytes(size)) if is_right else (4, size))
+            self.assertEqual(result if is_right else result[:2], Multihash(1, bytes(size)) if is_right else (4, size))
 
     @unittest.skipIf("asan" in os.environ.get("LD_PRELOAD", ""), "the sanitizer has more memory than the limit")
     def test_no_long_copies(self):
@@ -194,11 +194,11 @@ class Arguments(unittest.TestCase):
 
 
 class Errors(unittest.TestCase):
-    def test_made(self):
-        made = [MultihashError(*fields) for fields in ((1,), (4, 3), (5, 0, 1 << 70), (6, 0, 0, 2, "own"))]
-        self.assertEqual([str(error) for error in made], [*map(vm._status.TEXTS.get, (1, 4, 5)), "own"])
-        self.assertEqual([error.is_incomplete for error in made], [True, False, False, True])
-        self.assertEqual(made[2].__dict__, {"status": Status.INVALID_CODE, "size": 0, "code": 1 << 70, "consumed": 0})
+    def test_fields(self):
+        errors = [MultihashError(*fields) for fields in ((1,), (4, 3), (5, 0, 1 << 70), (6, 0, 0, 2, "own"))]
+        self.assertEqual([str(error) for error in errors], [*map(vm._status.TEXTS.get, (1, 4, 5)), "own"])
+        self.assertEqual([error.is_incomplete for error in errors], [True, False, False, True])
+        self.assertEqual(errors[2].__dict__, {"status": Status.INVALID_CODE, "size": 0, "code": 1 << 70, "consumed": 0})
         self.assertRaises(ValueError, MultihashError, len(Status))
 
 
@@ -224,8 +224,8 @@ class Values(unittest.TestCase):
 
     def test_values(self):
         source = bytearray(b"abc")
-        own = type("Own", (Multihash,), {"__qualname__": "Outer.Own"})
-        for value, kind in ((Multihash(True, source), Multihash), (own(1, source), own)):
+        subclass = type("Own", (Multihash,), {"__qualname__": "Outer.Own"})
+        for value, kind in ((Multihash(True, source), Multihash), (subclass(1, source), subclass)):
             source[0] = 0
             self.assertEqual((repr(value), hash(value)), ("%s.fromhex('0103616263')" % kind.__qualname__, hash(VALUE)))
             self.assertEqual((value, bytes(value), value.hexdigest()), (VALUE, b"\1\3abc", "616263"))
@@ -275,9 +275,9 @@ class Values(unittest.TestCase):
             self.assertEqual({type(each) for each in changed}, {type(value)})
             self.assertRaises(TypeError, value.__replace__, size=2)
             self.assertRaises(MultihashError, value.__replace__, digest=bytes(256))
-        call = lambda own, code, digest, more: Multihash.__new__(own, code + more, digest)
-        own = type("Own", (Multihash,), {"__new__": call})
-        self.assertEqual(own(1, b"abc", 0).__replace__(more=2), Multihash(3, b"abc"))
+        call = lambda cls, code, digest, more: Multihash.__new__(cls, code + more, digest)
+        subclass = type("Own", (Multihash,), {"__new__": call})
+        self.assertEqual(subclass(1, b"abc", 0).__replace__(more=2), Multihash(3, b"abc"))
 
     def test_hashes(self):
         """The hash is that of a tuple with the code and the digest."""

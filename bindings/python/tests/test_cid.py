@@ -54,16 +54,16 @@ class Cids(unittest.TestCase):
         for row in rows_of(LIST.with_name("cids.tsv")):
             with self.subTest(row["text"]):
                 text, data = text_of(row["text"]), bytes_of(row["bytes"])
-                result, found = shown(CID.parse, text)
+                result, cid = shown(CID.parse, text)
                 self.assertEqual(result, row["result"])
                 if not data or result == "wrong_prefix":
                     continue
                 self.assertEqual(shown(CID.decode, bytearray(data))[0], result)
-                if isinstance(found, CIDError):
-                    self.assertEqual(isinstance(found.__cause__, MultihashError), result != "unknown_version")
+                if isinstance(cid, CIDError):
+                    self.assertEqual(isinstance(cid.__cause__, MultihashError), result != "unknown_version")
                     continue
-                self.assertEqual((bytes(found), found.text(text[0] if found.version else "z")), (data, text))
-                self.assertEqual(CID.read(memoryview(data + bytes(999))), (found, len(data)))
+                self.assertEqual((bytes(cid), cid.text(text[0] if cid.version else "z")), (data, text))
+                self.assertEqual(CID.read(memoryview(data + bytes(999))), (cid, len(data)))
                 self.assertLessEqual(len(data), LENGTH_MAX)
 
     def test_errors(self):
@@ -78,9 +78,9 @@ class Cids(unittest.TestCase):
             self.assertEqual((eval(repr(cid)), f"{cid:>60}", f"{cid}"), (cid, str(cid).rjust(60), str(cid)))
             for other in (pickle.loads(pickle.dumps(cid)), copy.copy(cid), CID(cid.version, cid.codec, cid.multihash)):
                 self.assertEqual((other, hash(other)), (cid, hash(cid)))
-        own = type("Own", (CID,), {})
-        for made in (own.parse(str(RAW)), own.decode(bytes(RAW)), own.read(bytes(RAW))[0]):
-            self.assertIs(type(made), own)
+        subclass = type("Own", (CID,), {})
+        for cid in (subclass.parse(str(RAW)), subclass.decode(bytes(RAW)), subclass.read(bytes(RAW))[0]):
+            self.assertIs(type(cid), subclass)
         self.assertNotEqual(CID(1, 0x70, HELLO), OLD)
         self.assertRaises(AttributeError, setattr, RAW, "codec", 0)
 

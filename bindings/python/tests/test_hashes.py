@@ -27,13 +27,13 @@ class Hashes(unittest.TestCase):
     def test_list(self):
         for row in ROWS:
             try:
-                found = hashes.digest(b"abc", row["name"])
+                multihash = hashes.digest(b"abc", row["name"])
             except UNSUPPORTED:
                 self.assertRaises(ValueError, hashlib.new, OPTIONAL[row["name"]])
                 continue
-            self.assertEqual((found.code, found.hexdigest()), (int(row["code"], 16), row["digest of abc"]))
-            self.assertIs(hashes.verify(bytes(found), b"abc"), True)
-            self.assertIs(hashes.verify(found, b"abcd"), False)
+            self.assertEqual((multihash.code, multihash.hexdigest()), (int(row["code"], 16), row["digest of abc"]))
+            self.assertIs(hashes.verify(bytes(multihash), b"abc"), True)
+            self.assertIs(hashes.verify(multihash, b"abcd"), False)
 
     def test_names(self):
         """Those of no row have no function here."""
@@ -47,25 +47,25 @@ class Hashes(unittest.TestCase):
 
     def test_buffers(self):
         for buffer in buffers():
-            found = hashes.digest(memoryview(buffer).tobytes(), "sha1")
-            self.assertEqual((hashes.digest(buffer, "sha1"), hashes.verify(found, buffer)), (found, True))
-            self.assertEqual(hashes.digest_file(Mock(read=Mock(side_effect=[buffer, b""])), "sha1"), found)
+            multihash = hashes.digest(memoryview(buffer).tobytes(), "sha1")
+            self.assertEqual((hashes.digest(buffer, "sha1"), hashes.verify(multihash, buffer)), (multihash, True))
+            self.assertEqual(hashes.digest_file(Mock(read=Mock(side_effect=[buffer, b""])), "sha1"), multihash)
 
     def test_own_functions(self):
         """Functions of a caller, for codes that hashlib has not, that have no name, and in place of its own."""
         functions = {key: hashlib.sha1 for key in (0x1E, 0x300000, "sha2-256", "dbl-sha2-256", 0x18)}
         for code in (hashes.CODES.get(key, key) for key in functions):
-            found = hashes.digest(b"abc", code, functions)
-            self.assertEqual(found, Multihash(code, hashlib.sha1(b"abc").digest()))
-            self.assertEqual(hashes.digest_file(io.BytesIO(b"abc"), code, functions=functions), found)
-            self.assertIs(hashes.verify(found, b"abc", functions), True)
-            self.assertIs(hashes.verify(bytes(found), b"abd", functions=functions), False)
-            self.assertIs(hashes.verify_file(found, io.BytesIO(b"abc"), functions), True)
+            multihash = hashes.digest(b"abc", code, functions)
+            self.assertEqual(multihash, Multihash(code, hashlib.sha1(b"abc").digest()))
+            self.assertEqual(hashes.digest_file(io.BytesIO(b"abc"), code, functions=functions), multihash)
+            self.assertIs(hashes.verify(multihash, b"abc", functions), True)
+            self.assertIs(hashes.verify(bytes(multihash), b"abd", functions=functions), False)
+            self.assertIs(hashes.verify_file(multihash, io.BytesIO(b"abc"), functions), True)
         self.assertEqual(hashes.Hasher("blake3", functions).multihash().digest, hashlib.sha1().digest())
         self.assertEqual(hashes.digest(b"abc", "sha1", functions), hashes.digest(b"abc", 0x11))
-        for given in (None, {}, {0x11: hashlib.sha256}):
-            self.assertRaises(UNSUPPORTED, hashes.digest, b"abc", 0x300000, given)
-            self.assertRaises(UNSUPPORTED, hashes.verify, Multihash(0x300000, b""), b"abc", given)
+        for functions in (None, {}, {0x11: hashlib.sha256}):
+            self.assertRaises(UNSUPPORTED, hashes.digest, b"abc", 0x300000, functions)
+            self.assertRaises(UNSUPPORTED, hashes.verify, Multihash(0x300000, b""), b"abc", functions)
         self.assertFalse(issubclass(UNSUPPORTED, MultihashError))
 
     def test_odd_functions(self):
@@ -80,8 +80,8 @@ class Hashes(unittest.TestCase):
             long = {0x1E: function(digest=bytes(256))}
             self.assertIs(hashes.verify(Multihash(0x1E, claimed), b"abc", long), False)
         for wrong in ("abc", None):
-            own = {0x11: function(digest=wrong)}
-            self.assertRaises(TypeError, hashes.verify, Multihash(0x11, b"abc"), b"abc", own)
+            functions = {0x11: function(digest=wrong)}
+            self.assertRaises(TypeError, hashes.verify, Multihash(0x11, b"abc"), b"abc", functions)
 
     def test_parts(self):
         """Data in parts, or read from a file in parts, have the multihash of the whole."""

@@ -114,13 +114,13 @@ def keeps(call, number):
         before = sys.getallocatedblocks()
         for _ in range(RUNS):
             again = prepared(*call)
-            found = result_of(functools.partial(failing, again, number))
+            result = result_of(functools.partial(failing, again, number))
         del again
         forget()
         gc.collect()
         if abs(sys.getallocatedblocks() - before) < RUNS // 2:
-            return False, found
-    return True, found
+            return False, result
+    return True, result
 
 
 @unittest.skipIf(set_nomemory is None, "_testcapi is not installed")
@@ -137,9 +137,9 @@ class Memory(unittest.TestCase):
             with self.subTest(call=name):
                 wanted, number, last = result_of(prepared(*call)), 0, 0
                 while number - last < 20:
-                    is_kept, found = keeps(call, number)
-                    self.assertIn(found, (MemoryError, wanted), number)
+                    is_kept, result = keeps(call, number)
+                    self.assertIn(result, (MemoryError, wanted), number)
                     self.assertFalse(is_kept, number)
-                    failed += found is MemoryError
-                    last, number = number if found is MemoryError else last, number + 1
+                    failed += result is MemoryError
+                    last, number = number if result is MemoryError else last, number + 1
         self.assertGreater(failed, len(CALLS))

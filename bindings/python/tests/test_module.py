@@ -64,9 +64,9 @@ class Module(unittest.TestCase):
         for kind in (Multihash, vm._core.Reader):
             self.assertTrue(kind.__flags__ & 1 << 18, "Py_TPFLAGS_HAVE_VERSION_TAG")
         for kind in (Multihash, vm.MultihashReader, vm.AsyncMultihashReader):
-            own = type("Own", (kind, collections.abc.Sized), {"__len__": id})
-            self.assertTrue(issubclass(own, collections.abc.Sized))
-            self.assertFalse(issubclass(abc.ABCMeta("Other", (), {}), own))
+            subclass = type("Own", (kind, collections.abc.Sized), {"__len__": id})
+            self.assertTrue(issubclass(subclass, collections.abc.Sized))
+            self.assertFalse(issubclass(abc.ABCMeta("Other", (), {}), subclass))
 
     def test_exports(self):
         module = ctypes.CDLL(vm._core.__file__)
@@ -79,8 +79,8 @@ class Module(unittest.TestCase):
         for module in (vm, hashes, cid):
             called = [it for it in map(vars(module).get, module.__all__) if callable(it)]
             self.assertEqual([it for it in called if not it.__doc__], [])
-            own = {name for name, it in vars(module).items() if getattr(it, "__module__", "") == module.__name__}
-            self.assertLessEqual({name for name in own if name[0] != "_"}, {*module.__all__})
+            names = {name for name, it in vars(module).items() if getattr(it, "__module__", "") == module.__name__}
+            self.assertLessEqual({name for name in names if name[0] != "_"}, {*module.__all__})
 
     def test_stub(self):
         """Editors show the texts of the stub, and help those of the module."""
@@ -109,8 +109,8 @@ class Module(unittest.TestCase):
         self.assertGreater(len(shown), 9)
         for name, wanted in shown:
             call = next(vars(it)[name] for it in (vm, hashes, hashes.Hasher) if name in vars(it))
-            own = [it.replace(annotation=it.empty) for it in inspect.signature(call).parameters.values()]
-            self.assertEqual(wanted, ", ".join(str(it) for it in own if it.name != "self"))
+            parameters = [it.replace(annotation=it.empty) for it in inspect.signature(call).parameters.values()]
+            self.assertEqual(wanted, ", ".join(str(it) for it in parameters if it.name != "self"))
 
     def test_examples(self):
         text = "\n".join("" if line.startswith("```") else line for line in README.read_text("utf-8").splitlines())
@@ -123,16 +123,16 @@ def rows():
     """The input, the standard output, the reason and the status of each line of rows.tsv."""
     for line in ROWS.read_text("utf-8").splitlines():
         if not line.startswith("#"):
-            line = re.sub(r"\{(\w+)\*(\d+)\}", lambda found: found.group(1) * int(found.group(2)), line)
+            line = re.sub(r"\{(\w+)\*(\d+)\}", lambda match: match.group(1) * int(match.group(2)), line)
             yield line.replace(r"\n", "\n").replace(r"\r", "\r").split("\t")
 
 
-def run(*words, **given):
+def run(*words, **options):
     """The status, and what was printed to both outputs."""
-    given = {"input": "", "stdout": subprocess.PIPE, "stderr": subprocess.PIPE, "errors": "surrogateescape", **given}
+    defaults = {"input": "", "stdout": subprocess.PIPE, "stderr": subprocess.PIPE, "errors": "surrogateescape"}
     command = [sys.executable, "-m", "verified_multihash", *words]
-    ended = subprocess.run(command, encoding="utf-8", check=False, **given)
-    return ended.returncode, ended.stdout or "", ended.stderr or ""
+    process = subprocess.run(command, encoding="utf-8", check=False, **{**defaults, **options})
+    return process.returncode, process.stdout or "", process.stderr or ""
 
 
 def failed(reason):
@@ -143,9 +143,9 @@ class Main(unittest.TestCase):
     def test_rows(self):
         for text, output, reason, status in rows():
             with self.subTest(text=text[:80]):
-                found = run(input=text)
-                self.assertEqual(found[:2], (int(status), output))
-                self.assertEqual(found[2].startswith("python -m verified_multihash: "), reason != "")
+                result = run(input=text)
+                self.assertEqual(result[:2], (int(status), output))
+                self.assertEqual(result[2].startswith("python -m verified_multihash: "), reason != "")
 
     def test_arguments(self):
         for text in (HEX, HEX.upper(), HEX + "\n"):

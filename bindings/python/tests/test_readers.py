@@ -74,15 +74,15 @@ def turns(*results):
 class Readers(unittest.TestCase):
     def test_parts(self):
         """The items of a file that returns some bytes at a time. Nothing after an item is read, none in many calls."""
-        for (kind, items, encodings), most in itertools.product(READERS, (1, 7, 500)):
+        for (kind, items, encodings), limit in itertools.product(READERS, (1, 7, 500)):
             file = io.BytesIO(b"".join(encodings))
-            part = Mock(side_effect=lambda size: memoryview(file.read(min(size, most))))
+            part = Mock(side_effect=lambda size: memoryview(file.read(min(size, limit))))
             reader = kind(SimpleNamespace(read=part))
             for number, item in enumerate(items):
                 self.assertEqual((reader.count, reader.consumed), (number, len(b"".join(encodings[:number]))))
                 self.assertEqual((reader.read(), reader.rest, file.tell()), (item, b"", reader.consumed))
             self.assertEqual((reader.read(), reader.read(), reader.count), (None, None, len(items)))
-            self.assertLess(part.call_count, 40 if most == 500 else 999)
+            self.assertLess(part.call_count, 40 if limit == 500 else 999)
             self.assertEqual(list(kind(io.BytesIO(b"".join(encodings)))), items)
         file = io.BytesIO(bytes(4))
         self.assertEqual((vm.read_from(file), file.tell()), (Multihash(0, b""), 2))
@@ -90,18 +90,18 @@ class Readers(unittest.TestCase):
     def test_late_bytes(self):
         """The next call goes on where a file has ended, or has no bytes yet. One reader shares nothing with another."""
         for (kind, items, encodings), fails in itertools.product(READERS, (b"", None, BlockingIOError)):
-            data, found, waits = b"".join(encodings), [], 0
+            data, results, waits = b"".join(encodings), [], 0
             reader = kind(turns(*(turn for byte in data for turn in (fails, bytearray([byte])))))
-            while len(found) < len(items):
+            while len(results) < len(items):
                 try:
                     item = reader.read()
-                    found += [] if item is None else [item]
+                    results += [] if item is None else [item]
                 except (BlockingIOError, MultihashError) as error:
                     self.assertIs(getattr(error, "is_incomplete", None), None if fails != b"" else True)
                     self.assertEqual(reader.rest, data[reader.consumed :][: len(reader.rest)])
                     self.assertEqual(kind(io.BytesIO(encodings[1])).read(), items[1])
                     waits += 1
-            self.assertEqual((found, waits), (items, len(data) - (len(items) if fails == b"" else 0)))
+            self.assertEqual((results, waits), (items, len(data) - (len(items) if fails == b"" else 0)))
         with self.assertRaisesRegex(io.UnsupportedOperation, "MultihashReader"):
             vm.read_from(turns(b"\1", None))
 
@@ -196,21 +196,21 @@ class Readers(unittest.TestCase):
                 with self.assertRaisesRegex(error, text):
                     await reader.read()
             reader = vm.AsyncMultihashReader(Mock(read=AsyncMock(side_effect=[b"\0\0", b"\1"])))
-            found = []
+            items = []
             with self.assertRaisesRegex(RuntimeError, "StopAsyncIteration"):
                 async for each in reader:
-                    found.append(each)
-            self.assertEqual((found, reader.rest), ([Multihash(0, b"")], b"\1"))
+                    items.append(each)
+            self.assertEqual((items, reader.rest), ([Multihash(0, b"")], b"\1"))
 
         asyncio.run(run())
 
     def test_collected(self):
         """A reader, its class and its file, which know each other; a file that is deleted with its reader."""
-        own, file = type("Own", (vm.MultihashReader,), {}), type("File", (io.BytesIO,), {})(bytes(4))
-        own.kept = file.reader = own(file)
-        self.assertEqual(own.kept.read(), Multihash(0, b""))
-        references = [weakref.ref(each) for each in (own, own.kept, file)]
-        del own, file
+        subclass, file = type("Own", (vm.MultihashReader,), {}), type("File", (io.BytesIO,), {})(bytes(4))
+        subclass.reader = file.reader = subclass(file)
+        self.assertEqual(subclass.reader.read(), Multihash(0, b""))
+        references = [weakref.ref(each) for each in (subclass, subclass.reader, file)]
+        del subclass, file
         vm.MultihashReader(type("File", (), {"read": lambda *_: b"", "__del__": lambda _: gc.collect()})())
         gc.collect()
         self.assertEqual([each() for each in references], [None] * 3)
@@ -230,7 +230,7 @@ class Readers(unittest.TestCase):
         """A call is cancelled at each byte and each step of the loop, before or after more bytes are there."""
 
         async def run(kind, data, cut, steps, is_before, by_loop):
-            stream, found = asyncio.StreamReader(), []
+            stream, items = asyncio.StreamReader(), []
             reader = kind(stream)
             stream.feed_data(data[:cut])
             call = asyncio.ensure_future(reader.__aiter__().__anext__() if by_loop else reader.read())
@@ -240,15 +240,15 @@ class Readers(unittest.TestCase):
             for event in events if is_before else reversed(events):
                 event()
             await asyncio.wait([call])
-            found += [] if call.cancelled() else [call.result()]
+            items += [] if call.cancelled() else [call.result()]
             stream.feed_eof()
-            return call.cancelled(), found + [item async for item in reader]
+            return call.cancelled(), items + [item async for item in reader]
 
         async def run_all(kind, items, data):
             ended = set()
             for cut, steps, *rest in itertools.product(range(len(data) + 1), range(4), (True, False), (True, False)):
-                is_cancelled, found = await run(kind, data, cut, steps, *rest)
-                self.assertEqual(found, items)
+                is_cancelled, results = await run(kind, data, cut, steps, *rest)
+                self.assertEqual(results, items)
                 ended.add((steps, is_cancelled))
             self.assertLessEqual({(0, True), (1, True), (3, True), (3, False)}, ended)
 

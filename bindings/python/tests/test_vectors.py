@@ -61,9 +61,9 @@ def is_for_all(result, limit):
 class Vectors(unittest.TestCase):
     def check_file(self, data, limit, wanted):
         """The file returns one byte at a time, or all that were asked for. No byte is read that the list leaves."""
-        for most in (1, 500):
+        for chunk in (1, 500):
             file = io.BytesIO(data)
-            reader = vm.MultihashReader(SimpleNamespace(read=lambda size: file.read(min(size, most))), limit)
+            reader = vm.MultihashReader(SimpleNamespace(read=lambda size: file.read(min(size, chunk))), limit)
             self.assertEqual(decoded(lambda: (reader.read(), reader.consumed)), wanted)
             self.assertEqual(file.tell(), len(data) if wanted[1] == "-" else int(wanted[1]))
             self.assertEqual(reader.rest, data[reader.consumed : file.tell()])
@@ -123,18 +123,18 @@ class Many(unittest.TestCase):
         for kind, count, more in itertools.product(KINDS, (0, 128, 3000), ERRORS):
             data = kind(b"".join(itertools.starmap(vm.encode, pairs[:count])) + more)
             codes, offsets, lengths, consumed, error = vm.read_many(data)
-            found = [(code, bytes(data[at : at + size])) for code, at, size in zip(codes, offsets, lengths)]
-            self.assertEqual((found, consumed), (pairs[:count], len(data) - len(more)))
+            multihashes = [(code, bytes(data[at : at + size])) for code, at, size in zip(codes, offsets, lengths)]
+            self.assertEqual((multihashes, consumed), (pairs[:count], len(data) - len(more)))
             self.assertEqual(error and (error.status, error.consumed), ERRORS[more])
         self.assertEqual(vm.read_many(array("H", [0, 0, 0x101])).consumed, 4)
 
     def test_columns(self):
         data = bytearray(vm.encode(1 << 62, b"abc") + vm.encode(2, b""))
-        found = vm.read_many(data=data)
-        for column, numbers in zip(found, ([1 << 62, 2], [10, 15], [3, 0])):
+        columns = vm.read_many(data=data)
+        for column, numbers in zip(columns, ([1 << 62, 2], [10, 15], [3, 0])):
             self.assertEqual((column.tolist(), column.itemsize, column.readonly), (numbers, 8, True))
             self.assertEqual((column[1], list(column), 7 in column), (numbers[1], numbers, False))
             self.assertEqual(column.format, "q")  # numpy adds them to its own numbers
         data += b"more"  # the columns keep no buffer of it
         self.assertRaises(BufferError, vm.read_many, memoryview(data)[::2])
-        self.assertRaises(TypeError, setitem, found.codes, 0, 1)
+        self.assertRaises(TypeError, setitem, columns.codes, 0, 1)

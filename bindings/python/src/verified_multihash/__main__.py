@@ -14,13 +14,13 @@ import sys
 
 from . import decode, read
 
-MOST_INPUT = 65536
+INPUT_MAX = 65536
 
 
 def _input() -> bytes:
     with open(0, "rb", closefd=False) as file:
-        text = file.read(MOST_INPUT + 1)
-    if len(text) > MOST_INPUT:
+        text = file.read(INPUT_MAX + 1)
+    if len(text) > INPUT_MAX:
         raise OSError("the input is too long")
     return text
 

@@ -107,9 +107,9 @@ class CID:
         if base not in _BASES:
             raise CIDError("unknown_base", "the text must start with b, f, z or Qm")
         name, not_digit, encode, decode = _BASES[base]
-        found = not_digit.search(text, start, TEXT_MAX)
-        if found:  # the character is not shown: it may be one that changes how the text is displayed
-            raise CIDError("invalid_digit", f"the character at index {found.start()} is not a {name} digit")
+        wrong_digit = not_digit.search(text, start, TEXT_MAX)
+        if wrong_digit:  # the character is not shown: it may be one that changes how the text is displayed
+            raise CIDError("invalid_digit", f"the character at index {wrong_digit.start()} is not a {name} digit")
         if len(text) > TEXT_MAX:
             raise CIDError("too_long", f"the text has more than {TEXT_MAX} characters")
         data = decode(text[start:])

@@ -29,18 +29,18 @@ CODES: Mapping[str, int] = MappingProxyType(_codes.CODES)
 NAMES: Mapping[int, str] = MappingProxyType({code: name for name, code in CODES.items()})
 
 
-def _double(made: Any) -> bytes:
+def _double_sha256(hasher: Any) -> bytes:
     import hashlib
 
-    return hashlib.sha256(made.digest()).digest()
+    return hashlib.sha256(hasher.digest()).digest()
 
 
 _IN_HASHLIB = {"dbl-sha2-256": "sha256", "keccak-256": "keccak-256", "ripemd-160": "ripemd160", "sm3-256": "sm3"}
-# How the digest is made, where it is not by `digest()`.
+# What returns the digest of an object of hashlib, where `digest()` does not.
 _DIGESTS: Mapping[str, Callable[[Any], bytes]] = {
     "shake-128": methodcaller("digest", 32),
     "shake-256": methodcaller("digest", 64),
-    "dbl-sha2-256": _double,
+    "dbl-sha2-256": _double_sha256,
 }
 
 
@@ -80,7 +80,7 @@ class _Identity:
 
 
 @functools.cache
-def _maker(code: int) -> Callable[[], Any]:
+def _constructor(code: int) -> Callable[[], Any]:
     """Returns the function of hashlib that makes a hash object for a code."""
     import hashlib
 
@@ -92,12 +92,12 @@ def _maker(code: int) -> Callable[[], Any]:
         return _Identity
     if kind in ("blake2b", "blake2s"):
         return functools.partial(getattr(hashlib, kind), digest_size=int(bits) // 8)
-    make = functools.partial(hashlib.new, _IN_HASHLIB.get(name, name.replace("sha2-", "sha").replace("-", "_")))
+    constructor = functools.partial(hashlib.new, _IN_HASHLIB.get(name, name.replace("sha2-", "sha").replace("-", "_")))
     try:
-        make()
+        constructor()
     except ValueError:
         raise UnsupportedHashError(f"hashlib does not have {name} here, whose code is {hex(code)}") from None
-    return make
+    return constructor
 
 
 class Hasher:
@@ -115,12 +115,12 @@ class Hasher:
         if isinstance(name, str) and name not in CODES:
             raise ValueError(f"name must be in hashes.CODES, such as 'sha2-256', not {name!r:.60}")
         code = self._code = CODES[name] if isinstance(name, str) else name
-        own: Mapping[Any, Callable[[], Any]] = {} if functions is None else functions
-        if not isinstance(own, Mapping):
+        custom: Mapping[Any, Callable[[], Any]] = {} if functions is None else functions
+        if not isinstance(custom, Mapping):
             raise TypeError(f"functions must map names or codes to functions, not {type(functions).__name__}")
-        make = own.get(code, own.get(NAMES.get(code, code)))
-        self._hash: Any = _maker(code)() if make is None else make()
-        self._digest = _DIGESTS.get(NAMES[code] if make is None else "", methodcaller("digest"))
+        constructor = custom.get(code, custom.get(NAMES.get(code, code)))
+        self._hash: Any = _constructor(code)() if constructor is None else constructor()
+        self._digest = _DIGESTS.get(NAMES[code] if constructor is None else "", methodcaller("digest"))
 
     def update(self, data: Buffer) -> None:
         """Appends data. Raises MultihashError if "identity" gets more than DIGEST_MAX bytes."""
