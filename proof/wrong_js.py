@@ -4,7 +4,7 @@ starts. All but the last are of format.js."""
 VARINT = "export function readVarint(bytes, at, end) {"
 FAILED = "({ status, code: 0, size: 0, next })"
 LENGTHS = "varintLength(code) + varintLength(size)"
-FOUND = "const { status, size, next } = found;"
+FOUND = "const { status, size, next } = result;"
 TURN = "index < length; index++)\n    if (left"
 SIZE = "size: length - next, next: length"
 
@@ -12,7 +12,7 @@ EDITS = [
     # another result
     ("readVarint", "byte === 0 && index > at)", "byte === 0 && index > middle)", "wrong result"),
     ("readVarint", "'insufficient' : 'overflow'", "'insufficent' : 'overflow'", "wrong result: status"),
-    ("readVarint", "most < at + VARINT_LENGTH_MAX ?", "most <= at + VARINT_LENGTH_MAX ?", "wrong result: status"),
+    ("readVarint", "stop < at + VARINT_LENGTH_MAX ?", "stop <= at + VARINT_LENGTH_MAX ?", "wrong result: status"),
     ("readVarint", "value: high === 0 ? low :", "value: high < 16 ? low :", "wrong result: value"),
     ("readVarint", "high < 2 ** (53 - bits)", "high < 2 ** (52 - bits)", "wrong result: value"),
     ("readVarint", "value: 0, next: index + 1", "value: 0, next: index", "wrong result: next"),
@@ -38,7 +38,7 @@ EDITS = [
     ("compareBytes", TURN, "index < length; index += 2)\n    if (left", "not shown"),
     ("compareBytes", TURN, "index < length - 1; index++)\n    if (left", "not shown"),
     # a field that is missing, that nobody asked for, that is computed when it is read, or of another type
-    ("readVarint", "value: 0, next: most };", "next: most };", "wrong result: the fields"),
+    ("readVarint", "value: 0, next: stop };", "next: stop };", "wrong result: the fields"),
     ("head", FAILED, "({ status, code: 0, size: 0, next, start: 0 })", "wrong result: the fields"),
     ("head", FAILED, "({ status, code: 0, size: 0, get next() { return next; } })", "unknown: FunctionExpression"),
     ("head", FAILED, "({ __proto__: { status, code: 0 }, size: 0, next })", "unknown: a member"),

@@ -49,36 +49,36 @@ const valuesOf = (text, digits) => Array.from(text, (digit) => digits.indexOf(di
 
 /** Regroups the bits of values, with zeros after the last bit. */
 function regrouped(values, fromBits, toBits) {
-  const made = [];
-  let kept = 0; // the bits of no value yet
+  const groups = [];
+  let rest = 0; // the bits that are in no group yet
   let count = 0; // their number
   for (const value of values) {
-    kept = (kept << fromBits) | value;
+    rest = (rest << fromBits) | value;
     count += fromBits;
     while (count >= toBits) {
       count -= toBits;
-      made.push(kept >> count);
-      kept &= (1 << count) - 1;
+      groups.push(rest >> count);
+      rest &= (1 << count) - 1;
     }
   }
-  if (count > 0) made.push(kept << (toBits - count));
-  return made;
+  if (count > 0) groups.push(rest << (toBits - count));
+  return groups;
 }
 
 /** Converts a number to another base, from and to values with the most significant first. Leading zeros stay. */
 function inBase(values, from, to) {
-  const made = []; // least significant first
+  const digits = []; // least significant first
   for (const value of values) {
     let carry = value;
-    for (let at = 0; at < made.length; at++) {
-      carry += made[at] * from;
-      made[at] = carry % to;
+    for (let at = 0; at < digits.length; at++) {
+      carry += digits[at] * from;
+      digits[at] = carry % to;
       carry = Math.floor(carry / to);
     }
-    for (; carry > 0; carry = Math.floor(carry / to)) made.push(carry % to);
+    for (; carry > 0; carry = Math.floor(carry / to)) digits.push(carry % to);
   }
-  for (let at = 0; values[at] === 0; at++) made.push(0);
-  return made.reverse();
+  for (let at = 0; values[at] === 0; at++) digits.push(0);
+  return digits.reverse();
 }
 
 const toBase32 = (bytes) => textOf(regrouped(bytes, 8, 5), BASE32);

@@ -40,9 +40,9 @@ export function encodedLength(code, digestLength) {
 
 export function head(bytes) {
   const length = checkedLength(bytes, 'bytes');
-  const found = format.head(bytes, 0, length);
-  if (found.status !== 'ok') throw errorOf(found, bytes, 0, length, DIGEST_MAX);
-  return { code: found.code, digestLength: found.size, consumed: found.next };
+  const result = format.head(bytes, 0, length);
+  if (result.status !== 'ok') throw errorOf(result, bytes, 0, length, DIGEST_MAX);
+  return { code: result.code, digestLength: result.size, consumed: result.next };
 }
 
 // ---- varints
@@ -100,10 +100,10 @@ export function readMany(bytes) {
   let count = 0;
   let error;
   while (consumed < length) {
-    const found = format.read(view, consumed, length, DIGEST_MAX);
-    const { status, code, size, next } = found;
+    const result = format.read(view, consumed, length, DIGEST_MAX);
+    const { status, code, size, next } = result;
     if (status !== 'ok') {
-      error = errorOf(found, view, consumed, length, DIGEST_MAX);
+      error = errorOf(result, view, consumed, length, DIGEST_MAX);
       break;
     }
     if (count === lengths.length) {

@@ -33,12 +33,12 @@ const highPart = (value, bits) =>
 
 /** Reads the varint that starts at an index, of the bytes before `end`. */
 export function readVarint(bytes, at, end) {
-  const most = Math.min(end, at + VARINT_LENGTH_MAX);
+  const stop = Math.min(end, at + VARINT_LENGTH_MAX);
   const middle = at + LOW_BYTES;
   let low = 0;
   let high = 0;
   let weight = 1; // the weight of the byte within its part
-  for (let index = at; index < most; index++) {
+  for (let index = at; index < stop; index++) {
     const byte = bytes[index];
     if (byte === 0 && index > at) return { status: 'not_minimal', value: 0, next: index + 1 };
     if (index === middle) weight = 1;
@@ -47,7 +47,7 @@ export function readVarint(bytes, at, end) {
     if (byte < 128) return { status: 'ok', value: high === 0 ? low : joined(low, high, LOW_BITS), next: index + 1 };
     weight *= 128;
   }
-  return { status: most < at + VARINT_LENGTH_MAX ? 'insufficient' : 'overflow', value: 0, next: most };
+  return { status: stop < at + VARINT_LENGTH_MAX ? 'insufficient' : 'overflow', value: 0, next: stop };
 }
 
 const failed = (status, next) => ({ status, code: 0, size: 0, next });
@@ -77,11 +77,11 @@ export function read(bytes, at, end, limit) {
 
 /** Decodes the multihash whose encoding is all of the bytes. */
 export function decode(bytes, length) {
-  const found = read(bytes, 0, length, DIGEST_MAX);
-  const { status, size, next } = found;
+  const result = read(bytes, 0, length, DIGEST_MAX);
+  const { status, size, next } = result;
   if (status !== 'ok') return { status, code: 0, size, next: length };
   if (next < length) return { status: 'invalid_size', code: 0, size: length - next, next: length };
-  return found;
+  return result;
 }
 
 const wordAt = (bytes, at) => bytes[at] + bytes[at + 1] * 2 ** 8 + bytes[at + 2] * 2 ** 16 + bytes[at + 3] * 2 ** 24;

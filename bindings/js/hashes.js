@@ -22,7 +22,7 @@ export class UnsupportedHashError extends RangeError {
 UnsupportedHashError.prototype.name = 'UnsupportedHashError';
 
 /** Hashes pieces with WebCrypto, which takes all of them in one call, and rejects shared and resizable memory. */
-function byWeb(algorithm) {
+function webCryptoHash(algorithm) {
   const pieces = [];
   return {
     update(piece) {
@@ -39,7 +39,7 @@ function byWeb(algorithm) {
 }
 
 /** Hashes with `identity`, whose digest is the content. If that is too long, `digest` returns an object with its length. */
-function byNothing() {
+function identityHash() {
   const content = new Uint8Array(DIGEST_MAX);
   let length = 0;
   return {
@@ -52,7 +52,7 @@ function byNothing() {
 }
 
 /** Hashes the pieces, and then their digest. */
-function twice(create) {
+function doubleHash(create) {
   const first = create();
   const second = create();
   return {
@@ -65,7 +65,7 @@ function twice(create) {
 }
 
 // The functions of this platform, by their names. Each value creates an object that hashes pieces.
-const creators = { __proto__: null, identity: byNothing };
+const creators = { __proto__: null, identity: identityHash };
 if (node) {
   const available = node.getHashes();
   for (const name of Object.keys(CODES)) {
@@ -74,10 +74,10 @@ if (node) {
     if (available.includes(algorithm)) creators[name] = () => node.createHash(algorithm, { outputLength });
   }
 } else {
-  for (const bits of [256, 384, 512]) creators[`sha2-${bits}`] = () => byWeb(`SHA-${bits}`);
-  creators.sha1 = () => byWeb('SHA-1');
+  for (const bits of [256, 384, 512]) creators[`sha2-${bits}`] = () => webCryptoHash(`SHA-${bits}`);
+  creators.sha1 = () => webCryptoHash('SHA-1');
 }
-creators['dbl-sha2-256'] = () => twice(creators['sha2-256']);
+creators['dbl-sha2-256'] = () => doubleHash(creators['sha2-256']);
 
 /**
  * Returns what `call(source)` returns, with the source of the content, or undefined if the content is bytes. After an error
@@ -118,7 +118,7 @@ async function hashOf(create, content, source) {
 }
 
 /** Hashes pieces with an object that a caller's function creates, such as one of @noble/hashes or hash-wasm. */
-function byOwn(create, name) {
+function callersHash(create, name) {
   const hash = create();
   if (typeof hash?.update !== 'function' || typeof hash.digest !== 'function')
     throw new TypeError(`${name} must return an object with the methods update and digest, got ${received(hash)}`);
@@ -126,9 +126,9 @@ function byOwn(create, name) {
     update: (piece) => hash.update(piece),
     async digest() {
       // without 'binary' objects of hash-wasm, which have `init`, return a text; with it those of node:crypto do
-      const made = await (hash.init ? hash.digest('binary') : hash.digest());
-      if (!isBytes(made)) throw new TypeError(`${name} must make a digest that is a Uint8Array, got ${received(made)}`);
-      return made;
+      const result = await (hash.init ? hash.digest('binary') : hash.digest());
+      if (!isBytes(result)) throw new TypeError(`${name} must make a digest that is a Uint8Array, got ${received(result)}`);
+      return result;
     },
   };
 }
@@ -136,15 +136,15 @@ function byOwn(create, name) {
 /** Returns the function for a code, which creates an object that hashes: the caller's, or else the platform's. */
 function creatorOf(code, functions = {}) {
   checkedObject(functions, 'functions');
-  const key = [code, NAMES[code]].find((each) => Object.prototype.hasOwnProperty.call(functions, each));
+  const key = [code, NAMES[code]].find((name) => Object.prototype.hasOwnProperty.call(functions, name));
   if (key === undefined) {
     if (!creators[NAMES[code]]) throw new UnsupportedHashError(code);
     return creators[NAMES[code]];
   }
-  const own = functions[key];
-  const create = typeof own?.create === 'function' ? () => own.create() : own;
-  if (typeof create !== 'function') throw wrongType(`functions[${key}]`, 'a function', own);
-  return () => byOwn(create, `functions[${key}]`);
+  const value = functions[key];
+  const create = typeof value?.create === 'function' ? () => value.create() : value;
+  if (typeof create !== 'function') throw wrongType(`functions[${key}]`, 'a function', value);
+  return () => callersHash(create, `functions[${key}]`);
 }
 
 /** Returns the code of a name, or the code that was passed. */
@@ -219,10 +219,10 @@ function claimOf(multihash) {
 export const verify = (multihash, content, options = {}) => reading(content, async (source) => {
   const { functions } = checkedOptions(options, ['functions']);
   const claim = claimOf(multihash);
-  const made = await hashOf(creatorOf(claim.code, functions), content, source);
+  const actual = await hashOf(creatorOf(claim.code, functions), content, source);
   if (claim.digest.length === 0) checkedLength(claim.digest, 'the digest');
-  if (claim.digest.length !== made.length) return false;
+  if (claim.digest.length !== actual.length) return false;
   let difference = 0; // all bytes are compared, so that the time does not depend on them
-  for (let index = 0; index < made.length; index++) difference |= made[index] ^ claim.digest[index];
+  for (let index = 0; index < actual.length; index++) difference |= actual[index] ^ claim.digest[index];
   return difference === 0;
 });

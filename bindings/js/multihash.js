@@ -78,33 +78,34 @@ export class Multihash {
   }
 }
 
-/** Makes the multihash that format.js found in the bytes. Its digest is a copy. */
-export const foundMultihash = (bytes, { code, size, next }) => new Multihash(MAKING, code, copyOf(bytes, next - size, next));
+/** Returns the multihash that format.js decoded from the bytes. Its digest is a copy. */
+export const multihashFrom = (bytes, { code, size, next }) =>
+  new Multihash(MAKING, code, copyOf(bytes, next - size, next));
 
 export function decode(bytes) {
   const length = checkedLength(bytes, 'bytes');
-  const found = format.decode(bytes, length);
-  if (found.status !== 'ok') throw errorOf(found, bytes, 0, length, DIGEST_MAX);
-  return foundMultihash(bytes, found);
+  const result = format.decode(bytes, length);
+  if (result.status !== 'ok') throw errorOf(result, bytes, 0, length, DIGEST_MAX);
+  return multihashFrom(bytes, result);
 }
 
 /** Returns the maximum length of a digest for the argument `limit`, which may be larger. */
 export const checkedLimit = (limit) => Math.min(Number(checkedWide(limit, 'limit')), DIGEST_MAX);
 
 export function read(bytes, limit) {
-  const most = limit === undefined ? DIGEST_MAX : checkedLimit(limit);
+  const maximum = limit === undefined ? DIGEST_MAX : checkedLimit(limit);
   const length = checkedLength(bytes, 'bytes');
-  const found = format.read(bytes, 0, length, most);
-  if (found.status !== 'ok') throw errorOf(found, bytes, 0, length, most);
-  return { multihash: foundMultihash(bytes, found), consumed: found.next };
+  const result = format.read(bytes, 0, length, maximum);
+  if (result.status !== 'ok') throw errorOf(result, bytes, 0, length, maximum);
+  return { multihash: multihashFrom(bytes, result), consumed: result.next };
 }
 
 export function scaleDecode(bytes) {
   const length = checkedLength(bytes, 'bytes');
-  const found = format.scaleDecode(bytes, length);
-  const { status, code, next } = found;
-  if (status === 'ok') return { multihash: foundMultihash(bytes, found), consumed: next };
-  throw new MultihashError(scaleReasonOf(found, bytes, length), { status, code: code || undefined, consumed: next });
+  const result = format.scaleDecode(bytes, length);
+  const { status, code, next } = result;
+  if (status === 'ok') return { multihash: multihashFrom(bytes, result), consumed: next };
+  throw new MultihashError(scaleReasonOf(result, bytes, length), { status, code: code || undefined, consumed: next });
 }
 
 /** Returns the digest of a Multihash. Throws a TypeError if its length has changed. */

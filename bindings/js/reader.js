@@ -3,7 +3,7 @@ import { checkedLength, checkedOptions, checkedWide } from './arguments.js';
 import { MultihashError, errorOf, frameReasonOf } from './errors.js';
 import * as format from './format.js';
 import { DIGEST_MAX } from './limits.js';
-import { checkedLimit, foundMultihash } from './multihash.js';
+import { checkedLimit, multihashFrom } from './multihash.js';
 import { sourceOf } from './sources.js';
 import { INCOMPLETE } from './statuses.js';
 
@@ -43,7 +43,7 @@ class ItemReader {
 
   /**
    * `rest` holds bytes that precede those of the source. `find(bytes, at, end)` returns the status of the item that starts
-   * at an index, and the index `next` after it. `make(found, bytes, at, end)` returns the item, or throws the error.
+   * at an index, and the index `next` after it. `make(result, bytes, at, end)` returns the item, or throws the error.
    */
   constructor(source, rest, find, make) {
     this.#find = find;
@@ -103,11 +103,11 @@ class ItemReader {
   #take(isLast) {
     const received = this.#received;
     const { bytes, at, end } = received;
-    const found = this.#find(bytes, at, end);
-    if (!isLast && INCOMPLETE.includes(found.status)) return undefined;
-    const item = this.#make(found, bytes, at, end);
-    received.at = found.next;
-    received.consumed += found.next - at;
+    const result = this.#find(bytes, at, end);
+    if (!isLast && INCOMPLETE.includes(result.status)) return undefined;
+    const item = this.#make(result, bytes, at, end);
+    received.at = result.next;
+    received.consumed += result.next - at;
     received.count++;
     return item;
   }
@@ -190,10 +190,10 @@ const checkedLimits = (options) => checkedOptions(options, ['limit', 'rest']);
 export class MultihashReader extends ItemReader {
   constructor(source, options = {}) {
     const { limit = DIGEST_MAX, rest = new Uint8Array() } = checkedLimits(options);
-    const most = checkedLimit(limit);
-    super(source, rest, (bytes, at, end) => format.read(bytes, at, end, most), (found, bytes, at, end) => {
-      if (found.status !== 'ok') throw errorOf(found, bytes, at, end, most);
-      return foundMultihash(bytes, found);
+    const maximum = checkedLimit(limit);
+    super(source, rest, (bytes, at, end) => format.read(bytes, at, end, maximum), (result, bytes, at, end) => {
+      if (result.status !== 'ok') throw errorOf(result, bytes, at, end, maximum);
+      return multihashFrom(bytes, result);
     });
   }
 }
@@ -209,11 +209,11 @@ function frameAt(bytes, at, end, limit) {
 export class FrameReader extends ItemReader {
   constructor(source, options = {}) {
     const { limit = 2 ** 22, rest = new Uint8Array() } = checkedLimits(options);
-    const most = checkedWide(limit, 'limit');
-    super(source, rest, (bytes, at, end) => frameAt(bytes, at, end, most), (found, bytes, at, end) => {
-      const { status, size, next } = found;
+    const maximum = checkedWide(limit, 'limit');
+    super(source, rest, (bytes, at, end) => frameAt(bytes, at, end, maximum), (result, bytes, at, end) => {
+      const { status, size, next } = result;
       if (status === 'ok') return bytes.slice(next - size, next);
-      const reason = `frame ${this.count} at offset ${this.consumed}: ${frameReasonOf(found, end, most)}`;
+      const reason = `frame ${this.count} at offset ${this.consumed}: ${frameReasonOf(result, end, maximum)}`;
       throw new MultihashError(reason, { status, size: status === 'invalid_size' ? size : undefined, consumed: next - at });
     });
   }

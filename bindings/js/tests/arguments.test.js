@@ -60,9 +60,9 @@ test('numbers', () => {
     for (const value of [-1, 1.5, NaN, Infinity, 2 ** 53])
       assert.throws(() => call(value),
         RangeError(`${name} must be a whole number from 0 to 2^53 - 1, or a bigint, got ${value}`));
-    const most = `${name} must be from 0 to 2^${name === 'code' ? 63 : 64} - 1, got`;
-    for (const value of [-1n, 1n << 64n, 10n ** 39n]) assert.throws(() => call(value), RangeError(`${most} ${value}`));
-    assert.throws(() => call(10n ** 40n), RangeError(`${most} ${10n ** 39n}...`)); // a longer number is cut
+    const range = `${name} must be from 0 to 2^${name === 'code' ? 63 : 64} - 1, got`;
+    for (const value of [-1n, 1n << 64n, 10n ** 39n]) assert.throws(() => call(value), RangeError(`${range} ${value}`));
+    assert.throws(() => call(10n ** 40n), RangeError(`${range} ${10n ** 39n}...`)); // a longer number is cut
   }
 });
 

@@ -6,7 +6,7 @@ import { Multihash, MultihashError, compare, decode, encode, encodeVarint, encod
 import { KINDS, hex, outcome, rowsOf, unhex } from './support.js';
 
 /** The result of a call as a row has it, and the multihash or the error. */
-function told(call) {
+function described(call) {
   const result = outcome(call);
   const { status, size, code, consumed, multihash = result } = result;
   if (result instanceof MultihashError) return [[status, size ?? code ?? []].flat().join(' '), result, consumed];
@@ -14,11 +14,11 @@ function told(call) {
 }
 
 /** Compares the result of a call that decodes the start of its input, and the number of bytes that it consumed. */
-function consumes(call, wanted, wantedTaken, row) {
-  const [words, found, consumed] = told(call);
+function consumes(call, wanted, wantedConsumed, row) {
+  const [words, result, consumed] = described(call);
   assert.equal(words, wanted, row.input);
-  if (found.isIncomplete) assert.equal(wantedTaken, '-', row.input); // more input can change the result
-  else assert.equal(consumed, Number(wantedTaken), row.input);
+  if (result.isIncomplete) assert.equal(wantedConsumed, '-', row.input); // more input can change the result
+  else assert.equal(consumed, Number(wantedConsumed), row.input);
 }
 
 /** Whether the result with a limit is the result with 255 too. */
@@ -36,17 +36,17 @@ test('vectors of decoding', () => {
     if (isForAll(row.scale_decode, limit))
       consumes(() => scaleDecode(kind(data)), row.scale_decode, row.scale_consumed, row);
     if (!isForAll(row.read, limit)) continue;
-    const [words, found] = told(() => decode(kind(data)));
+    const [words, result] = described(() => decode(kind(data)));
     assert.equal(words, row.from_bytes, row.input);
-    if (found instanceof MultihashError) assert.equal(found.consumed, data.length, row.input);
-    else assert.equal(`${found}`, row.input);
+    if (result instanceof MultihashError) assert.equal(result.consumed, data.length, row.input);
+    else assert.equal(`${result}`, row.input);
   }
 });
 
 /** The encoding as a row has it, or the error. */
 function valueOf(call) {
-  const made = outcome(call);
-  return made instanceof MultihashError ? `${made.status} ${made.size ?? made.code}` : hex(made);
+  const result = outcome(call);
+  return result instanceof MultihashError ? `${result.status} ${result.size ?? result.code}` : hex(result);
 }
 
 test('vectors of encoding, and of order', () => {

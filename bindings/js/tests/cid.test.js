@@ -18,20 +18,20 @@ function textOf(column) {
 }
 
 /** The result as a row has it, and the CID or the error. */
-function told(call) {
-  const found = outcome(call);
-  if (found instanceof CIDError) return [found.status, found];
-  const { version, codec, multihash } = found;
-  return [`cid ${version} ${codec} ${multihash.code} ${multihash.digestHex || '-'}`, found];
+function described(call) {
+  const value = outcome(call);
+  if (value instanceof CIDError) return [value.status, value];
+  const { version, codec, multihash } = value;
+  return [`cid ${version} ${codec} ${multihash.code} ${multihash.digestHex || '-'}`, value];
 }
 
 test('vectors of content identifiers', () => {
   for (const [index, { text: column, result, bytes }] of rowsOf('cids').entries()) {
     const [kind, text, data] = [KINDS[index % KINDS.length], textOf(column), unhex(bytes)];
-    const [found, cid] = told(() => CID.parse(text));
-    assert.equal(found, result, column);
+    const [words, cid] = described(() => CID.parse(text));
+    assert.equal(words, result, column);
     if (bytes === '-' || result === 'wrong_prefix') continue;
-    assert.equal(told(() => CID.decode(kind(data)))[0], result, column);
+    assert.equal(described(() => CID.decode(kind(data)))[0], result, column);
     if (cid instanceof CIDError) {
       assert.equal(cid.cause instanceof MultihashError, result !== 'unknown_version');
       continue;

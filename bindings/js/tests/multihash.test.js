@@ -26,10 +26,10 @@ test('fields', () => {
 test('a multihash has a copy of the bytes, of each kind of memory', () => {
   for (const kind of KINDS) {
     const [bytes, digest] = [kind(EXAMPLE), kind(EXAMPLE.subarray(2))];
-    const made = [decode(bytes), read(bytes).multihash, Multihash.of(22, digest)];
+    const multihashes = [decode(bytes), read(bytes).multihash, Multihash.of(22, digest)];
     const encoded = encode(22, digest);
-    for (const given of [bytes, digest]) Uint8Array.prototype.fill.call(given, 1);
-    for (const multihash of made) {
+    for (const array of [bytes, digest]) Uint8Array.prototype.fill.call(array, 1);
+    for (const multihash of multihashes) {
       assert.deepEqual(multihash.bytes, EXAMPLE);
       assert.equal(multihash.digest.buffer.byteLength, 32); // and no more memory
     }
@@ -39,9 +39,9 @@ test('a multihash has a copy of the bytes, of each kind of memory', () => {
 
 test('a code is a number if that is exact', () => {
   for (const [code, text] of [[22, '22'], [LONG - 1n, '9007199254740991'], [LONG, '"9007199254740992"']]) {
-    const made = Multihash.of(code, unhex('00ab'));
+    const multihash = Multihash.of(code, unhex('00ab'));
     const json = `{"code":${text},"size":2,"digest":"00ab"}`;
-    for (const each of [made, decode(made.bytes), Multihash.fromJSON(JSON.parse(json))]) {
+    for (const each of [multihash, decode(multihash.bytes), Multihash.fromJSON(JSON.parse(json))]) {
       assert.equal(JSON.stringify(each), json);
       assert.equal(typeof each.code, code < LONG ? 'number' : 'bigint');
       if (code < LONG) assert.equal(each.narrow(), each);
@@ -61,15 +61,15 @@ test('texts and JSON', () => {
   const json = { code: 18, size: 2, digest: '00ab' };
   for (const each of [json, { code: '18', digest: '00AB' }, { ...json, code: 18n }])
     assert.equal(`${Multihash.fromJSON(each)}`, '120200ab');
-  const most = 'code must be from 0 to 2^63 - 1, got';
+  const range = 'code must be from 0 to 2^63 - 1, got';
   const wrong = [
     ['{}', TypeError('json must be an object, got string: JSON.parse(text) makes one')],
     [null, TypeError('json must be an object, got null')],
     [{}, TypeError('digest must be a string, got undefined')],
     [{ ...json, code: undefined }, TypeError('code must be a number or a bigint, got undefined')],
     [{ ...json, code: '' }, TypeError('code must be a number or a bigint, got string: CODES has the codes of names')],
-    [{ ...json, code: '9'.repeat(99) }, RangeError(`${most} ${'9'.repeat(40)}...`)],
-    [{ ...json, code: '18'.padStart(21, '0') }, RangeError(`${most} ${'18'.padStart(21, '0')}`)],
+    [{ ...json, code: '9'.repeat(99) }, RangeError(`${range} ${'9'.repeat(40)}...`)],
+    [{ ...json, code: '18'.padStart(21, '0') }, RangeError(`${range} ${'18'.padStart(21, '0')}`)],
     [{ ...json, size: 3 }, RangeError('size must be 2, the length of the digest, got 3')],
     [{ ...json, size: '2' }, RangeError('size must be 2, the length of the digest, got string')],
     [{ ...json, digest: '00a' }, { status: 'not_hexadecimal', message: 'the digest has an odd number of digits, 3' }],

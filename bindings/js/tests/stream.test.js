@@ -32,13 +32,13 @@ const streamOf = (parts, after = (controller) => controller.close(), cancel = un
 
 /** The items up to an error or the end. */
 async function drained(reader) {
-  const found = [];
+  const items = [];
   try {
-    for (let item; (item = await reader.read()) !== null; ) found.push(textOf(item));
+    for (let item; (item = await reader.read()) !== null; ) items.push(textOf(item));
   } catch (error) {
-    return { found, error };
+    return { items, error };
   }
-  return { found };
+  return { items };
 }
 
 /** A stream in two chunks has the same items. One that ends at the cut has those before it, and another reader goes on. */
@@ -47,19 +47,19 @@ async function cutAt(cut, { Reader, items, encodings }, starts) {
   const parts = [bytes.subarray(0, cut), bytes.subarray(cut)];
   for (const source of [chunks(...parts), streamOf(parts)]) {
     const whole = new Reader(source);
-    assert.deepEqual(await drained(whole), { found: items });
+    assert.deepEqual(await drained(whole), { items });
     assert.deepEqual([whole.consumed, whole.rest.length], [bytes.length, 0]);
   }
   const count = starts.filter((start) => start <= cut).length - 1;
   const reader = new Reader(chunks(parts[0]));
-  const { found, error } = await drained(reader);
-  assert.deepEqual(found, items.slice(0, count));
+  const { items: before, error } = await drained(reader);
+  assert.deepEqual(before, items.slice(0, count));
   const rest = hex(bytes.subarray(starts[count], cut));
   assert.deepEqual([reader.count, reader.consumed, hex(reader.rest)], [count, starts[count], rest]);
   assert.equal(error?.isIncomplete, cut === starts[count] ? undefined : true);
   if (error && Reader === FrameReader) assert.ok(error.message.startsWith(`frame ${count} at offset ${starts[count]}: `));
   const other = new Reader(chunks(parts[1]), { rest: reader.rest });
-  assert.deepEqual(await drained(other), { found: items.slice(count) });
+  assert.deepEqual(await drained(other), { items: items.slice(count) });
   assert.equal(other.consumed, bytes.length - starts[count]);
 }
 
@@ -71,14 +71,14 @@ for (const reader of READERS)
   });
 
 test('an item that is too long, before its bytes arrive, or malformed', async () => {
-  const [long, most] = [2 ** 22 + 1, 2n ** 63n - 1n];
+  const [long, longest] = [2 ** 22 + 1, 2n ** 63n - 1n];
   const ofFrames = [
     ['0103', { limit: 0 }, ['invalid_size', 1, 1], 'frame 0 at offset 0: the frame has 1 byte, and the limit is 0'],
     ['0301020304', { limit: 3 }, ['invalid_size', 4, 1], 'frame 1 at offset 4: the frame has 4 bytes, and the limit is 3'],
     [`00${hex(encodeVarint(long))}`, {}, ['invalid_size', long, 4],
       `frame 1 at offset 1: the frame has ${long} bytes, and the limit is ${long - 1}`],
-    [hex(encodeVarint(most)), { limit: 2n ** 53n }, ['invalid_size', most, 9],
-      `frame 0 at offset 0: the frame has ${most} bytes, and the limit is ${2n ** 53n}`],
+    [hex(encodeVarint(longest)), { limit: 2n ** 53n }, ['invalid_size', longest, 9],
+      `frame 0 at offset 0: the frame has ${longest} bytes, and the limit is ${2n ** 53n}`],
     ['0102ff00', {}, ['not_minimal', undefined, 2],
       'frame 1 at offset 2: the varint is not minimal: it ends in a zero byte'],
     ['ff'.repeat(9), {}, ['overflow', undefined, 9], 'frame 0 at offset 0: the varint has more than nine bytes'],
@@ -112,7 +112,7 @@ test('time and memory are linear in the items, and in the chunks of an item', as
     for (let sent = 0; sent < more; sent++) yield Uint8Array.of(1);
   }
   const start = process.cpuUsage();
-  assert.equal((await drained(new MultihashReader(streamOf([list])))).found.length, count);
+  assert.equal((await drained(new MultihashReader(streamOf([list])))).items.length, count);
   assert.equal((await new FrameReader(longFrame(), { limit: 2 ** 25 }).read()).indexOf(1), first);
   assert.ok(process.cpuUsage(start).user < 2e6); // quadratic time would be many times as long
 });
@@ -151,7 +151,7 @@ test('an error releases a stream for another reader, and a loop that it ends can
   assert.deepEqual([ended.consumed, source.locked, await ended.read().catch((again) => again)], [0, false, error]);
   const other = new MultihashReader(source, { rest: ended.rest });
   await ended.cancel(); // the stream is the other's now
-  assert.deepEqual([(await drained(other)).found, cancelled, source.locked], [MULTIHASHES, 0, false]);
+  assert.deepEqual([(await drained(other)).items, cancelled, source.locked], [MULTIHASHES, 0, false]);
   const left = streamOf([], () => {}, () => (cancelled += 1));
   const { rest } = ended;
   const loop = new MultihashReader(left, { limit: 31, rest })[Symbol.asyncIterator]();
@@ -212,13 +212,13 @@ test('calls that wait at a release or a cancellation end as later ones do', asyn
       const chunk = new Promise((resolve) => (deliver = resolve));
       const iterable = { destroy() {}, [Symbol.asyncIterator]: () => ({ next: () => chunk, return: () => chunk }) };
       const readers = [source, iterable].map((each) => new MultihashReader(each));
-      const told = (reader) => reader.read().catch((error) => error.name);
-      const calls = readers.flatMap((reader) => [told(reader), told(reader)]);
+      const itemOrError = (reader) => reader.read().catch((error) => error.name);
+      const calls = readers.flatMap((reader) => [itemOrError(reader), itemOrError(reader)]);
       await readers.map((reader) => reader[name]('why'))[0]; // the other one waits for the chunk
       assert.deepEqual([reasons, source.locked], [name === 'release' ? [] : ['why'], false]);
       if (name === 'cancel') assert.deepEqual(await Promise.all(calls), [null, null, null, null]); // at once
       deliver({ done: false, value: part });
-      for (const call of [...calls, ...readers.map(told)]) assert.equal(await call, ends[name]);
+      for (const call of [...calls, ...readers.map(itemOrError)]) assert.equal(await call, ends[name]);
       assert.deepEqual(readers[1].rest, part.slice());
     }
   }
@@ -228,23 +228,23 @@ test('a release or a cancellation after any number of turns loses no byte', asyn
   const bytes = Uint8Array.of(18, 2, 1, 2, 0, 0, 1, 1, 9);
   for (const name of ['release', 'cancel']) {
     for (let turns = 0; turns < 100; turns++) { // 100 turns are enough to read all
-      let given = 0;
+      let sent = 0;
       const generated = (async function* () {
-        while (given < bytes.length) yield Uint8Array.of(bytes[given++]);
+        while (sent < bytes.length) yield Uint8Array.of(bytes[sent++]);
       })();
       const source = name === 'release' ? ReadableStream.from(generated) : generated;
       const reader = new MultihashReader(source);
       const call = drained(reader);
       for (let turn = 0; turn < turns; turn++) await null;
       await reader[name]();
-      const { found } = await call;
+      const { items } = await call;
       let { rest } = reader;
       if (name === 'release') {
         const next = new MultihashReader(source, { rest });
-        found.push(...(await drained(next)).found);
+        items.push(...(await drained(next)).items);
         rest = next.rest;
       }
-      assert.equal(found.join('') + hex(rest), hex(bytes.subarray(0, given)), `a ${name} after ${turns} turns`);
+      assert.equal(items.join('') + hex(rest), hex(bytes.subarray(0, sent)), `a ${name} after ${turns} turns`);
     }
   }
 });
