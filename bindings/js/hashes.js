@@ -38,16 +38,22 @@ function webCryptoHash(algorithm) {
   };
 }
 
-/** Hashes with `identity`, whose digest is the content. If that is too long, `digest` returns an object with its length. */
+/** Hashes with `identity`, whose digest is the content. A digest of `DIGEST_MAX + 1` bytes is the start of a longer one. */
 function identityHash() {
-  const content = new Uint8Array(DIGEST_MAX);
+  const content = new Uint8Array(DIGEST_MAX + 1);
   let length = 0;
   return {
     update(piece) {
-      if (length + piece.length <= DIGEST_MAX) content.set(piece, length);
+      if (length < content.length) content.set(piece.subarray(0, content.length - length), length);
       length += piece.length;
     },
-    digest: () => (length > DIGEST_MAX ? { length } : content.slice(0, length)),
+    /** Throws an error if no multihash can have the content. */
+    checkLength() {
+      if (length > DIGEST_MAX)
+        throw new MultihashError(`identity takes at most ${DIGEST_MAX} bytes of content, got ${length}`,
+          { status: 'invalid_size', size: length });
+    },
+    digest: () => content.slice(0, length),
   };
 }
 
@@ -64,14 +70,22 @@ function doubleHash(create) {
   };
 }
 
+// The names that OpenSSL has for functions, where they are not those of CODES.
+const OPENSSL_NAMES = {
+  'sha2-224': 'sha224', 'sha2-256': 'sha256', 'sha2-384': 'sha384', 'sha2-512': 'sha512', 'sha2-512-224': 'sha512-224',
+  'sha2-512-256': 'sha512-256', 'shake-128': 'shake128', 'shake-256': 'shake256', 'ripemd-160': 'ripemd160',
+  'sm3-256': 'sm3', 'blake2b-256': 'blake2b256', 'blake2b-512': 'blake2b512', 'blake2s-256': 'blake2s256',
+};
+const OUTPUT_LENGTHS = { 'shake-128': 32, 'shake-256': 64 };
+
 // The functions of this platform, by their names. Each value creates an object that hashes pieces.
 const creators = { __proto__: null, identity: identityHash };
 if (node) {
   const available = node.getHashes();
   for (const name of Object.keys(CODES)) {
-    const algorithm = name.replace('sha2-', 'sha').replace(/^(shake|ripemd|blake2.)-/, '$1').replace('sm3-256', 'sm3');
-    const outputLength = { __proto__: null, shake128: 32, shake256: 64 }[algorithm];
-    if (available.includes(algorithm)) creators[name] = () => node.createHash(algorithm, { outputLength });
+    const algorithm = OPENSSL_NAMES[name] ?? name;
+    const options = { outputLength: OUTPUT_LENGTHS[name] };
+    if (available.includes(algorithm)) creators[name] = () => node.createHash(algorithm, options);
   }
 } else {
   for (const bits of [256, 384, 512]) creators[`sha2-${bits}`] = () => webCryptoHash(`SHA-${bits}`);
@@ -96,8 +110,11 @@ async function reading(content, call) {
   }
 }
 
-/** Returns the digest of the content: of the chunks of its source, or of bytes. */
-async function hashOf(create, content, source) {
+/**
+ * Hashes the content: the chunks of its source, or bytes. Returns what `finish(hash)` returns, with the object that hashed
+ * it. For bytes up to `PIECE` that is called before this function returns a promise, since they may change afterwards.
+ */
+async function hashOf(create, content, source, finish) {
   const hash = create();
   if (source === undefined) {
     const length = checkedLength(content, 'content');
@@ -105,7 +122,7 @@ async function hashOf(create, content, source) {
       if (at > 0) await new Promise((resolve) => globalThis.setImmediate(resolve)); // lets other tasks run
       hash.update(viewOf(content, at, Math.min(PIECE, length - at)));
     }
-    return hash.digest();
+    return finish(hash);
   }
   while (true) {
     const { done, value } = await source.next();
@@ -114,7 +131,7 @@ async function hashOf(create, content, source) {
     hash.update(new Uint8Array(value)); // a copy, since a source may reuse its memory
   }
   source.release();
-  return hash.digest();
+  return finish(hash);
 }
 
 /** Hashes pieces with an object that a caller's function creates, such as one of @noble/hashes or hash-wasm. */
@@ -155,12 +172,11 @@ function codeOf(hash) {
   return CODES[hash];
 }
 
-/** Returns the multihash of a digest, or of its first `truncate` bytes. Throws an error if `identity` got too much. */
-function multihashOf(code, whole, truncate) {
+/** Returns the multihash of what an object hashed, with the first `truncate` bytes of the digest. */
+async function multihashOf(code, hash, truncate) {
+  hash.checkLength?.();
+  const whole = await hash.digest();
   const { length } = whole;
-  if (!isBytes(whole))
-    throw new MultihashError(`identity takes at most ${DIGEST_MAX} bytes of content, got ${length}`,
-      { status: 'invalid_size', size: length });
   const size = truncate ?? length;
   if (typeof size !== 'number') throw wrongType('truncate', 'a number', size);
   if (!Number.isInteger(size) || size < 0 || size > length)
@@ -171,7 +187,7 @@ function multihashOf(code, whole, truncate) {
 export const digest = (content, hash, options = {}) => reading(content, async (source) => {
   const { truncate, functions } = checkedOptions(options, ['truncate', 'functions']);
   const code = codeOf(hash);
-  return multihashOf(code, await hashOf(creatorOf(code, functions), content, source), truncate);
+  return hashOf(creatorOf(code, functions), content, source, (hasher) => multihashOf(code, hasher, truncate));
 });
 
 export class Hasher {
@@ -193,12 +209,8 @@ export class Hasher {
   }
 
   multihash() {
-    this.#multihash ??= this.#finish();
+    this.#multihash ??= multihashOf(this.#code, this.#hash);
     return this.#multihash;
-  }
-
-  async #finish() {
-    return multihashOf(this.#code, await this.#hash.digest());
   }
 }
 
@@ -219,7 +231,7 @@ function claimOf(multihash) {
 export const verify = (multihash, content, options = {}) => reading(content, async (source) => {
   const { functions } = checkedOptions(options, ['functions']);
   const claim = claimOf(multihash);
-  const actual = await hashOf(creatorOf(claim.code, functions), content, source);
+  const actual = await hashOf(creatorOf(claim.code, functions), content, source, (hash) => hash.digest());
   if (claim.digest.length === 0) checkedLength(claim.digest, 'the digest');
   if (claim.digest.length !== actual.length) return false;
   let difference = 0; // all bytes are compared, so that the time does not depend on them
