@@ -14,42 +14,21 @@ export function shown(number) {
   return text.length > 40 ? `${text.slice(0, 40)}...` : text;
 }
 
-const DECODING = 'Multihash.fromHex(text) and CID.parse(text) decode it';
-const STREAM = 'its stream() is a ReadableStream';
-
-/** What a caller can do instead, by the type of what was passed, and for some types by the argument. */
+/** What a caller can do instead, by the type of what was passed. */
 const HINTS = {
   __proto__: null,
-  string: {
-    bytes: DECODING,
-    multihash: DECODING,
-    code: 'CODES has the codes of names',
-    content: 'new TextEncoder().encode(text) makes bytes',
-    source: 'createReadStream(path) opens a file',
-    'a chunk of the stream': 'open the stream without an encoding',
-    json: 'JSON.parse(text) makes one',
-  },
-  Uint8Array: {
-    source: 'new Blob([bytes]).stream() makes one',
-    any: 'decode(bytes) and read(bytes) decode it',
-  },
-  view: 'new Uint8Array(view.buffer, view.byteOffset, view.byteLength) makes bytes',
+  string: 'Multihash.fromHex(text) decodes hexadecimal, new TextEncoder().encode(text) makes bytes',
   Array: 'Uint8Array.from(array) makes bytes',
   ArrayBuffer: 'new Uint8Array(buffer) makes bytes',
-  Blob: STREAM,
-  File: STREAM,
-  Response: 'its body is a ReadableStream',
-  Map: 'Object.fromEntries(map) makes one',
-  Multihash: 'its bytes are the encoding',
+  view: 'new Uint8Array(view.buffer, view.byteOffset, view.byteLength) makes bytes',
   Promise: 'await it',
 };
 
-/** The error for an argument of a wrong type. */
+/** The error for an argument of a wrong type. Only where bytes are expected it has a hint. */
 export function wrongType(name, expected, value) {
   let type = received(value);
   if (type === 'Uint8Array' && !isBytes(value)) type = 'a Proxy of a Uint8Array';
-  const hints = HINTS[ArrayBuffer.isView(value) && type !== 'Uint8Array' ? 'view' : type];
-  const hint = typeof hints === 'object' ? hints[name] ?? hints.any : hints;
+  const hint = expected.includes('a Uint8Array') ? HINTS[ArrayBuffer.isView(value) ? 'view' : type] : undefined;
   return new TypeError(`${name} must be ${expected}, got ${type}${hint ? `: ${hint}` : ''}`);
 }
 
@@ -68,7 +47,7 @@ export const isBytes = (value) => tagOf.call(value) === 'Uint8Array';
 /** The length of a Uint8Array. Throws a TypeError for any other value, and if the array is detached or out of bounds. */
 export function checkedLength(data, name) {
   if (tagOf.call(data) !== 'Uint8Array') throw wrongType(name, 'a Uint8Array', data);
-  // in V8 11 `decode` and `encode` take 4 % less time if an element is read before the length
+  // In V8 11 `encode` and `equals` take 6 % less time if an element is read before the length.
   return data[0] === undefined ? emptyLength(data, name) : lengthOf.call(data);
 }
 

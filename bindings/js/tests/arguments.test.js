@@ -4,38 +4,35 @@ import { test } from 'node:test';
 import { CID } from '../cid.js';
 import { FrameReader, Hasher, Multihash, MultihashReader, compare, decode, digest, encode, encodeVarint, encodedLength,
   head, read, readMany, readVarint, scaleDecode, scaleEncode, sha256, verify, writeVarint } from '../index.js';
-import { unhex, withoutMemory } from './support.js';
+import { TEXT, unhex, withoutMemory } from './support.js';
 
 const EXAMPLE = unhex('1620644bcc7e564373040999aac89e7622f3ca71fba1d972fd94a31c3bfbf24e3938');
 const MULTIHASH = decode(EXAMPLE);
 const NOTHING = { [Symbol.asyncIterator]: () => ({ next() {} }) };
 const READERS = [MultihashReader, FrameReader];
 // what an error says of a type
-const TEXT = 'string: Multihash.fromHex(text) and CID.parse(text) decode it';
-const TEXT_AS_CONTENT = 'string: new TextEncoder().encode(text) makes bytes';
 const ARRAY = 'Array: Uint8Array.from(array) makes bytes';
-const BYTES = 'Uint8Array: decode(bytes) and read(bytes) decode it';
 const VIEW = 'new Uint8Array(view.buffer, view.byteOffset, view.byteLength) makes bytes';
 const NO_BYTES = [
   [null, 'null'], [true, 'true'], [34, '34'], [34n, 'bigint'], [Symbol('bytes'), 'symbol'], [() => 0, 'function'],
   [{}, 'Object'], [{ __proto__: null }, 'Object'], [new (class Own {})(), 'Own'], [Promise.resolve(), 'Promise: await it'],
-  [MULTIHASH, 'Multihash: its bytes are the encoding'], [[22, 0], ARRAY],
+  [MULTIHASH, 'Multihash'], [[22, 0], ARRAY],
   [new ArrayBuffer(4), 'ArrayBuffer: new Uint8Array(buffer) makes bytes'],
   [new DataView(new ArrayBuffer(4)), `DataView: ${VIEW}`], [new Uint8ClampedArray(2), `Uint8ClampedArray: ${VIEW}`],
   [new Proxy(new Uint8Array(2), {}), 'a Proxy of a Uint8Array'],
   [Object.create(Uint8Array.prototype), 'a Proxy of a Uint8Array'],
 ];
 const OF_BYTES = [
-  ...[decode, read, head, readVarint, readMany, scaleDecode, CID.decode, CID.read].map((call) => ['bytes', call, TEXT]),
-  ['bytes', (bytes) => writeVarint(1, bytes), TEXT],
-  ...[encode, scaleEncode, Multihash.of].map((call) => ['digest', (bytes) => call(18, bytes), 'string']),
-  ...READERS.map((Reader) => ['rest', (bytes) => new Reader(NOTHING, { rest: bytes }), 'string']),
-  ['content', (bytes) => new Hasher('sha1').update(bytes), TEXT_AS_CONTENT],
+  ...[decode, read, head, readVarint, readMany, scaleDecode, CID.decode, CID.read].map((call) => ['bytes', call]),
+  ['bytes', (bytes) => writeVarint(1, bytes)],
+  ...[encode, scaleEncode, Multihash.of].map((call) => ['digest', (bytes) => call(18, bytes)]),
+  ...READERS.map((Reader) => ['rest', (bytes) => new Reader(NOTHING, { rest: bytes })]),
+  ['content', (bytes) => new Hasher('sha1').update(bytes)],
 ];
 
 test('bytes', () => {
-  for (const [name, call, text] of OF_BYTES) {
-    for (const [value, got] of [...NO_BYTES, ['1620', text]])
+  for (const [name, call] of OF_BYTES) {
+    for (const [value, got] of [...NO_BYTES, ['1620', TEXT]])
       assert.throws(() => call(value), TypeError(`${name} must be a Uint8Array, got ${got}`));
     for (const bytes of withoutMemory())
       assert.throws(() => call(bytes), TypeError(`${name} is a Uint8Array that is detached or out of bounds`));
@@ -54,8 +51,7 @@ const OF_NUMBERS = [
 
 test('numbers', () => {
   for (const [name, call] of OF_NUMBERS) {
-    const text = name === 'code' ? 'string: CODES has the codes of names' : 'string';
-    for (const [value, got] of [['18', text], [null, 'null'], [{}, 'Object'], [[18], ARRAY], [true, 'true']])
+    for (const [value, got] of [['18', 'string'], [null, 'null'], [{}, 'Object'], [[18], 'Array'], [true, 'true']])
       assert.throws(() => call(value), TypeError(`${name} must be a number or a bigint, got ${got}`));
     for (const value of [-1, 1.5, NaN, Infinity, 2 ** 53])
       assert.throws(() => call(value),
@@ -68,14 +64,14 @@ test('numbers', () => {
 
 test('multihashes and CIDs', () => {
   const cid = CID.of(1, 0x55, MULTIHASH);
-  for (const [value, got] of [[{ ...MULTIHASH }, 'Object'], [EXAMPLE, BYTES], [null, 'null']]) {
+  for (const [value, got] of [[{ ...MULTIHASH }, 'Object'], [EXAMPLE, 'Uint8Array'], [null, 'null']]) {
     assert.throws(() => compare(value, MULTIHASH), TypeError(`left must be a Multihash, got ${got}`));
     assert.throws(() => compare(MULTIHASH, value), TypeError(`right must be a Multihash, got ${got}`));
     assert.throws(() => CID.of(1, 0x55, value), TypeError(`multihash must be a Multihash, got ${got}`));
   }
   assert.throws(() => new Multihash(Symbol(), 22, EXAMPLE), TypeError('Multihash.of(code, digest) makes a multihash'));
   assert.throws(() => new CID(1, 0x55, MULTIHASH), TypeError('CID.of(version, codec, multihash) makes a CID'));
-  for (const [value, got] of [[undefined, 'undefined'], [EXAMPLE, BYTES], [new String('b'), 'String'], [cid, 'CID']])
+  for (const [value, got] of [[undefined, 'undefined'], [EXAMPLE, 'Uint8Array'], [new String('b'), 'String'], [cid, 'CID']])
     for (const call of [CID.parse, Multihash.fromHex])
       assert.throws(() => call(value), TypeError(`text must be a string, got ${got}`));
   for (const base of ['m', 'base32', '__proto__', null, Symbol('b')])
@@ -85,13 +81,11 @@ test('multihashes and CIDs', () => {
 
 test('sources and options of readers', () => {
   const sources = [
-    [null, 'null'], [3, '3'], ['path', 'string: createReadStream(path) opens a file'], [[EXAMPLE], ARRAY],
-    [EXAMPLE, 'Uint8Array: new Blob([bytes]).stream() makes one'], [new (class {})(), 'Object'],
-    [new Response(), 'Response: its body is a ReadableStream'], [new Blob(), 'Blob: its stream() is a ReadableStream'],
-    [new File([], ''), 'File: its stream() is a ReadableStream'],
+    [null, 'null'], [3, '3'], ['path', 'string'], [[EXAMPLE], 'Array'], [EXAMPLE, 'Uint8Array'],
+    [new (class {})(), 'Object'], [new Response(), 'Response'], [new Blob(), 'Blob'],
     [{ [Symbol.asyncIterator]: () => null }, 'Object'], [{ [Symbol.asyncIterator]: () => ({}) }, 'Object'],
   ];
-  const options = [[null, 'must be an object, got null'], [[], `must be an object, got ${ARRAY}`],
+  const options = [[null, 'must be an object, got null'], [[], 'must be an object, got Array'],
     [{ limit: 1, max: 2 }, 'can have limit and rest, got max']];
   for (const Reader of READERS) {
     for (const [source, got] of sources)
@@ -111,10 +105,10 @@ test('content, claims, names and options of hash functions', async () => {
   const noClaim = 'multihash must be a Multihash or its encoding, got';
   const noHash = 'hash must be a name in CODES or a code, got';
   const calls = [
-    [digest('abc', 18), TypeError(`${noContent} ${TEXT_AS_CONTENT}`)],
+    [digest('abc', 18), TypeError(`${noContent} ${TEXT}`)],
     [verify(whole, null), TypeError(`${noContent} null`)],
-    [verify(abc, whole), TypeError(`${noContent} Multihash: its bytes are the encoding`)], // the arguments are swapped
-    [verify('1200', abc), TypeError(`${noClaim} ${TEXT}`)],
+    [verify(abc, whole), TypeError(`${noContent} Multihash`)], // the arguments are swapped
+    [verify('1200', abc), TypeError(`${noClaim} string`)],
     [verify({}, abc), TypeError(`${noClaim} Object`)],
     [verify(null, abc), TypeError(`${noClaim} null`)],
     [verify({ code: null, digest: abc }, abc), TypeError('code must be a number or a bigint, got null')],

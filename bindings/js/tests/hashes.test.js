@@ -8,7 +8,7 @@ import { clearImmediate, setImmediate } from 'node:timers';
 import { fileURLToPath } from 'node:url';
 import { CODES, Hasher, Multihash, NAMES, UnsupportedHashError, digest, hashers, identity, sha256,
   sha384, sha512, verify } from '../index.js';
-import { KINDS, chunks, detach, hex, rowsOf, withoutMemory } from './support.js';
+import { KINDS, TEXT, chunks, detach, hex, rowsOf, withoutMemory } from './support.js';
 
 const ABC = new TextEncoder().encode('abc');
 const CONTENT = new Uint8Array(2500).map((_, index) => index);
@@ -150,7 +150,7 @@ test('a function that is missing or wrong', async () => {
   const missing = { message: 'this platform has no function for the code 0x1e (blake3): the option functions takes one' };
   Object.assign(missing, { name: 'UnsupportedHashError', code: 0x1e });
   const wrong = [
-    [new Map([[30, summing]]), TypeError(`${noObject} Map: Object.fromEntries(map) makes one`)],
+    [new Map([[30, summing]]), TypeError(`${noObject} Map`)],
     [null, TypeError(`${noObject} null`)], [summing, TypeError(`${noObject} function`)],
     [{ 30: null }, TypeError('functions[30] must be a function, got null')],
     [{ blake3: () => ({ update() {} }) }, TypeError(`${noHash} Object`)],
@@ -195,8 +195,7 @@ test('a source is cancelled after an error, even if nothing was read', async () 
       await new Promise((resolve) => (file.closed ? resolve() : file.once('close', resolve))); // its error is caught
     }
   }
-  const ofText = 'a chunk of the stream must be a Uint8Array, got string: open the stream without an encoding';
-  await assert.rejects(sha256.digest(iterable), TypeError(ofText));
+  await assert.rejects(sha256.digest(iterable), TypeError(`a chunk of the stream must be a Uint8Array, got ${TEXT}`));
   assert.equal(reasons.length, 1);
   const failing = new ReadableStream({ pull: () => Promise.reject(Error('broken')) });
   await assert.rejects(sha256.digest(failing), Error('broken'));

@@ -63,11 +63,11 @@ test('texts and JSON', () => {
     assert.equal(`${Multihash.fromJSON(each)}`, '120200ab');
   const range = 'code must be from 0 to 2^63 - 1, got';
   const wrong = [
-    ['{}', TypeError('json must be an object, got string: JSON.parse(text) makes one')],
+    ['{}', TypeError('json must be an object, got string')],
     [null, TypeError('json must be an object, got null')],
     [{}, TypeError('digest must be a string, got undefined')],
     [{ ...json, code: undefined }, TypeError('code must be a number or a bigint, got undefined')],
-    [{ ...json, code: '' }, TypeError('code must be a number or a bigint, got string: CODES has the codes of names')],
+    [{ ...json, code: '' }, TypeError('code must be a number or a bigint, got string')],
     [{ ...json, code: '9'.repeat(99) }, RangeError(`${range} ${'9'.repeat(40)}...`)],
     [{ ...json, code: '18'.padStart(21, '0') }, RangeError(`${range} ${'18'.padStart(21, '0')}`)],
     [{ ...json, size: 3 }, RangeError('size must be 2, the length of the digest, got 3')],

@@ -5,7 +5,7 @@ import { Readable } from 'node:stream';
 import { test } from 'node:test';
 import { setImmediate, setTimeout } from 'node:timers/promises';
 import { FrameReader, MultihashError, MultihashReader, encode, encodeVarint } from '../index.js';
-import { chunks, detach, hex, unhex } from './support.js';
+import { TEXT, chunks, detach, hex, unhex } from './support.js';
 
 const DIGESTS = [[0x12, new Uint8Array(32).fill(7)], [0, new Uint8Array()], [2n ** 62n, new Uint8Array(255).fill(9)]];
 const MULTIHASHES = DIGESTS.map(([code, digest]) => hex(encode(code, digest)));
@@ -130,7 +130,7 @@ test('a source that fails, and a chunk that is not bytes', async () => {
     [failing(), broken], [Readable.from(failing()), broken], [streamOf([part], (stream) => stream.error(broken)), broken],
     [streamOf([part], (stream) => stream.error()), unknown], [streamOf([part], (stream) => stream.error(null)), unknown],
     [Readable.from([part, 'text']),
-      TypeError('a chunk of the stream must be a Uint8Array, got string: open the stream without an encoding')],
+      TypeError(`a chunk of the stream must be a Uint8Array, got ${TEXT}`)],
     [Readable.from([part, moved]), TypeError('a chunk of the stream is a Uint8Array that is detached or out of bounds')],
   ];
   for (const [source, error] of sources) {

@@ -25,6 +25,9 @@ export function outcome(call) {
   }
 }
 
+/** What an error says of a string where bytes are expected. */
+export const TEXT = 'string: Multihash.fromHex(text) decodes hexadecimal, new TextEncoder().encode(text) makes bytes';
+
 /** A subclass whose properties lie about its bytes. */
 class Lying extends Uint8Array {}
 Object.defineProperty(Lying, Symbol.species, { value: Array });
