@@ -81,21 +81,29 @@ export function readVarint(bytes) {
 
 // ---- many multihashes
 
-/** Returns new columns with this capacity. They start with the elements of `others`, as many as fit. */
+/** Returns new columns with this capacity. They start with the rows of others, as many as fit. */
 function columnsOf(capacity, others = {}) {
   const codes = new BigUint64Array(capacity);
+  const halves = new Uint32Array(codes.buffer); // each code in two parts, for `setCode`
   const columns = { codes, offsets: new Float64Array(capacity), lengths: new Uint8Array(capacity) };
-  for (const [name, column] of Object.entries(others)) columns[name].set(column.subarray(0, capacity));
-  return columns;
+  for (const name in columns) if (others[name]) columns[name].set(others[name].subarray(0, capacity));
+  return { ...columns, halves };
+}
+
+// The index of the low half of 64 bits: the platform's byte order decides.
+const LOW_HALF = new Uint8Array(Uint32Array.of(1).buffer)[0] === 1 ? 0 : 1;
+
+/** Sets a code that was 0. Below 2^32 only the low half is written, since making a bigint would double the time. */
+function setCode({ codes, halves }, index, code) {
+  if (code < 2 ** 32) halves[2 * index + LOW_HALF] = code;
+  else codes[index] = BigInt(code);
 }
 
 export function readMany(bytes) {
   const length = checkedLength(bytes, 'bytes');
   const view = viewOf(bytes, 0, length);
   // the capacity at first: enough if each encoding has 34 bytes, but at most a million
-  let { codes, offsets, lengths } = columnsOf(Math.min(Math.ceil(length / 34), 2 ** 20));
-  let halves = new Uint32Array(codes.buffer);
-  const low = new Uint8Array(Uint32Array.of(1).buffer)[0] === 1 ? 0 : 1; // the index of the low half of 64 bits
+  let columns = columnsOf(Math.min(Math.ceil(length / 34), 2 ** 20));
   let consumed = 0;
   let count = 0;
   let error;
@@ -106,17 +114,13 @@ export function readMany(bytes) {
       error = errorOf(result, view, consumed, length, DIGEST_MAX);
       break;
     }
-    if (count === lengths.length) {
-      ({ codes, offsets, lengths } = columnsOf(2 * count, { codes, offsets, lengths }));
-      halves = new Uint32Array(codes.buffer);
-    }
-    if (code < 2 ** 32) halves[2 * count + low] = code; // making a bigint would double the time
-    else codes[count] = BigInt(code);
-    offsets[count] = next - size;
-    lengths[count] = size;
+    if (count === columns.lengths.length) columns = columnsOf(2 * count, columns);
+    setCode(columns, count, code);
+    columns.offsets[count] = next - size;
+    columns.lengths[count] = size;
     consumed = next;
     count++;
   }
-  if (count < lengths.length) ({ codes, offsets, lengths } = columnsOf(count, { codes, offsets, lengths }));
+  const { codes, offsets, lengths } = count < columns.lengths.length ? columnsOf(count, columns) : columns;
   return { codes, offsets, lengths, consumed, error };
 }
