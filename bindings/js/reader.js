@@ -31,6 +31,56 @@ class Received {
   }
 }
 
+/**
+ * The iterator of a loop over a reader, which cancels the reader's source at its end. An async generator would be shorter,
+ * but its `return` waits for a pending `next`, and a loop over items that were received takes 1.7 times as long.
+ */
+class ItemIterator {
+  #reader;
+  #ready;
+  #isOver = false;
+
+  /** `ready()` returns the next item if it was received, and otherwise undefined. */
+  constructor(reader, ready) {
+    this.#reader = reader;
+    this.#ready = ready;
+  }
+
+  [Symbol.asyncIterator]() {
+    return this;
+  }
+
+  next() {
+    const value = this.#ready(); // undefined after the end, since `return` cancels
+    return value ? Promise.resolve({ done: false, value }) : this.#read();
+  }
+
+  async #read() {
+    if (this.#isOver) return { done: true, value: undefined };
+    let value;
+    try {
+      value = await this.#reader.read();
+    } catch (error) {
+      return this.throw(error);
+    }
+    return value === null ? this.return() : { done: false, value };
+  }
+
+  async return(value) {
+    if (!this.#isOver) {
+      this.#isOver = true;
+      await this.#reader.cancel();
+    }
+    return { done: true, value };
+  }
+
+  async throw(error) {
+    await this.return().catch(() => {}); // the first error is thrown, not one of cancelling
+    throw error;
+  }
+}
+if (Symbol.asyncDispose) ItemIterator.prototype[Symbol.asyncDispose] = ItemIterator.prototype.return;
+
 class ItemReader {
   #source; // undefined after `release`
   #find;
@@ -150,36 +200,8 @@ class ItemReader {
     await this.#source.close(reason);
   }
 
-  // An async generator would do the same, but takes twice as long for an item that was already received.
   [Symbol.asyncIterator]() {
-    let isOver = false;
-    const finish = async (value) => {
-      if (!isOver) {
-        isOver = true;
-        await this.cancel();
-      }
-      return { done: true, value };
-    };
-    const fail = async (error) => {
-      await finish().catch(() => {}); // the first error is thrown, not one of cancelling
-      throw error;
-    };
-    const awaited = async () => {
-      if (isOver) return { done: true, value: undefined };
-      try {
-        const value = await this.read();
-        return value === null ? finish() : { done: false, value };
-      } catch (error) {
-        return fail(error);
-      }
-    };
-    const next = () => {
-      const value = this.#ready(); // undefined after the end, since `finish` cancels
-      return value ? Promise.resolve({ done: false, value }) : awaited();
-    };
-    const loop = { next, return: finish, throw: fail, [Symbol.asyncIterator]: () => loop };
-    if (Symbol.asyncDispose) loop[Symbol.asyncDispose] = finish;
-    return loop;
+    return new ItemIterator(this, () => this.#ready());
   }
 }
 if (Symbol.asyncDispose) ItemReader.prototype[Symbol.asyncDispose] = ItemReader.prototype.cancel;
