@@ -44,7 +44,7 @@ export const bufferOf = getter(typedArray, 'buffer');
 /** Whether the value is a Uint8Array, of any realm. */
 export const isBytes = (value) => tagOf.call(value) === 'Uint8Array';
 
-/** The length of a Uint8Array. Throws a TypeError for any other value, and if the array is detached or out of bounds. */
+/** The length of a Uint8Array. Throws a TypeError for other values, and if the array is detached or out of bounds. */
 export function checkedLength(data, name) {
   if (tagOf.call(data) !== 'Uint8Array') throw wrongType(name, 'a Uint8Array', data);
   // In V8 11 `encode` and `equals` take 6 % less time if an element is read before the length.
@@ -65,25 +65,27 @@ export const viewOf = (data, at, length) => new Uint8Array(bufferOf.call(data), 
 
 /** A copy of the bytes from one index to another: a plain Uint8Array, even if the data is of a subclass. */
 export function copyOf(data, start, end) {
-  // `slice` returns an array of the same class. In V8 11 a view takes three times as long: it needs `buffer`, an object that
-  // the engine makes when it is first asked for
-  return data.constructor === Uint8Array ? slice.call(data, start, end) : new Uint8Array(viewOf(data, start, end - start));
+  // `slice` returns an array of the same class. In V8 11 a view takes three times as long: it needs `buffer`, an object
+  // that the engine makes when it is first asked for
+  if (data.constructor === Uint8Array) return slice.call(data, start, end);
+  return new Uint8Array(viewOf(data, start, end - start));
 }
 
-/** Returns the value if it is an object of names and values. Throws a TypeError for others, such as an Array or a Map. */
+/** Returns the value if it is an object of names and values. Throws a TypeError for others, such as a Map. */
 export function checkedObject(value, name) {
-  if (typeof value !== 'object' || value === null || Symbol.iterator in value) throw wrongType(name, 'an object', value);
+  const isObject = typeof value === 'object' && value !== null && !(Symbol.iterator in value);
+  if (!isObject) throw wrongType(name, 'an object', value);
   return value;
 }
 
-/** Returns the options of a call. Throws a TypeError if they are not an object, or have a name that is not in the list. */
+/** Returns the options of a call. Throws a TypeError if they are not an object, or have other names. */
 export function checkedOptions(options, names) {
   const other = Object.keys(checkedObject(options, 'options')).find((key) => !names.includes(key));
   if (other !== undefined) throw new TypeError(`options can have ${names.join(' and ')}, got ${shown(other)}`);
   return options;
 }
 
-/** Returns a whole number from 0 to 2^64 - 1, a safe integer or a bigint: as a number if that is exact, or as a bigint. */
+/** Returns a whole number from 0 to 2^64 - 1, a safe integer or a bigint: as a number if that is exact. */
 export function checkedWide(number, name) {
   if (Number.isSafeInteger(number) && number >= 0) return number + 0; // -0 is 0
   if (typeof number !== 'bigint' || BigInt.asUintN(64, number) !== number) throw wrongNumber(name, number);

@@ -30,7 +30,7 @@ const BASE16 = Uint8Array.from('0123456789abcdef', (digit) => digit.charCodeAt(0
 const hexBuffer = new Uint8Array(2 * (1 + VARINT_LENGTH_MAX + LENGTH_MAX)); // enough for the longest CID
 const decoder = new TextDecoder();
 
-/** The bytes of a multihash or a CID in hexadecimal. To append each digit to a text would take several times as long. */
+/** The bytes of a multihash or a CID in hexadecimal. Appending each digit to a text takes several times as long. */
 export function hex(bytes) {
   for (let index = 0; index < bytes.length; index++) {
     hexBuffer[2 * index] = BASE16[bytes[index] >> 4];
@@ -94,9 +94,9 @@ function fromBase32(text) {
 }
 
 /**
- * The bases, by the prefixes of texts. `other` matches a character that is not a digit. `encode` returns digits without the
- * prefix, and `decode` expects digits without it. `decode` returns undefined if the last digit is superfluous, or if its
- * unused bits are not zero.
+ * The bases, by the prefixes of texts. `other` matches a character that is not a digit. `encode` returns digits without
+ * the prefix, and `decode` expects digits without it. `decode` returns undefined if the last digit is superfluous, or
+ * if its unused bits are not zero.
  */
 export const BASES = {
   __proto__: null,

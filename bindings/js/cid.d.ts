@@ -1,7 +1,7 @@
 // Content identifiers (CIDs), as bytes and as strings.
 import type { Multihash, Status as MultihashStatus, Wide } from './index.js';
 
-/** The codecs that most CIDs have, by their names in the multicodec table. Any other number below 2^63 is a codec too. */
+/** The codecs that most CIDs have, by their names in the multicodec table. Other numbers below 2^63 are codecs too. */
 export const CODECS: {
   readonly raw: 0x55;
   readonly 'dag-pb': 0x70;
@@ -16,8 +16,8 @@ export const CID_LENGTH_MAX: 276;
 export const CID_TEXT_MAX: 553;
 
 /**
- * Why a call failed. The packages for other languages use the same names. Those of `Status` are of the version, the codec or
- * the multihash, and `cause` is the `MultihashError`. An empty text is `insufficient`.
+ * Why a call failed. The packages for other languages use the same names. Those of `Status` are of the version, the
+ * codec or the multihash, and `cause` is the `MultihashError`. An empty text is `insufficient`.
  */
 export type CIDStatus =
   | Exclude<MultihashStatus, 'invalid_code' | 'not_hexadecimal'>
@@ -38,8 +38,8 @@ export class CIDError extends Error {
 }
 
 /**
- * A content identifier. The bytes of version 1 are the varints of 1 and of the codec, and the multihash; those of version
- * 0 are the multihash alone, of SHA2-256 with 32 bytes. Do not write to the properties.
+ * A content identifier. The bytes of version 1 are the varints of 1 and of the codec, and the multihash; those of
+ * version 0 are the multihash alone, of SHA2-256 with 32 bytes. Do not write to the properties.
  */
 export class CID {
   private constructor();
@@ -53,8 +53,8 @@ export class CID {
   /** Decodes the CID at the start of `bytes`. `consumed` is the length of its encoding. Throws a `CIDError`. */
   static read(bytes: Uint8Array): { readonly cid: CID; readonly consumed: number };
   /**
-   * Decodes a text: `b..` (base32), `f..` (base16), `z..` (base58btc), or `Qm..` (version 0). A CID has one text in each
-   * base, and no other is accepted: no capitals, no padding. Throws a `CIDError`.
+   * Decodes a text: `b..` (base32), `f..` (base16), `z..` (base58btc), or `Qm..` (version 0). A CID has one text in
+   * each base, and no other is accepted: no capitals, no padding. Throws a `CIDError`.
    */
   static parse(text: string): CID;
   readonly version: 0 | 1;
@@ -64,8 +64,8 @@ export class CID {
   /** The encoding: a new array each time. */
   readonly bytes: Uint8Array;
   /**
-   * Returns the text in the base of a prefix, by default `b`, which is base32; `f` is base16 and `z` base58btc. Version 0
-   * has the text `Qm..` alone: its base is `z`. Throws a `RangeError` for other bases.
+   * Returns the text in the base of a prefix, by default `b`, which is base32; `f` is base16 and `z` base58btc.
+   * Version 0 has the text `Qm..` alone: its base is `z`. Throws a `RangeError` for other bases.
    */
   toString(base?: 'b' | 'f' | 'z'): string;
   /** Returns the text in the base that `toString` has by default. */

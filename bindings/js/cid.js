@@ -10,8 +10,8 @@ export const CODECS = Object.freeze({
 });
 
 export const CID_LENGTH_MAX = 1 + VARINT_LENGTH_MAX + LENGTH_MAX;
-// The length of a text in base16, whose texts are the longest. A longer text is not decoded, since the time for base58 grows
-// with the square of the length.
+// The length of a text in base16, whose texts are the longest. A longer text is not decoded, since the time for base58
+// grows with the square of the length.
 export const CID_TEXT_MAX = 1 + 2 * CID_LENGTH_MAX;
 
 export class CIDError extends Error {

@@ -1,5 +1,5 @@
-// The public functions over bytes and numbers, which index.d.ts documents: they check the arguments, call format.js, and
-// throw an error if that fails.
+// The public functions over bytes and numbers, which index.d.ts documents: they check the arguments, call format.js,
+// and throw an error if that fails.
 import { checkedLength, checkedWide, viewOf, wrongType } from './arguments.js';
 import { MultihashError, errorOf, varintReasonOf } from './errors.js';
 import * as format from './format.js';

@@ -49,7 +49,7 @@ function reasonOf(status, bytes, at, end, limit) {
   return texts.ends(code.status === 'ok' && code.next === end ? 'before' : 'inside', name);
 }
 
-/** The error for a result of format.js about the bytes from an index on. The size in a result is 0 unless it is invalid. */
+/** The error for a result of format.js about the bytes from an index on. Its size is 0 unless that is invalid. */
 export function errorOf({ status, size, next }, bytes, at, end, limit) {
   const details = { status, size: size || undefined, consumed: next - at };
   return new MultihashError(reasonOf(status, bytes, at, end, limit), details);

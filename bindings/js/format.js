@@ -1,14 +1,14 @@
 // The format: decodes, encodes and compares bytes. Each function that is exported is checked for all inputs, by
-// proof/check_js.py of the repository. The public function of the same name checks the arguments, and throws the errors.
+// proof/check_js.py of the repository. The public function of the same name checks the arguments and throws errors.
 //
-// Bytes are a Uint8Array, whose length is a separate argument, since a subclass may redefine `length`. Codes, sizes and the
-// values of varints are numbers up to 2^53 - 1, where numbers are exact, and bigints above.
+// Bytes are a Uint8Array, whose length is a separate argument, since a subclass may redefine `length`. Codes, sizes and
+// the values of varints are numbers up to 2^53 - 1, where numbers are exact, and bigints above.
 import { DIGEST_MAX, VARINT_LENGTH_MAX } from './limits.js';
 
 // ---- numbers of up to 64 bits, in two parts, each of which is exact as a number
 
-// Each byte of a varint has seven bits of its value, the lowest first: the first seven bytes have the low part, the last
-// two the high part.
+// Each byte of a varint has seven bits of its value, the lowest first: the first seven bytes have the low part, the
+// last two the high part.
 const LOW_BYTES = 7;
 const LOW_BITS = 49;
 
@@ -27,9 +27,9 @@ const highPart = (value, bits) =>
   typeof value === 'number' ? Math.floor(value / 2 ** bits) : Number(value >> BigInt(bits));
 
 // ---- decoding
-// A result has a status, and `next`, the index after the bytes that were consumed, for an error too. A digest that was read
-// ends at `next`. The other fields of an error are 0, except a size or a code that is invalid. The public functions return
-// `consumed` instead, the number of bytes.
+// A result has a status, and `next`, the index after the bytes that were consumed, for an error too. A digest that was
+// read ends at `next`. The other fields of an error are 0, except a size or a code that is invalid. The public
+// functions return `consumed` instead, the number of bytes.
 
 /** Reads the varint that starts at an index, of the bytes before `end`. */
 export function readVarint(bytes, at, end) {
@@ -57,7 +57,8 @@ export function head(bytes, at, end) {
   if (end - at >= 2) {
     const first = bytes[at];
     const second = bytes[at + 1];
-    if (first < 128 && second < 128) return { status: 'ok', code: first, size: second, next: at + 2 }; // the most common
+    // the usual case
+    if (first < 128 && second < 128) return { status: 'ok', code: first, size: second, next: at + 2 };
   }
   const code = readVarint(bytes, at, end);
   if (code.status !== 'ok') return failed(code.status, code.next);
@@ -161,7 +162,7 @@ export function scaleEncode(code, digest, size) {
 
 // ---- order
 
-/** Returns the order of two multihashes, -1, 0 or 1: by code, then by size, then by the first digest byte that differs. */
+/** Returns the order of two multihashes, -1, 0 or 1: by code, by size, and by the first digest byte that differs. */
 export function compare(leftCode, left, leftSize, rightCode, right, rightSize) {
   if (leftCode !== rightCode) return leftCode < rightCode ? -1 : 1;
   if (leftSize !== rightSize) return leftSize < rightSize ? -1 : 1;

@@ -15,8 +15,8 @@ export interface Hash {
 }
 
 /**
- * Hash functions, by their codes or their names in `CODES`. Each is a function that returns a new `Hash`, or an object with
- * such a method `create`, as in `@noble/hashes`. They take precedence over the functions of the platform.
+ * Hash functions, by their codes or their names in `CODES`. Each is a function that returns a new `Hash`, or an object
+ * with such a method `create`, as in `@noble/hashes`. They take precedence over the functions of the platform.
  */
 export type Functions = Readonly<Record<string | number, (() => Hash) | { create(options?: any): Hash }>>;
 
@@ -34,8 +34,8 @@ export interface MultihashHasher<Code extends number = number> {
   readonly name: string;
   readonly code: Code;
   /**
-   * Returns the multihash of the content. The memory of content above 1 MiB must not change until the promise is settled.
-   * A browser holds a whole stream in memory.
+   * Returns the multihash of the content. The memory of content above 1 MiB must not change until the promise is
+   * settled. A browser holds a whole stream in memory.
    */
   digest(content: Content, options?: DigestOptions): Promise<Multihash<Code>>;
 }
@@ -65,13 +65,13 @@ export function digest(content: Content, hash: string | Wide, options?: DigestOp
 /** Makes the multihash of content that arrives in parts. */
 export class Hasher {
   /**
-   * `hash` is a name in `CODES` or a code. Throws a `RangeError` for another name, and an `UnsupportedHashError` if neither
-   * `functions` nor the platform has the function.
+   * `hash` is a name in `CODES` or a code. Throws a `RangeError` for another name, and an `UnsupportedHashError` if
+   * neither `functions` nor the platform has the function.
    */
   constructor(hash: string | Wide, options?: { functions?: Functions });
-  /** Appends bytes, and returns this hasher. Throws a `TypeError` after `multihash`. A browser keeps all bytes in memory. */
+  /** Appends bytes, and returns this hasher. Throws a `TypeError` after `multihash`. A browser keeps all in memory. */
   update(content: Uint8Array): this;
-  /** Returns the multihash of all bytes, by the same promise each time. With `identity` more than 255 bytes are an error. */
+  /** Returns the multihash of all bytes, by the same promise each time. With `identity` more than 255 are an error. */
   multihash(): Promise<Multihash>;
 }
 

@@ -1,4 +1,4 @@
-// Makes and verifies multihashes with the hash functions of node:crypto or WebCrypto. hashes.d.ts documents what is public.
+// Makes and verifies multihashes with hash functions of node:crypto or WebCrypto. hashes.d.ts documents what is public.
 import { bufferOf, checkedLength, checkedObject, checkedOptions, checkedWide, isBytes, received, shown, viewOf,
   wrongType } from './arguments.js';
 import { CODES, NAMES } from './codes.js';
@@ -10,7 +10,8 @@ import { sourceOf } from './sources.js';
 // Browsers have no node:crypto. An `import` of it would be followed by bundlers.
 const node = globalThis.process?.getBuiltinModule?.('node:crypto');
 
-const PIECE = node ? 2 ** 20 : Infinity; // the number of bytes that are hashed at once; WebCrypto has a thread of its own
+// The number of bytes that are hashed at once. WebCrypto has a thread of its own.
+const PIECE = node ? 2 ** 20 : Infinity;
 
 export class UnsupportedHashError extends RangeError {
   constructor(code) {
@@ -38,7 +39,7 @@ function webCryptoHash(algorithm) {
   };
 }
 
-/** Hashes with `identity`, whose digest is the content. A digest of `DIGEST_MAX + 1` bytes is the start of a longer one. */
+/** Hashes with `identity`, whose digest is the content, or the start of that if it is too long. */
 function identityHash() {
   const content = new Uint8Array(DIGEST_MAX + 1);
   let length = 0;
@@ -94,8 +95,8 @@ if (node) {
 creators['dbl-sha2-256'] = () => doubleHash(creators['sha2-256']);
 
 /**
- * Returns what `call(source)` returns, with the source of the content, or undefined if the content is bytes. After an error
- * the source is cancelled, even if it was not read.
+ * Returns what `call(source)` returns, with the source of the content, or undefined if the content is bytes. After an
+ * error the source is cancelled, even if it was not read.
  */
 async function reading(content, call) {
   if (content?.readableEnded) throw new TypeError('content is a stream that was read before: open it again');
@@ -111,8 +112,8 @@ async function reading(content, call) {
 }
 
 /**
- * Hashes the content: the chunks of its source, or bytes. Returns what `finish(hash)` returns, with the object that hashed
- * it. For bytes up to `PIECE` that is called before this function returns a promise, since they may change afterwards.
+ * Hashes the content: the chunks of its source, or bytes. Returns what `finish(hash)` returns, where `hash` has
+ * hashed it. For bytes up to `PIECE` that is called before this function returns, since they may change afterwards.
  */
 async function hashOf(create, content, source, finish) {
   const hash = create();
@@ -144,7 +145,8 @@ function callersHash(create, name) {
     async digest() {
       // without 'binary' objects of hash-wasm, which have `init`, return a text; with it those of node:crypto do
       const result = await (hash.init ? hash.digest('binary') : hash.digest());
-      if (!isBytes(result)) throw new TypeError(`${name} must make a digest that is a Uint8Array, got ${received(result)}`);
+      if (!isBytes(result))
+        throw new TypeError(`${name} must make a digest that is a Uint8Array, got ${received(result)}`);
       return result;
     },
   };
@@ -204,7 +206,8 @@ export class Hasher {
   update(content) {
     const length = checkedLength(content, 'content');
     if (this.#multihash) throw new TypeError('multihash() was called, so this hasher takes no more bytes');
-    this.#hash.update(node ? viewOf(content, 0, length) : new Uint8Array(content)); // a copy, since WebCrypto hashes later
+    // WebCrypto hashes later, so it needs a copy
+    this.#hash.update(node ? viewOf(content, 0, length) : new Uint8Array(content));
     return this;
   }
 
@@ -215,8 +218,10 @@ export class Hasher {
 }
 
 export const hashers = { __proto__: null };
-for (const name of Object.keys(creators))
-  hashers[name] = Object.freeze({ name, code: CODES[name], digest: (content, options) => digest(content, name, options) });
+for (const name of Object.keys(creators)) {
+  const hasher = { name, code: CODES[name], digest: (content, options) => digest(content, name, options) };
+  hashers[name] = Object.freeze(hasher);
+}
 Object.freeze(hashers);
 export const { identity, 'sha2-256': sha256, 'sha2-384': sha384, 'sha2-512': sha512 } = hashers;
 

@@ -11,7 +11,7 @@ export type Status =
   | 'insufficient' // the input ends before or inside a varint
   | 'overflow' // a varint has more than nine bytes, as those of numbers of 2^63 and above have
   | 'not_minimal' // a varint of more than one byte ends in a zero byte
-  | 'invalid_size' // `size` is the length of a digest or frame that is too long, or the number of bytes after the multihash
+  | 'invalid_size' // `size` is the length of a digest or frame that is too long, or the number of trailing bytes
   | 'invalid_code' // the code is 2^63 or more: `code` is the code
   | 'unexpected_eof' // the input ends between the varints and the end of the digest or frame; in SCALE, before the end
   | 'not_hexadecimal'; // a text is not an even number of hexadecimal digits
@@ -64,7 +64,8 @@ export class Multihash<Code extends Wide = Wide> implements MultihashDigest {
   static fromHex(text: string): Multihash;
   /**
    * Makes the multihash of what `toJSON` returned: a code, which may be decimal text, and a digest in hexadecimal. If
-   * `size` is there, it must be the digest's length. Throws a `TypeError`, a `RangeError`, or what `of` and `fromHex` throw.
+   * `size` is there, it must be the digest's length. Throws a `TypeError`, a `RangeError`, or what `of` and `fromHex`
+   * throw.
    */
   static fromJSON(json: { readonly code: Wide | string; readonly size?: number; readonly digest: string }): Multihash;
   /** Below 2^63. A `number` up to `Number.MAX_SAFE_INTEGER`, and a `bigint` above. */
@@ -195,7 +196,7 @@ export interface ItemReader<Item> extends AsyncIterable<Item> {
    * next item starts, or after a `MultihashError` the invalid one.
    */
   readonly consumed: number;
-  /** The number of items returned so far: the number of the next one, or after a `MultihashError` of the invalid one. */
+  /** The number of items returned: that of the next one, or after a `MultihashError` of the invalid one. */
   readonly count: number;
   /**
    * Returns the next item, or null if the source has ended after the last one. After an error every call rejects with
@@ -210,8 +211,8 @@ export interface ItemReader<Item> extends AsyncIterable<Item> {
    */
   release(): void;
   /**
-   * Cancels the source, and a Node.js `Readable` is destroyed. From then on every `read`, including a pending one, returns
-   * null. The promise waits for the source: an async generator ends only once what it awaits has arrived.
+   * Cancels the source, and a Node.js `Readable` is destroyed. From then on every `read`, including a pending one,
+   * returns null. The promise waits for the source: an async generator ends only once what it awaits has arrived.
    */
   cancel(reason?: unknown): Promise<void>;
   /** Calls `cancel`, in engines that have `Symbol.asyncDispose`. */
@@ -223,23 +224,24 @@ export interface ItemReader<Item> extends AsyncIterable<Item> {
 /** Reads concatenated encodings from a `ReadableStream` or an async iterable. */
 export class MultihashReader {
   /**
-   * `limit` is the maximum length of a digest, by default 255. `rest` has bytes that precede the source, left by another
-   * reader.
+   * `limit` is the maximum length of a digest, by default 255. `rest` has bytes that precede the source, left by
+   * another reader.
    */
   constructor(source: ByteStream | AsyncIterable<Uint8Array>, options?: { limit?: Wide; rest?: Uint8Array });
 }
 export interface MultihashReader extends ItemReader<Multihash> {}
 
 /**
- * Reads frames from a `ReadableStream` or an async iterable: each is a varint, and then that many bytes, such as a section
- * of a CAR or a message of libp2p. The bytes of a frame are a copy. If the stream ends inside a frame, the error is a
- * `MultihashError` with `isIncomplete`. The message of each error has the number of the frame, counted from 0, and its
- * offset. Memory grows with the bytes that arrive, not with the length that a frame claims.
+ * Reads frames from a `ReadableStream` or an async iterable: each is a varint, and then that many bytes, such as a
+ * section of a CAR or a message of libp2p. The bytes of a frame are a copy. If the stream ends inside a frame, the
+ * error is a `MultihashError` with `isIncomplete`. The message of each error has the number of the frame, counted from
+ * 0, and its offset. Memory grows with the bytes that arrive, not with the length that a frame claims.
  */
 export class FrameReader {
   /**
-   * `limit` is the maximum length of a frame in bytes, without its varint, by default 2^22: a longer one is an error with
-   * the status `invalid_size` before its bytes arrive. `rest` has bytes that precede the source, left by another reader.
+   * `limit` is the maximum length of a frame in bytes, without its varint, by default 2^22: a longer one is an error
+   * with the status `invalid_size` before its bytes arrive. `rest` has bytes that precede the source, left by another
+   * reader.
    */
   constructor(source: ByteStream | AsyncIterable<Uint8Array>, options?: { limit?: Wide; rest?: Uint8Array });
 }

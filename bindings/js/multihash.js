@@ -23,7 +23,8 @@ export class Multihash {
     const number = checkedWide(code, 'code');
     checkPair(number, length);
     const copy = new Uint8Array(digest);
-    return new Multihash(MAKING, number, copy.length === length ? copy : copy.slice(0, length)); // shared memory may grow
+    // shared memory may have grown
+    return new Multihash(MAKING, number, copy.length === length ? copy : copy.slice(0, length));
   }
 
   static fromHex(text) {
@@ -69,7 +70,8 @@ export class Multihash {
     if (!isBytes(other?.digest) || (typeof other.code !== 'number' && typeof other.code !== 'bigint')) return false;
     const length = checkedLength(other.digest, 'the other digest');
     // a number and a bigint of the same value are the same code
-    return other.code == this.code && length === digest.length && format.compareBytes(digest, other.digest, length) === 0;
+    if (other.code != this.code || length !== digest.length) return false;
+    return format.compareBytes(digest, other.digest, length) === 0;
   }
 
   narrow() {

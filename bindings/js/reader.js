@@ -32,8 +32,8 @@ class Received {
 }
 
 /**
- * The iterator of a loop over a reader, which cancels the reader's source at its end. An async generator would be shorter,
- * but its `return` waits for a pending `next`, and a loop over items that were received takes 1.7 times as long.
+ * The iterator of a loop over a reader, which cancels the reader's source at its end. It is not an async
+ * generator: `return` would wait for a pending `next`, and a loop over received items would take 1.7 times as long.
  */
 class ItemIterator {
   #reader;
@@ -92,8 +92,8 @@ class ItemReader {
   #stop; // ends the wait for a chunk
 
   /**
-   * `rest` holds bytes that precede those of the source. `find(bytes, at, end)` returns the status of the item that starts
-   * at an index, and the index `next` after it. `make(result, bytes, at, end)` returns the item, or throws the error.
+   * `rest` holds bytes that precede those of the source. `find(bytes, at, end)` returns the status of the item that
+   * starts at an index, and the index `next` after it. `make(result, bytes, at, end)` returns the item, or throws.
    */
   constructor(source, rest, find, make) {
     this.#find = find;
@@ -149,7 +149,7 @@ class ItemReader {
     if (this.#outcome === undefined) this.#outcome = outcome;
   }
 
-  /** Returns the next item, or undefined if more of it may follow. Throws an error if the item is invalid or truncated. */
+  /** Returns the next item, or undefined if more of it may follow. Throws if the item is invalid or truncated. */
   #take(isLast) {
     const received = this.#received;
     const { bytes, at, end } = received;
@@ -236,7 +236,8 @@ export class FrameReader extends ItemReader {
       const { status, size, next } = result;
       if (status === 'ok') return bytes.slice(next - size, next);
       const reason = `frame ${this.count} at offset ${this.consumed}: ${frameReasonOf(result, end, maximum)}`;
-      throw new MultihashError(reason, { status, size: status === 'invalid_size' ? size : undefined, consumed: next - at });
+      const details = { status, size: status === 'invalid_size' ? size : undefined, consumed: next - at };
+      throw new MultihashError(reason, details);
     });
   }
 }

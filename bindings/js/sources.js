@@ -5,7 +5,7 @@ const ignore = () => {};
 
 /**
  * Returns an object that reads the chunks of a ReadableStream, which in Safari is not an async iterable, or of an async
- * iterable. Its `next` is that of an iterator, `release` unlocks a stream for other readers, and `close` ends the source.
+ * iterable. Its `next` is that of an iterator, `release` unlocks a stream for others, and `close` ends the source.
  */
 export function sourceOf(source, name, others = '') {
   if (typeof source?.getReader === 'function') return chunksOfStream(source);
@@ -20,7 +20,7 @@ export function sourceOf(source, name, others = '') {
   return {
     next: () => iterator.next(),
     release() {},
-    // `return` waits for a pending `next`, and does nothing before the first one: so a Node.js Readable is also destroyed
+    // `return` waits for a pending `next`, and does nothing before the first: so a Node.js Readable is destroyed too
     close() {
       if (typeof source.destroy === 'function') source.destroy();
       return iterator.return?.();

@@ -1,5 +1,5 @@
-// For measure.py: prints the least nanoseconds of each call, or for each of many multihashes, of the package for JavaScript
-// and of plain JavaScript with the same checks and copies, by turns.
+// For measure.py: prints the least nanoseconds of each call, or for each of many multihashes, of the package for
+// JavaScript and of plain JavaScript with the same checks and copies, by turns.
 import * as ours from '../js/index.js';
 
 const COUNT = 100_000; // multihashes of a list
@@ -75,7 +75,7 @@ function encode(code, digest) {
 
 function compare(left, right) {
   if (!(left instanceof Multihash && right instanceof Multihash)) throw new TypeError('multihashes');
-  if (left.digest.length !== left.size || right.digest.length !== right.size) throw new TypeError('digests'); // detached
+  if (left.digest.length !== left.size || right.digest.length !== right.size) throw new TypeError('detached');
   if (left.code !== right.code) return left.code < right.code ? -1 : 1;
   if (left.size !== right.size) return left.size < right.size ? -1 : 1;
   for (let index = 0; index < left.size; index++)

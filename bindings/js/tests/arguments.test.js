@@ -15,8 +15,8 @@ const ARRAY = 'Array: Uint8Array.from(array) makes bytes';
 const VIEW = 'new Uint8Array(view.buffer, view.byteOffset, view.byteLength) makes bytes';
 const NO_BYTES = [
   [null, 'null'], [true, 'true'], [34, '34'], [34n, 'bigint'], [Symbol('bytes'), 'symbol'], [() => 0, 'function'],
-  [{}, 'Object'], [{ __proto__: null }, 'Object'], [new (class Own {})(), 'Own'], [Promise.resolve(), 'Promise: await it'],
-  [MULTIHASH, 'Multihash'], [[22, 0], ARRAY],
+  [{}, 'Object'], [{ __proto__: null }, 'Object'], [new (class Own {})(), 'Own'], [MULTIHASH, 'Multihash'],
+  [Promise.resolve(), 'Promise: await it'], [[22, 0], ARRAY],
   [new ArrayBuffer(4), 'ArrayBuffer: new Uint8Array(buffer) makes bytes'],
   [new DataView(new ArrayBuffer(4)), `DataView: ${VIEW}`], [new Uint8ClampedArray(2), `Uint8ClampedArray: ${VIEW}`],
   [new Proxy(new Uint8Array(2), {}), 'a Proxy of a Uint8Array'],
@@ -71,7 +71,8 @@ test('multihashes and CIDs', () => {
   }
   assert.throws(() => new Multihash(Symbol(), 22, EXAMPLE), TypeError('Multihash.of(code, digest) makes a multihash'));
   assert.throws(() => new CID(1, 0x55, MULTIHASH), TypeError('CID.of(version, codec, multihash) makes a CID'));
-  for (const [value, got] of [[undefined, 'undefined'], [EXAMPLE, 'Uint8Array'], [new String('b'), 'String'], [cid, 'CID']])
+  const texts = [[undefined, 'undefined'], [EXAMPLE, 'Uint8Array'], [new String('b'), 'String'], [cid, 'CID']];
+  for (const [value, got] of texts)
     for (const call of [CID.parse, Multihash.fromHex])
       assert.throws(() => call(value), TypeError(`text must be a string, got ${got}`));
   for (const base of ['m', 'base32', '__proto__', null, Symbol('b')])
@@ -87,9 +88,9 @@ test('sources and options of readers', () => {
   ];
   const options = [[null, 'must be an object, got null'], [[], 'must be an object, got Array'],
     [{ limit: 1, max: 2 }, 'can have limit and rest, got max']];
+  const noSource = 'source must be a ReadableStream or an async iterable, got';
   for (const Reader of READERS) {
-    for (const [source, got] of sources)
-      assert.throws(() => new Reader(source), TypeError(`source must be a ReadableStream or an async iterable, got ${got}`));
+    for (const [source, got] of sources) assert.throws(() => new Reader(source), TypeError(`${noSource} ${got}`));
     for (const [value, message] of options) {
       const stream = new ReadableStream();
       assert.throws(() => new Reader(stream, value), TypeError(`options ${message}`));

@@ -1,5 +1,5 @@
-// Opens a page in a browser, serves it the folders on a port of this machine, and prints the report that the page sends to
-// /report. The status is 0 if that ends in ' 0 failed'. A page that is a file gets the port in its address.
+// Opens a page in a browser, serves it the folders on a port of this machine, and prints the report that the page sends
+// to /report. The status is 0 if that ends in ' 0 failed'. A page that is a file gets the port in its address.
 import { spawn } from 'node:child_process';
 import { existsSync, mkdtempSync, readFileSync, rmSync } from 'node:fs';
 import { createServer } from 'node:http';

@@ -160,7 +160,8 @@ function checkMany(bytes, kind = (each) => each) {
 }
 
 test('many multihashes at once', () => {
-  const few = joined(encode(18, new Uint8Array(32)), encode(2n ** 62n, new Uint8Array(255)), encode(0, new Uint8Array()));
+  const pairs = [[18, 32], [2n ** 62n, 255], [0, 0]];
+  const few = joined(...pairs.map(([code, size]) => encode(code, new Uint8Array(size))));
   for (let cut = 0; cut <= few.length; cut++) checkMany(few.subarray(0, cut), KINDS[cut % KINDS.length]);
   for (const end of ['8000', 'ff'.repeat(9), '12ac02']) checkMany(joined(few, unhex(end)));
   // more multihashes than the columns have capacity for at first, and codes of up to 32 bits and of more

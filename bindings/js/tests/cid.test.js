@@ -63,8 +63,9 @@ test('messages', () => {
 
 test('fields that make no CID', () => {
   const short = Multihash.of(0x12, HELLO.digest.subarray(1));
-  const rows = [['unknown_version', 2, 0x55, HELLO], ['not_version_0', 0, 0x55, HELLO], ['not_version_0', 0, 0x70, short],
-    ['not_version_0', 0, 0x70, Multihash.of(0x13, HELLO.digest)], ['overflow', 1, 2n ** 63n, HELLO]];
+  const rows = [['unknown_version', 2, 0x55, HELLO], ['not_version_0', 0, 0x55, HELLO],
+    ['not_version_0', 0, 0x70, short], ['not_version_0', 0, 0x70, Multihash.of(0x13, HELLO.digest)],
+    ['overflow', 1, 2n ** 63n, HELLO]];
   for (const [status, ...fields] of rows) assert.throws(() => CID.of(...fields), { name: 'CIDError', status });
 });
 

@@ -147,8 +147,8 @@ test('a function that is missing or wrong', async () => {
   const claim = Multihash.of(0x1e, ABC);
   const noObject = 'functions must be an object, got';
   const noHash = 'functions[blake3] must return an object with the methods update and digest, got';
-  const missing = { message: 'this platform has no function for the code 0x1e (blake3): the option functions takes one' };
-  Object.assign(missing, { name: 'UnsupportedHashError', code: 0x1e });
+  const message = 'this platform has no function for the code 0x1e (blake3): the option functions takes one';
+  const missing = { name: 'UnsupportedHashError', code: 0x1e, message };
   const wrong = [
     [new Map([[30, summing]]), TypeError(`${noObject} Map`)],
     [null, TypeError(`${noObject} null`)], [summing, TypeError(`${noObject} function`)],
@@ -170,8 +170,7 @@ test('a function that is missing or wrong', async () => {
   Object.prototype.blake3 = 'SHA-256';
   await assert.rejects(verify(claim, ABC), missing).finally(() => delete Object.prototype.blake3);
   assert.ok(new UnsupportedHashError(0x1e) instanceof RangeError);
-  const message = 'this platform has no function for the code 0x5555: the option functions takes one';
-  assert.throws(() => new Hasher(0x5555), { message });
+  assert.throws(() => new Hasher(0x5555), { message: message.replace('0x1e (blake3)', '0x5555') });
 });
 
 test('a source is cancelled after an error, even if nothing was read', async () => {

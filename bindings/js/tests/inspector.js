@@ -1,5 +1,5 @@
-// What inspector.html shows of texts: js.t appends this to the page, which is opened as a file. It sends a report to the
-// port that its address has.
+// What inspector.html shows of texts: js.t appends this to the page, which is opened as a file. It sends a report to
+// the port that its address has.
 const DIGEST = 'e3b0c44298fc1c149afbf4c8996fb92427ae41e4649b934ca495991b7852b855';
 const OF_SHA256 = ['sha2-256', 'code: 0x12', 'size in bytes: 32', `digest: ${DIGEST}`, `in hexadecimal: 1220${DIGEST}`];
 const TEXTS = [

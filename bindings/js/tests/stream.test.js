@@ -41,7 +41,7 @@ async function drained(reader) {
   return { items };
 }
 
-/** A stream in two chunks has the same items. One that ends at the cut has those before it, and another reader goes on. */
+/** A stream in two chunks has the same items. If it ends at the cut, another reader reads the others. */
 async function cutAt(cut, { Reader, items, encodings }, starts) {
   const bytes = unhex(encodings.join(''));
   const parts = [bytes.subarray(0, cut), bytes.subarray(cut)];
@@ -57,7 +57,8 @@ async function cutAt(cut, { Reader, items, encodings }, starts) {
   const rest = hex(bytes.subarray(starts[count], cut));
   assert.deepEqual([reader.count, reader.consumed, hex(reader.rest)], [count, starts[count], rest]);
   assert.equal(error?.isIncomplete, cut === starts[count] ? undefined : true);
-  if (error && Reader === FrameReader) assert.ok(error.message.startsWith(`frame ${count} at offset ${starts[count]}: `));
+  const place = `frame ${count} at offset ${starts[count]}: `;
+  if (error && Reader === FrameReader) assert.ok(error.message.startsWith(place));
   const other = new Reader(chunks(parts[1]), { rest: reader.rest });
   assert.deepEqual(await drained(other), { items: items.slice(count) });
   assert.equal(other.consumed, bytes.length - starts[count]);
@@ -74,7 +75,8 @@ test('an item that is too long, before its bytes arrive, or malformed', async ()
   const [long, longest] = [2 ** 22 + 1, 2n ** 63n - 1n];
   const ofFrames = [
     ['0103', { limit: 0 }, ['invalid_size', 1, 1], 'frame 0 at offset 0: the frame has 1 byte, and the limit is 0'],
-    ['0301020304', { limit: 3 }, ['invalid_size', 4, 1], 'frame 1 at offset 4: the frame has 4 bytes, and the limit is 3'],
+    ['0301020304', { limit: 3 }, ['invalid_size', 4, 1],
+      'frame 1 at offset 4: the frame has 4 bytes, and the limit is 3'],
     [`00${hex(encodeVarint(long))}`, {}, ['invalid_size', long, 4],
       `frame 1 at offset 1: the frame has ${long} bytes, and the limit is ${long - 1}`],
     [hex(encodeVarint(longest)), { limit: 2n ** 53n }, ['invalid_size', longest, 9],
@@ -125,13 +127,15 @@ test('a source that fails, and a chunk that is not bytes', async () => {
   };
   const moved = new Uint8Array(1);
   detach(moved);
+  const chunk = 'a chunk of the stream';
   const [broken, unknown] = [Error('broken'), Error('the source failed without a reason')];
   const sources = [
-    [failing(), broken], [Readable.from(failing()), broken], [streamOf([part], (stream) => stream.error(broken)), broken],
-    [streamOf([part], (stream) => stream.error()), unknown], [streamOf([part], (stream) => stream.error(null)), unknown],
-    [Readable.from([part, 'text']),
-      TypeError(`a chunk of the stream must be a Uint8Array, got ${TEXT}`)],
-    [Readable.from([part, moved]), TypeError('a chunk of the stream is a Uint8Array that is detached or out of bounds')],
+    [failing(), broken], [Readable.from(failing()), broken],
+    [streamOf([part], (stream) => stream.error(broken)), broken],
+    [streamOf([part], (stream) => stream.error()), unknown],
+    [streamOf([part], (stream) => stream.error(null)), unknown],
+    [Readable.from([part, 'text']), TypeError(`${chunk} must be a Uint8Array, got ${TEXT}`)],
+    [Readable.from([part, moved]), TypeError(`${chunk} is a Uint8Array that is detached or out of bounds`)],
   ];
   for (const [source, error] of sources) {
     const reader = new MultihashReader(source);
@@ -156,7 +160,8 @@ test('an error releases a stream for another reader, and a loop that it ends can
   const { rest } = ended;
   const loop = new MultihashReader(left, { limit: 31, rest })[Symbol.asyncIterator]();
   rest.fill(0); // the reader has a copy
-  await assert.rejects(loop.next(), { name: 'MultihashError', message: 'the digest has 32 bytes, and the limit is 31' });
+  const message = 'the digest has 32 bytes, and the limit is 31';
+  await assert.rejects(loop.next(), { name: 'MultihashError', message });
   assert.deepEqual([cancelled, left.locked], [1, false]);
 });
 

@@ -1,5 +1,5 @@
-// What tsc --strict --exactOptionalPropertyTypes accepts: types of other packages that have to fit, and types that depend
-// on arguments. After each @ts-expect-error is a line that it rejects.
+// What tsc --strict --exactOptionalPropertyTypes accepts: types of other packages that have to fit, and types that
+// depend on arguments. After each @ts-expect-error is a line that it rejects.
 import { CODES, FrameReader, Hasher, Multihash, MultihashError, MultihashReader, NAMES, UnsupportedHashError, decode,
   digest, hashers, head, identity, readMany, sha256, verify } from 'verified-multihash';
 import type { ByteStream, Content, Functions, Status, Wide } from 'verified-multihash';
@@ -66,7 +66,10 @@ interface HashWasm {
   update(bytes: Uint8Array | string): HashWasm;
   digest: { (type: 'binary'): Uint8Array; (type?: 'hex'): string };
 }
-interface NodeHash { update(bytes: Uint8Array): NodeHash; digest(): Uint8Array; digest(encoding: 'hex' | 'binary'): string }
+interface NodeHash {
+  update(bytes: Uint8Array): NodeHash;
+  digest: { (): Uint8Array; (encoding: 'hex' | 'binary'): string };
+}
 declare const [noble, wasm, ofNode]: [Noble, HashWasm, NodeHash];
 export const functions: Functions = { blake3: noble, 0x1b: () => wasm.init(), 'blake2b-256': () => ofNode,
   0xb220: () => noble.create({ dkLen: 32 }) };
