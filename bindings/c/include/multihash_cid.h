@@ -25,8 +25,8 @@ extern "C" {
 #define MULTIHASH_CID_DAG_JSON 0x129
 
 /* The maximum length of an encoding in bytes, and the size of a buffer for each text with its zero byte. A text has at
- * most MULTIHASH_CID_TEXT_SIZE - 1 characters, in base16. To decode base58 takes time that is quadratic in the length
- * of the text, so a longer text is not decoded. */
+ * most MULTIHASH_CID_TEXT_SIZE - 1 characters, in base16. Decoding base58 takes time quadratic in the length of the
+ * text, so longer texts are rejected. */
 #define MULTIHASH_CID_LENGTH_MAX 276
 #define MULTIHASH_CID_TEXT_SIZE 554
 
@@ -44,7 +44,7 @@ enum {
     MULTIHASH_CID_WRONG_PREFIX = 20,
     /* The version of bytes is not 1, or that of multihash_cid_encode neither 0 nor 1. */
     MULTIHASH_CID_UNKNOWN_VERSION = 21,
-    /* Version 0 has another codec or multihash than it may have. */
+    /* Version 0 cannot have this codec or multihash. */
     MULTIHASH_CID_NOT_VERSION_0 = 22
 };
 
@@ -64,8 +64,8 @@ typedef struct multihash_cid {
 /* Decodes the CID whose encoding is the whole of `bytes`. Nothing is copied.
  *
  * Returns: the CID, whose offsets are in `bytes`.
- * Errors:  MULTIHASH_CID_UNKNOWN_VERSION; of the version and the codec those of multihash_read_varint, of the multihash
- *          those of multihash_from_bytes. */
+ * Errors:  MULTIHASH_CID_UNKNOWN_VERSION; those of multihash_read_varint for version and codec; those of
+ *          multihash_from_bytes for the multihash. */
 multihash_cid multihash_cid_from_bytes(const uint8_t *bytes, size_t bytes_length);
 
 /* Decodes the CID at the start of `bytes`, such as that of a section of a CAR file. More bytes may follow.

@@ -1,4 +1,4 @@
-"""Content identifiers (CIDs), as bytes and as strings. The bases are tested, not proved.
+"""Content identifiers (CIDs), as bytes and as strings. All of this is only tested.
 
 A CID is a version, a codec, which is the number of the content's format, and a multihash. The bytes of version 1 are the
 varints of 1 and of the codec, and the multihash. The bytes of version 0 are the multihash alone: SHA2-256, 32 bytes. Each
@@ -51,7 +51,7 @@ class CIDError(ValueError):
     `trailing_bits`: the last digit is superfluous, or its unused bits are not zero.
     `wrong_prefix`: a CID of version 0 has a prefix, or a text that starts with `Qm` is not of version 0.
     `unknown_version`: the version of bytes is not 1, or that of fields neither 0 nor 1.
-    `not_version_0`: version 0 has another codec or multihash than it may have.
+    `not_version_0`: version 0 cannot have this codec or multihash.
     """
 
     def __init__(self, status: str, text: str) -> None:

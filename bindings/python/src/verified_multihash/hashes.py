@@ -1,4 +1,4 @@
-"""Names of codes, and multihashes of data, computed by hashlib or by your own functions. Nothing here is proved.
+"""Names of codes, and multihashes of data, computed by hashlib or by your own functions. This is only tested.
 
 Where a call has the parameter `functions`, it maps names or codes to functions that hashlib lacks, or that are used in
 place of its own. Each takes no arguments and returns an object with the methods `update(data)` and `digest()`, as the

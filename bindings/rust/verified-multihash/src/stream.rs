@@ -38,7 +38,7 @@ impl<const S: usize> Decoder<S> {
         Self { bytes: [0; LENGTH_MAX], length: 0 }
     }
 
-    /// Returns the bytes received of a multihash that is incomplete, or after an error invalid.
+    /// Returns the bytes received of an incomplete or, after an error, invalid multihash.
     pub fn rest(&self) -> &[u8] {
         &self.bytes[..self.length]
     }
@@ -157,12 +157,12 @@ impl<R, const S: usize> Reader<R, S> {
         &self.source
     }
 
-    /// Returns the source, which another may replace that continues where this one ended.
+    /// Returns the source. Its replacement, if any, must continue where it ended.
     pub fn get_mut(&mut self) -> &mut R {
         &mut self.source
     }
 
-    /// Returns the bytes received of a multihash that is incomplete, or after an error invalid.
+    /// Returns the bytes received of an incomplete or, after an error, invalid multihash.
     pub fn rest(&self) -> &[u8] {
         self.decoder.rest()
     }
