@@ -1,4 +1,5 @@
 //! Readers and writers for targets without `std`: the part of `std::io` that this crate uses.
+pub use crate::proved::no_std_io::{Read, Write};
 use core::fmt;
 
 /// The error of a reader or a writer of this module.
@@ -44,40 +45,6 @@ impl fmt::Display for Error {
 }
 
 impl core::error::Error for Error {}
-
-/// A source of bytes, like `std::io::Read`.
-pub trait Read {
-    /// Reads up to `buf.len()` bytes into the front of `buf`, and returns their number. It returns 0 at the end.
-    fn read(&mut self, buf: &mut [u8]) -> Result<usize, Error>;
-
-    /// Fills `buf`. The bytes that were read before an error are consumed.
-    fn read_exact(&mut self, mut buf: &mut [u8]) -> Result<(), Error> {
-        while !buf.is_empty() {
-            match self.read(buf)? {
-                0 => return Err(ErrorKind::UnexpectedEof.into()),
-                count => buf = &mut buf[count..],
-            }
-        }
-        Ok(())
-    }
-}
-
-/// A sink of bytes, like `std::io::Write`.
-pub trait Write {
-    /// Writes some of the first bytes of `buf`, and returns their number. It returns 0 if the sink is full.
-    fn write(&mut self, buf: &[u8]) -> Result<usize, Error>;
-
-    /// Writes all of `buf`. Some of its first bytes may have been written before an error.
-    fn write_all(&mut self, mut buf: &[u8]) -> Result<(), Error> {
-        while !buf.is_empty() {
-            match self.write(buf)? {
-                0 => return Err(ErrorKind::WriteZero.into()),
-                count => buf = &buf[count..],
-            }
-        }
-        Ok(())
-    }
-}
 
 impl<R: Read + ?Sized> Read for &mut R {
     fn read(&mut self, buf: &mut [u8]) -> Result<usize, Error> {

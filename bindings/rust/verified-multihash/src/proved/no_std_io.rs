@@ -1,4 +1,4 @@
-//! Readers and writers: all those of `std::io`, or without `std` those of the public module.
+//! The traits of readers and writers. With `std` those of `std::io` implement these; without, they are public.
 use crate::no_std_io as io;
 pub use io::Error;
 
@@ -6,6 +6,7 @@ mod traits;
 
 pub use self::traits::{Read, Write};
 
+#[cfg(feature = "std")]
 impl<R: io::Read> Read for R {
     #[inline(always)]
     fn read(&mut self, buf: &mut [u8]) -> Result<usize, Error> {
@@ -18,6 +19,7 @@ impl<R: io::Read> Read for R {
     }
 }
 
+#[cfg(feature = "std")]
 impl<W: io::Write> Write for W {
     #[inline(always)]
     fn write(&mut self, buf: &[u8]) -> Result<usize, Error> {
