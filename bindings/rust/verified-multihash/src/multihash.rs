@@ -100,10 +100,7 @@ impl<const S: usize> Multihash<S> {
     ///
     /// Those of [`Multihash::read`], except that of an input that ends before the multihash.
     pub fn read_next<R: Read>(mut r: R) -> Result<Option<Self>, Error> {
-        match proved::Multihash::read_next(&mut r) {
-            Ok(value) => Ok(value.map(Self)),
-            Err(error) => Err(error.in_stream(S)),
-        }
+        proved::Multihash::read_next(&mut r).map_err(|error| error.in_stream(S)).map(|value| value.map(Self))
     }
 
     /// Decodes the multihash whose encoding is the whole of `bytes`.
@@ -127,10 +124,7 @@ impl<const S: usize> Multihash<S> {
     /// # Ok::<(), Error>(())
     /// ```
     pub fn from_bytes(bytes: &[u8]) -> Result<Self, Error> {
-        match proved::Multihash::from_bytes(bytes) {
-            Ok(value) => Ok(Self(value)),
-            Err(error) => Err(error.in_bytes(bytes, S)),
-        }
+        proved::Multihash::from_bytes(bytes).map_err(|error| error.in_bytes(bytes, S)).map(Self)
     }
 
     /// Writes the encoding, and returns its length.
@@ -169,10 +163,7 @@ impl<const S: usize> Multihash<S> {
     ///
     /// [`Error::invalid_size`] with the digest's length if it exceeds `R`.
     pub fn resize<const R: usize>(&self) -> Result<Multihash<R>, Error> {
-        match self.0.resize() {
-            Ok(value) => Ok(Multihash(value)),
-            Err(error) => Err(error.in_stream(R)),
-        }
+        self.0.resize().map_err(|error| error.in_stream(R)).map(Multihash)
     }
 
     /// Returns the code, the array that starts with the digest, and the length of the digest.
@@ -201,10 +192,7 @@ impl<const S: usize> Multihash<S> {
     /// - [`Error::invalid_code`] with the code if it is 2^63 or more.
     /// - [`Error::invalid_size`] with the digest's length if it exceeds `S`. None of its bytes is read.
     pub fn scale_decode<R: Read>(mut r: R) -> Result<Self, Error> {
-        match proved::Multihash::scale_decode(&mut r) {
-            Ok(value) => Ok(Self(value)),
-            Err(error) => Err(error.in_stream(S)),
-        }
+        proved::Multihash::scale_decode(&mut r).map_err(|error| error.in_stream(S)).map(Self)
     }
 }
 
