@@ -17,6 +17,8 @@ use io::ErrorKind;
 pub struct Error {
     kind: Kind,
     place: Place,
+    /// The number of bytes that were consumed.
+    consumed: Option<u16>,
 }
 
 #[derive(Debug)]
@@ -30,42 +32,22 @@ enum Kind {
     NotMinimal,
 }
 
-/// What is known of where the error is.
+/// What is known of where the error is. `present` is the number of bytes of that part in the input.
 #[derive(Clone, Copy, Debug)]
-struct Place {
-    part: Part,
-    /// The number of bytes of the part that are present.
-    present: u8,
-    /// The length of a digest that is truncated, or the limit that a digest exceeds; otherwise 0.
-    wanted: u8,
-    /// The number of bytes that were consumed.
-    consumed: Option<u16>,
-}
-
-#[derive(Clone, Copy, Debug)]
-enum Part {
+enum Place {
     Unknown,
-    Code,
-    Length,
-    Digest,
-    /// The bytes that follow the multihash.
-    After,
+    Code { present: u8 },
+    Length { present: u8 },
+    Digest { present: u8, length: u8 },
+    TooLong { limit: u8 },
+    Trailing,
 }
 
-impl Part {
-    const fn name(self) -> &'static str {
-        match self {
-            Self::Unknown => "end of a varint",
-            Self::Code => "code",
-            Self::Length => "digest's length",
-            Self::Digest | Self::After => "digest",
-        }
-    }
-
+impl Place {
     const fn varint(self) -> &'static str {
         match self {
-            Self::Code => "varint of the code",
-            Self::Length => "varint of the digest's length",
+            Self::Code { .. } => "varint of the code",
+            Self::Length { .. } => "varint of the digest's length",
             _ => "varint",
         }
     }
@@ -73,13 +55,15 @@ impl Part {
 
 impl Error {
     const fn new(kind: Kind) -> Self {
-        Self { kind, place: Place { part: Part::Unknown, present: 0, wanted: 0, consumed: None } }
+        Self { kind, place: Place::Unknown, consumed: None }
     }
 
     pub(crate) const fn from_size(size: u64) -> Self {
         Self::new(Kind::InvalidSize(size))
     }
 
+    #[cold]
+    #[inline(never)] // or `Multihash::wrap` takes more instructions
     pub(crate) const fn from_code(code: u64) -> Self {
         Self::new(Kind::InvalidCode(code))
     }
@@ -100,23 +84,25 @@ impl Error {
     /// Returns the error of an input without a byte.
     #[cold]
     pub(crate) fn empty() -> Self {
-        Self::insufficient().at(Part::Code, 0, 0)
+        Self::insufficient().at(Place::Code { present: 0 }, 0)
     }
 
     /// Returns the error of a digest that is longer than a capacity.
+    #[cold]
+    #[inline(never)] // as `from_code`
     pub(crate) const fn too_long(size: u64, capacity: usize, consumed: Option<u16>) -> Self {
-        let wanted = if capacity < 255 { capacity as u8 } else { 255 };
-        Self { kind: Kind::InvalidSize(size), place: Place { part: Part::Digest, present: 0, wanted, consumed } }
+        let limit = if capacity < 255 { capacity as u8 } else { 255 };
+        Self { kind: Kind::InvalidSize(size), place: Place::TooLong { limit }, consumed }
     }
 
     /// Returns the error of bytes that follow a multihash of a length.
     pub(crate) fn trailing(count: usize, length: usize) -> Self {
-        Self::from_size(count as u64).at(Part::After, 0, length)
+        Self::from_size(count as u64).at(Place::Trailing, length)
     }
 
-    /// Returns the error with the part that it is in, how many bytes of that are present, and how many were consumed.
-    fn at(self, part: Part, present: usize, consumed: usize) -> Self {
-        Self { place: Place { part, present: present as u8, consumed: Some(consumed as u16), ..self.place }, ..self }
+    /// Returns the error with its place, and how many bytes were consumed.
+    fn at(self, place: Place, consumed: usize) -> Self {
+        Self { place, consumed: Some(consumed as u16), ..self }
     }
 
     /// Returns an error of reading from a stream, for a capacity.
@@ -128,20 +114,20 @@ impl Error {
         }
     }
 
-    /// Returns an error of decoding these bytes, for a capacity: finds the part that it is in.
+    /// Returns an error of decoding these bytes, for a capacity: finds its place.
     #[cold]
-    pub(crate) fn in_bytes(mut self, bytes: &[u8], capacity: usize) -> Self {
+    pub(crate) fn in_bytes(self, bytes: &[u8], capacity: usize) -> Self {
         let mut rest = bytes;
         let code = varint::read(&mut rest);
         let code_end = bytes.len() - rest.len();
         if code.is_err() {
-            return self.at(Part::Code, code_end, code_end);
+            return self.at(Place::Code { present: code_end as u8 }, code_end);
         }
         let length = varint::read(&mut rest);
         let head_end = bytes.len() - rest.len();
         let length = match length {
             Ok(length) => length,
-            Err(_) => return self.at(Part::Length, head_end - code_end, head_end),
+            Err(_) => return self.at(Place::Length { present: (head_end - code_end) as u8 }, head_end),
         };
         if length > capacity.min(255) as u64 {
             return Self::too_long(length, capacity, Some(head_end as u16));
@@ -150,8 +136,7 @@ impl Error {
         if end < bytes.len() {
             return Self::trailing(bytes.len() - end, end);
         }
-        self.place.wanted = length as u8;
-        self.at(Part::Digest, rest.len(), bytes.len())
+        self.at(Place::Digest { present: rest.len() as u8, length: length as u8 }, bytes.len())
     }
 
     /// Returns the invalid size: the length of a digest that is longer than its capacity or than 255 bytes, or the number
@@ -207,17 +192,17 @@ impl Error {
     /// Returns the number of bytes from the start of the multihash up to and including the one that determines the error,
     /// or up to the end of the input. It is known if the bytes are: to `from_bytes`, `parse`, `Decoder` and `Reader`.
     pub fn consumed(&self) -> Option<usize> {
-        self.place.consumed.map(usize::from)
+        self.consumed.map(usize::from)
     }
 }
 
 /// Returns whether an error is that of input that ends, and not an error of the reader itself.
 fn is_end(error: &io::Error) -> bool {
     #[cfg(feature = "std")]
-    let is_own = error.get_ref().is_some();
+    let is_of_reader = error.get_ref().is_some();
     #[cfg(not(feature = "std"))]
-    let is_own = false;
-    error.kind() == ErrorKind::UnexpectedEof && !is_own
+    let is_of_reader = false;
+    error.kind() == ErrorKind::UnexpectedEof && !is_of_reader
 }
 
 impl From<io::Error> for Error {
@@ -235,26 +220,27 @@ impl From<TryReserveError> for Error {
 
 impl fmt::Display for Error {
     fn fmt(&self, f: &mut fmt::Formatter<'_>) -> fmt::Result {
-        let Place { part, present, wanted, .. } = self.place;
-        match (&self.kind, part) {
-            (Kind::Io(error), Part::Unknown) if is_end(error) => f.write_str("the input is truncated"),
-            (Kind::Io(error), Part::Unknown) => write!(f, "{error}"), // ignores width and precision, as upstream
-            (Kind::Insufficient(_), Part::Code) if present == 0 => f.write_str("the input is empty"),
-            (Kind::Io(_) | Kind::Insufficient(_), _) => {
+        match (&self.kind, self.place) {
+            (Kind::Io(_), Place::Digest { present, length }) => {
                 let place = if present == 0 { "before" } else { "inside" };
-                write!(f, "the input ends {place} the {}", part.name())?;
-                if wanted > 0 {
-                    write!(f, " ({present} of {wanted} {})", bytes(wanted.into()))?;
-                }
-                Ok(())
+                write!(f, "the input ends {place} the digest ({present} of {length} {})", bytes(length.into()))
             }
-            (Kind::Overflow, _) => write!(f, "the {} has more than nine bytes", part.varint()),
-            (Kind::NotMinimal, _) => write!(f, "the {} is not minimal: it ends in a zero byte", part.varint()),
-            (Kind::InvalidSize(1), Part::After) => f.write_str("1 byte follows the multihash"),
-            (Kind::InvalidSize(count), Part::After) => write!(f, "{count} bytes follow the multihash"),
-            (Kind::InvalidSize(size), _) => {
-                write!(f, "the digest has {size} {}, and the limit is {wanted}", bytes(*size))
+            (Kind::Io(error), _) if is_end(error) => f.write_str("the input is truncated"),
+            (Kind::Io(error), _) => write!(f, "{error}"), // ignores width and precision, as upstream
+            (Kind::Insufficient(_), Place::Code { present: 0 }) => f.write_str("the input is empty"),
+            (Kind::Insufficient(_), Place::Code { .. }) => f.write_str("the input ends inside the code"),
+            (Kind::Insufficient(_), Place::Length { present: 0 }) => {
+                f.write_str("the input ends before the digest's length")
             }
+            (Kind::Insufficient(_), Place::Length { .. }) => f.write_str("the input ends inside the digest's length"),
+            (Kind::Insufficient(_), _) => f.write_str("the input ends before the end of a varint"),
+            (Kind::Overflow, place) => write!(f, "the {} has more than nine bytes", place.varint()),
+            (Kind::NotMinimal, place) => write!(f, "the {} is not minimal: it ends in a zero byte", place.varint()),
+            (Kind::InvalidSize(size), Place::TooLong { limit }) => {
+                write!(f, "the digest has {size} {}, and the limit is {limit}", bytes(*size))
+            }
+            (Kind::InvalidSize(1), _) => f.write_str("1 byte follows the multihash"),
+            (Kind::InvalidSize(count), _) => write!(f, "{count} bytes follow the multihash"),
             (Kind::InvalidCode(code), _) => write!(f, "the code {code} is 2^63 or more"),
         }
     }
@@ -284,7 +270,7 @@ impl std::error::Error for Error {
 impl From<Error> for io::Error {
     fn from(error: Error) -> Self {
         let kind = match error.kind {
-            Kind::Io(own) if !is_end(&own) => return own,
+            Kind::Io(error) if !is_end(&error) => return error,
             _ if error.is_incomplete() => ErrorKind::UnexpectedEof,
             _ => ErrorKind::InvalidData,
         };
