@@ -64,11 +64,11 @@ mod serde {
         assert!(serde_json::from_value::<Value>("1203616263".into()).is_err());
     }
 
-    /// The longest encoding is decoded, and a sequence of more than `most` numbers is an error before its end: as upstream,
+    /// The longest encoding is decoded, and a sequence of more than `limit` numbers is an error before its end: as upstream,
     /// that is more than an encoding has for a capacity above 255.
     #[test]
     fn long_sequences() {
-        fn check<const S: usize>(longest: usize, most: usize) {
+        fn check<const S: usize>(longest: usize, limit: usize) {
             let value = Multihash::<S>::wrap(u64::MAX >> 1, &[7; 255][..S.min(255)]).expect("it fits");
             let text = serde_json::to_string(&value).expect("JSON");
             assert_eq!(value.encoded_len(), longest);
@@ -79,7 +79,7 @@ mod serde {
             };
             assert!(zeros(longest, "]").to_string().contains(" bytes follow the multihash"));
             assert!(zeros(longest + 1, "]").to_string().starts_with(&format!("invalid length {}", longest + 1)));
-            assert!(zeros(most, ",").is_eof() && zeros(most + 1, ",").is_data());
+            assert!(zeros(limit, ",").is_eof() && zeros(limit + 1, ",").is_data());
         }
         check::<3>(13, 13);
         check::<127>(137, 137);

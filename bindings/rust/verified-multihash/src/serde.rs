@@ -38,9 +38,9 @@ impl<'de, const S: usize> Deserialize<'de> for Multihash<S> {
 struct Encoding<const S: usize>(&'static str);
 
 impl<const S: usize> Encoding<S> {
-    /// The most numbers that are read of a sequence: the longest encoding has as many for a capacity up to 255. For a
-    /// larger one upstream reads as many.
-    const MOST: usize = if S < 128 || S > 255 { S + 10 } else { S + 11 };
+    /// The maximum length of a sequence, as upstream: that of the longest encoding for a capacity up to 255. The error of a
+    /// longer one is its length, also if the input ends inside it: more input would not change the result.
+    const SEQUENCE_MAX: usize = if S < 128 || S > 255 { S + 10 } else { S + 11 };
 }
 
 impl<'de, const S: usize> Visitor<'de> for Encoding<S> {
@@ -65,11 +65,11 @@ impl<'de, const S: usize> Visitor<'de> for Encoding<S> {
         let mut bytes = [0; LENGTH_MAX];
         let mut length = 0;
         while let Some(byte) = numbers.next_element()? {
-            if length == Self::MOST {
+            if length == Self::SEQUENCE_MAX {
                 return Err(A::Error::invalid_length(length + 1, &self));
             }
-            if let Some(place) = bytes.get_mut(length) {
-                *place = byte;
+            if let Some(slot) = bytes.get_mut(length) {
+                *slot = byte;
             }
             length += 1;
         }

@@ -15,15 +15,15 @@ use std::io::{self, BufRead, ErrorKind};
 /// use verified_multihash::{Decoder, Multihash};
 ///
 /// let mut decoder = Decoder::<32>::new();
-/// let mut found = Vec::new();
+/// let mut multihashes = Vec::new();
 /// for part in [&b"\x12\x03ab"[..], b"c\x12\x03de", b"f"] {
 ///     let mut rest = part;
 ///     while let Some(multihash) = decoder.decode(&mut rest)? {
-///         found.push(multihash);
+///         multihashes.push(multihash);
 ///     }
 /// }
 /// decoder.finish()?; // an error if the input ended inside a multihash
-/// assert_eq!(found, [Multihash::<32>::wrap(0x12, b"abc")?, Multihash::wrap(0x12, b"def")?]);
+/// assert_eq!(multihashes, [Multihash::<32>::wrap(0x12, b"abc")?, Multihash::wrap(0x12, b"def")?]);
 /// # Ok::<(), verified_multihash::Error>(())
 /// ```
 #[derive(Clone, Debug)]
@@ -88,10 +88,10 @@ impl<const S: usize> Decoder<S> {
 
     /// Moves bytes from the part, until that many are kept.
     fn receive(&mut self, part: &mut &[u8], length: usize) {
-        let (received, left) = part.split_at(part.len().min(length - self.length));
+        let (received, rest) = part.split_at(part.len().min(length - self.length));
         self.bytes[self.length..][..received.len()].copy_from_slice(received);
         self.length += received.len();
-        *part = left;
+        *part = rest;
     }
 
     /// Checks that the input may end here.

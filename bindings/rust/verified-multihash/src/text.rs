@@ -41,8 +41,8 @@ impl fmt::Display for TextError {
         match self {
             Self::NotHexadecimal { index, character } => {
                 let mut buffer = [0; 4];
-                let shown: &str = character.encode_utf8(&mut buffer);
-                write!(f, "the text has {shown:?} at index {index}, which is not a hexadecimal digit")
+                let character: &str = character.encode_utf8(&mut buffer);
+                write!(f, "the text has {character:?} at index {index}, which is not a hexadecimal digit")
             }
             Self::OddLength(length) => write!(f, "the text has an odd number of digits, {length}"),
             Self::NotMultihash(error) => error.fmt(f),

@@ -26,8 +26,8 @@ impl Draw {
     }
 
     /// Returns at most that many bytes.
-    fn bytes(&mut self, most: u64) -> Vec<u8> {
-        (0..self.below(most + 1)).map(|_| self.next() as u8).collect()
+    fn bytes(&mut self, limit: u64) -> Vec<u8> {
+        (0..self.below(limit + 1)).map(|_| self.next() as u8).collect()
     }
 
     fn multihash(&mut self) -> Multihash<64> {
@@ -50,18 +50,18 @@ impl Draw {
     }
 
     /// Returns the bytes, of which one to three of the first are others or more, and sometimes more bytes.
-    fn changed(&mut self, bytes: &[u8]) -> Vec<u8> {
+    fn mutate(&mut self, bytes: &[u8]) -> Vec<u8> {
         let mut other = bytes.to_vec();
         for _ in 0..1 + self.below(3) {
-            let at = self.below(other.len().min(24) as u64) as usize;
+            let index = self.below(other.len().min(24) as u64) as usize;
             match self.below(3) {
-                0 => other[at] = self.next() as u8,
-                1 => other[at] ^= 0x80,
-                _ => other.insert(at, self.next() as u8),
+                0 => other[index] = self.next() as u8,
+                1 => other[index] ^= 0x80,
+                _ => other.insert(index, self.next() as u8),
             }
         }
-        let most = 300 * (self.0 % 2);
-        other.extend(self.bytes(most));
+        let limit = 300 * (self.0 % 2);
+        other.extend(self.bytes(limit));
         other
     }
 }
@@ -95,15 +95,15 @@ fn check<T: Form + PartialEq + Debug, Parts: Form>(value: &T, draw: &mut Draw) {
     assert_eq!(from_bytes::<T>(&bytes).expect("a value"), *value);
     assert_eq!(to_bytes(&from_bytes::<Parts>(&bytes).expect("a value")).expect("memory"), bytes);
     for _ in 0..20 {
-        let other = draw.changed(&bytes);
+        let other = draw.mutate(&bytes);
         let (mut rest, mut rest_of_parts) = (&other[..], &other[..]);
-        let (found, parts) = (read::<T, _>(&mut rest), read::<Parts, _>(&mut rest_of_parts));
-        assert_eq!((text(&found), rest), (text(&parts), rest_of_parts));
+        let (value, parts) = (read::<T, _>(&mut rest), read::<Parts, _>(&mut rest_of_parts));
+        assert_eq!((text(&value), rest), (text(&parts), rest_of_parts));
     }
 }
 
 #[test]
-fn drawn() {
+fn random_values() {
     let draw = &mut Draw(0x9e37_79b9_7f4a_7c15);
     for _ in 0..100 {
         check::<_, Cid>(&draw.named(), draw);
@@ -119,9 +119,9 @@ fn limits() {
     // items without a size, of which there may be 2^63 or more
     assert_eq!(Counted::<(), { usize::MAX }>::new([(); usize::MAX]).is_err(), usize::BITS == 64);
     assert_eq!(Counted::<u8, 1>::new([1]).expect("it fits").into_inner(), [1]);
-    for (value, wanted) in [((1 << 63) - 1, Some((1 << 63) - 1)), (1 << 63, None)] {
-        let made = [Number::new(value), Number::try_from(value).ok()];
-        assert_eq!(made.map(|number| number.map(Number::get)), [wanted; 2]);
+    for (value, number) in [((1 << 63) - 1, Some((1 << 63) - 1)), (1 << 63, None)] {
+        let numbers = [Number::new(value), Number::try_from(value).ok()];
+        assert_eq!(numbers.map(|number| number.map(Number::get)), [number; 2]);
     }
     assert!(matches!(from_bytes::<Block<3>>(b"\x041234"), Err(FormError::TooLong(4))));
     assert!(matches!(from_bytes::<Counted<Number, 1>>(b"\x02\0\0"), Err(FormError::TooMany(2))));
@@ -142,8 +142,8 @@ fn limits() {
     for (case, bytes) in [(Two::this(5.into()), [3, 5]), (other, [4, 7])] {
         assert_eq!(to_bytes(&Choice { case }).expect("memory"), bytes);
     }
-    let twice = Case::<Number, 4, Tagged<Number, 4>>::other(Tagged::new(8.into()));
-    assert!(matches!(twice, Err(FormError::OtherTag(4))));
+    let same_tag = Case::<Number, 4, Tagged<Number, 4>>::other(Tagged::new(8.into()));
+    assert!(matches!(same_tag, Err(FormError::OtherTag(4))));
 }
 
 /// The kind is that of the error of a multihash or a varint, or says that the input is not the format.

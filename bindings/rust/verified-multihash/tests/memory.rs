@@ -7,31 +7,31 @@ use verified_multihash::{list, Multihash};
 
 thread_local! {
     /// How many allocations the thread can still make.
-    static LEFT: Cell<usize> = const { Cell::new(usize::MAX) };
-    /// The most bytes that one allocation asked for.
-    static MOST: Cell<usize> = const { Cell::new(0) };
+    static ALLOCATIONS: Cell<usize> = const { Cell::new(usize::MAX) };
+    /// The length of the largest allocation, also of one that failed.
+    static LARGEST: Cell<usize> = const { Cell::new(0) };
 }
 
 struct Limited;
 
-fn take(length: usize) -> bool {
-    MOST.with(|cell| cell.set(cell.get().max(length)));
-    let left = LEFT.with(Cell::get);
-    LEFT.with(|cell| cell.set(left.saturating_sub(1)));
-    left > 0
+fn may_allocate(length: usize) -> bool {
+    LARGEST.with(|cell| cell.set(cell.get().max(length)));
+    let allocations = ALLOCATIONS.with(Cell::get);
+    ALLOCATIONS.with(|cell| cell.set(allocations.saturating_sub(1)));
+    allocations > 0
 }
 
 // SAFETY: each call is one of the system's allocator, or fails.
 unsafe impl GlobalAlloc for Limited {
     unsafe fn alloc(&self, layout: Layout) -> *mut u8 {
-        if !take(layout.size()) {
+        if !may_allocate(layout.size()) {
             return std::ptr::null_mut();
         }
         System.alloc(layout)
     }
 
     unsafe fn realloc(&self, bytes: *mut u8, layout: Layout, length: usize) -> *mut u8 {
-        if !take(length) {
+        if !may_allocate(length) {
             return std::ptr::null_mut();
         }
         System.realloc(bytes, layout, length)
@@ -47,9 +47,9 @@ static LIMITED: Limited = Limited;
 
 /// Makes a call that can make that many allocations.
 fn with<T>(allocations: usize, call: impl FnOnce() -> T) -> T {
-    LEFT.with(|cell| cell.set(allocations));
+    ALLOCATIONS.with(|cell| cell.set(allocations));
     let result = call();
-    LEFT.with(|cell| cell.set(usize::MAX));
+    ALLOCATIONS.with(|cell| cell.set(usize::MAX));
     result
 }
 
@@ -96,9 +96,9 @@ type Node = Both<Counted<Multihash<64>, 1_000_000_000>, Block<1_000_000_000>>;
 #[test]
 fn claimed_lengths() {
     for bytes in [&b"\x80\x94\xeb\xdc\x03\x12\x00"[..], b"\x00\x80\x94\xeb\xdc\x03abc"] {
-        MOST.with(|cell| cell.set(0));
+        LARGEST.with(|cell| cell.set(0));
         assert!(from_bytes::<Node>(bytes).expect_err("it ends").is_incomplete());
-        assert!(MOST.with(Cell::get) < 1000);
+        assert!(LARGEST.with(Cell::get) < 1000);
     }
 }
 
@@ -108,16 +108,16 @@ fn formats() {
     let links = Counted::new(vec![value(); 100]).expect("they fit");
     let node: Node = Both { first: links, second: Block::new(vec![5; 100_000]).expect("it fits") };
     let bytes = form::to_bytes(&node).expect("memory");
-    let mut failed = [0; 2];
+    let mut failures = [0; 2];
     for allocations in 0..100 {
         match with(allocations, || from_bytes::<Node>(&bytes)) {
             Ok(read) => assert!(read == node),
-            error => failed[0] += usize::from(is_out_of_memory(error)),
+            error => failures[0] += usize::from(is_out_of_memory(error)),
         }
         match with(allocations, || form::to_bytes(&node)) {
             Ok(written) => assert!(written == bytes),
-            error => failed[1] += usize::from(is_out_of_memory(error)),
+            error => failures[1] += usize::from(is_out_of_memory(error)),
         }
     }
-    assert!(failed.iter().all(|count| (1..100).contains(count)), "{failed:?}");
+    assert!(failures.iter().all(|count| (1..100).contains(count)), "{failures:?}");
 }

@@ -20,13 +20,13 @@ fn json() {
     for text in [r#""1203616263""#, r#""12\u0030361626\u0033""#] {
         assert_eq!(of(text), Ok(value()));
     }
-    for (text, wanted) in [
+    for (text, message) in [
         (r#""12036162""#, "the input ends inside the digest (2 of 3 bytes)"),
         (r#""120""#, "the text has an odd number of digits, 3"),
         ("[18,3,97,98,99]", "invalid type: sequence, expected a multihash in hexadecimal"),
     ] {
         let error = of(text).expect_err("no multihash");
-        assert!(error.starts_with(wanted), "{error}");
+        assert!(error.starts_with(message), "{error}");
     }
 }
 
@@ -113,9 +113,9 @@ fn bytes() {
     assert_eq!((encoding.len(), Multihash::<255>::deserialize(Bytes(&encoding))), (266, Ok(full)));
 }
 
-/// Where serde has kept a value, as for a flattened struct, it may have another kind than the format was asked for.
+/// Where serde has buffered a value, as for a flattened struct, it may have another kind than the format was asked for.
 #[test]
-fn kept_values() {
+fn buffered_values() {
     assert_eq!(Value::deserialize(BytesDeserializer::<Error>::new(b"\x12\x03abc")), Ok(value()));
     let text: StrDeserializer<Error> = "1203616263".into_deserializer();
     assert_eq!(Value::deserialize(text), Ok(value()));

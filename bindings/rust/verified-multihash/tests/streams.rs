@@ -13,17 +13,17 @@ use verified_multihash::{varint, Error, Multihash};
 type Value = Multihash<200>;
 type Event = fn() -> Result<usize, io::Error>;
 
-/// Reads or writes one byte a call, and once does something else, before the byte at `at`.
+/// Reads or writes one byte a call, and once does something else, before the byte at `index`.
 struct Slow<T> {
     bytes: T,
-    at: usize,
+    index: usize,
     event: Event,
 }
 
 impl<T> Slow<T> {
     fn next(&mut self) -> Option<Event> {
-        let is_event = self.at == 0;
-        self.at = self.at.wrapping_sub(1);
+        let is_event = self.index == 0;
+        self.index = self.index.wrapping_sub(1);
         is_event.then_some(self.event)
     }
 }
@@ -87,18 +87,18 @@ const CALLS: &[(Reads, Writes)] = &[
 /// whether it is that of a reader. Nothing after the event is read or written.
 fn each_byte(event: Event, check: impl Fn(Error, bool)) {
     for (read, write) in CALLS {
-        let mut whole = Slow { bytes: Vec::new(), at: usize::MAX, event };
+        let mut whole = Slow { bytes: Vec::new(), index: usize::MAX, event };
         write(&value(), &mut whole).expect("memory");
         let both = [&whole.bytes[..], &whole.bytes].concat();
         let length = whole.bytes.len();
-        for at in length..2 * length {
-            let mut reader = Slow { bytes: &both[..], at, event };
+        for index in length..2 * length {
+            let mut reader = Slow { bytes: &both[..], index, event };
             assert_eq!(read(&mut reader).expect("it is whole"), value());
             check(read(&mut reader).expect_err("the event"), true);
-            let mut writer = Slow { bytes: Vec::new(), at, event };
+            let mut writer = Slow { bytes: Vec::new(), index, event };
             write(&value(), &mut writer).expect("it is whole");
             check(write(&value(), &mut writer).expect_err("the event"), false);
-            assert_eq!((reader.bytes, &writer.bytes[..]), (&both[at..], &both[..at]));
+            assert_eq!((reader.bytes, &writer.bytes[..]), (&both[index..], &both[..index]));
         }
     }
 }
@@ -109,7 +109,7 @@ fn source(error: &Error) -> &io::Error {
 
 /// The source of the error, and what `?` makes of it, are the reader's or the writer's own, whatever its kind.
 #[test]
-fn failing() {
+fn failures() {
     #[cfg(not(feature = "std"))]
     let events: [Event; 1] = [|| Err(io::Error::other("größer"))];
     #[cfg(feature = "std")]
@@ -120,16 +120,16 @@ fn failing() {
         || Err(io::ErrorKind::WouldBlock.into()),
     ];
     for event in events {
-        let wanted = event().expect_err("a failure");
+        let expected = event().expect_err("a failure");
         each_byte(event, |error, _| {
-            assert_eq!((error.to_string(), error.consumed()), (wanted.to_string(), None));
-            assert_eq!((source(&error).to_string(), error.io().is_some()), (wanted.to_string(), true));
+            assert_eq!((error.to_string(), error.consumed()), (expected.to_string(), None));
+            assert_eq!((source(&error).to_string(), error.io().is_some()), (expected.to_string(), true));
             #[cfg(feature = "std")]
             {
-                assert_eq!(error.is_incomplete(), wanted.kind() == io::ErrorKind::UnexpectedEof);
-                let own = io::Error::from(error);
-                assert_eq!((own.kind(), own.raw_os_error()), (wanted.kind(), wanted.raw_os_error()));
-                assert_eq!(own.to_string(), wanted.to_string());
+                assert_eq!(error.is_incomplete(), expected.kind() == io::ErrorKind::UnexpectedEof);
+                let converted = io::Error::from(error);
+                assert_eq!((converted.kind(), converted.raw_os_error()), (expected.kind(), expected.raw_os_error()));
+                assert_eq!(converted.to_string(), expected.to_string());
             }
         });
     }
@@ -150,7 +150,7 @@ fn ends() {
 
 /// The `write_all` of a borrowed writer is the writer's own.
 #[test]
-fn borrowed() {
+fn borrowed_writer() {
     let mut writer = Whole(Vec::new());
     value().write(&mut writer).expect("memory");
     assert_eq!(Value::read(&writer.0[..]).expect("it is whole"), value());
@@ -169,10 +169,10 @@ fn truncated_slice() {
 #[test]
 fn too_large_counts() {
     let (bytes, event): (_, Event) = (&[0x12, 2, 7, 7][..], || Ok(1000));
-    for at in 0..3 {
-        let written = std::panic::catch_unwind(|| value().write(&mut Slow { bytes: Vec::new(), at, event }));
-        let read = std::panic::catch_unwind(|| Value::read(&mut Slow { bytes, at, event }));
-        assert_eq!((written.is_err(), read.is_err()), (true, at > 1));
+    for index in 0..3 {
+        let written = std::panic::catch_unwind(|| value().write(&mut Slow { bytes: Vec::new(), index, event }));
+        let read = std::panic::catch_unwind(|| Value::read(&mut Slow { bytes, index, event }));
+        assert_eq!((written.is_err(), read.is_err()), (true, index > 1));
     }
 }
 
@@ -184,15 +184,15 @@ mod of_std {
 
     /// As upstream, `read` repeats an interrupted call only within the digest, and `write` repeats each.
     #[test]
-    fn interrupted() {
+    fn interrupted_calls() {
         let (encoding, event): (_, Event) = (value().to_bytes(), || Err(ErrorKind::Interrupted.into()));
-        for at in 0..encoding.len() {
-            let mut reader = Slow { bytes: &encoding[..], at, event };
+        for index in 0..encoding.len() {
+            let mut reader = Slow { bytes: &encoding[..], index, event };
             match Value::read(&mut reader) {
-                Ok(read) => assert!(read == value() && at >= 4),
-                Err(error) => assert!(source(&error).kind() == ErrorKind::Interrupted && at < 4),
+                Ok(read) => assert!(read == value() && index >= 4),
+                Err(error) => assert!(source(&error).kind() == ErrorKind::Interrupted && index < 4),
             }
-            let mut writer = Slow { bytes: Vec::new(), at, event };
+            let mut writer = Slow { bytes: Vec::new(), index, event };
             value().write(&mut writer).expect("it is written");
             assert_eq!(writer.bytes, encoding);
         }
@@ -201,29 +201,30 @@ mod of_std {
     /// The kind is that of a reader or a writer that failed, and otherwise says whether the input is incomplete.
     #[test]
     fn kinds() {
-        let own = |error: Error| {
+        let kind = |error: Error| {
             let text = error.to_string();
             let error = io::Error::from(error);
-            assert_eq!(error.get_ref().and_then(|it| it.downcast_ref::<Error>()).map(Error::to_string), Some(text));
+            let inner = error.get_ref().and_then(|inner| inner.downcast_ref::<Error>());
+            assert_eq!(inner.map(Error::to_string), Some(text));
             error.kind()
         };
         for bytes in [&b"\x12\xff\x01"[..], b"\x92\x00", &[0xff; 9], b"\x00\x00\x00"] {
-            assert_eq!(own(Value::from_bytes(bytes).expect_err("no multihash")), ErrorKind::InvalidData);
+            assert_eq!(kind(Value::from_bytes(bytes).expect_err("no multihash")), ErrorKind::InvalidData);
         }
-        assert_eq!(own(Value::wrap(u64::MAX, b"").expect_err("too large")), ErrorKind::InvalidData);
+        assert_eq!(kind(Value::wrap(u64::MAX, b"").expect_err("too large")), ErrorKind::InvalidData);
         for bytes in [&b"\x12\x03ab"[..], b"\x12"] {
-            assert_eq!(own(Value::from_bytes(bytes).expect_err("an end")), ErrorKind::UnexpectedEof);
-            assert_eq!(own(Value::read(bytes).expect_err("an end")), ErrorKind::UnexpectedEof);
+            assert_eq!(kind(Value::from_bytes(bytes).expect_err("an end")), ErrorKind::UnexpectedEof);
+            assert_eq!(kind(Value::read(bytes).expect_err("an end")), ErrorKind::UnexpectedEof);
         }
         let full = value().write(&mut [0; 9][..]).expect_err("it is full");
         assert_eq!(io::Error::from(full).kind(), ErrorKind::WriteZero);
-        let failed = list::read_list::<4, _>(io::empty(), usize::MAX).expect_err("out of memory");
-        assert_eq!(io::Error::from(failed).kind(), ErrorKind::OutOfMemory);
+        let out_of_memory = list::read_list::<4, _>(io::empty(), usize::MAX).expect_err("out of memory");
+        assert_eq!(io::Error::from(out_of_memory).kind(), ErrorKind::OutOfMemory);
     }
 
     /// A `Reader` continues after a source that fails, is interrupted or ends before any byte, and loses none.
     #[test]
-    fn continued() {
+    fn calls_after_failures() {
         let events: [(Event, Option<ErrorKind>); 4] = [
             (|| Err(ErrorKind::TimedOut.into()), Some(ErrorKind::TimedOut)),
             (|| Err(ErrorKind::WouldBlock.into()), Some(ErrorKind::WouldBlock)),
@@ -233,20 +234,20 @@ mod of_std {
         let encoding = value().to_bytes();
         let both = [&encoding[..], &encoding].concat();
         for (event, kind) in events {
-            for at in 0..both.len() {
-                let source = Slow { bytes: &both[..], at, event };
+            for index in 0..both.len() {
+                let source = Slow { bytes: &both[..], index, event };
                 let mut reader = Reader::<_, 200>::new(BufReader::with_capacity(1, source));
-                let (mut found, mut failed) = (Vec::new(), None);
-                while found.len() < 2 {
+                let (mut multihashes, mut failure) = (Vec::new(), None);
+                while multihashes.len() < 2 {
                     match reader.read_next() {
-                        Ok(Some(multihash)) => found.push(multihash),
-                        Ok(None) => failed = Some(ErrorKind::UnexpectedEof), // between two multihashes
-                        Err(error) => failed = Some(error.kind()),
+                        Ok(Some(multihash)) => multihashes.push(multihash),
+                        Ok(None) => failure = Some(ErrorKind::UnexpectedEof), // between two multihashes
+                        Err(error) => failure = Some(error.kind()),
                     }
                     let consumed = both.len() - reader.get_ref().get_ref().bytes.len();
-                    assert_eq!(found.len() * encoding.len() + reader.rest().len(), consumed);
+                    assert_eq!(multihashes.len() * encoding.len() + reader.rest().len(), consumed);
                 }
-                assert_eq!((found, failed), (vec![value(); 2], kind));
+                assert_eq!((multihashes, failure), (vec![value(); 2], kind));
             }
         }
     }
@@ -254,14 +255,14 @@ mod of_std {
     /// Nothing after a multihash is consumed. The error of one that is malformed stays, and the source is not read
     /// again, which could fail or wait.
     #[test]
-    fn malformed() {
-        let source = Slow { bytes: &b"\x12\x03abc\x12\x05a"[..], at: 7, event: || Err(ErrorKind::TimedOut.into()) };
+    fn malformed_input() {
+        let source = Slow { bytes: &b"\x12\x03abc\x12\x05a"[..], index: 7, event: || Err(ErrorKind::TimedOut.into()) };
         let mut reader = Reader::<_, 4>::new(BufReader::with_capacity(1, source));
-        assert_eq!(reader.read_next().expect("it is whole").map(|found| found.size()), Some(3));
+        assert_eq!(reader.read_next().expect("it is whole").map(|multihash| multihash.size()), Some(3));
         assert_eq!(reader.get_ref().get_ref().bytes, b"\x12\x05a");
         for _ in 0..2 {
             let error = reader.read_next().expect_err("it is too long");
-            let inner = error.get_ref().and_then(|inner| inner.downcast_ref::<Error>()).expect("it");
+            let inner = error.get_ref().and_then(|inner| inner.downcast_ref::<Error>()).expect("an error");
             assert_eq!((error.kind(), inner.invalid_size()), (ErrorKind::InvalidData, Some(5)));
             assert_eq!(reader.rest(), b"\x12\x05");
         }
@@ -271,14 +272,14 @@ mod of_std {
     /// the byte that determines the error.
     #[test]
     fn loops() {
-        for (bytes, wanted, rest) in [
+        for (bytes, errors, rest) in [
             (&b"\0\0\x12\x05abcde"[..], [false, true], &b"abcde"[..]),
             (b"\0\0\x12\x01", [false, true], b""),
             (b"\0\0\x12\x01a", [false, false], b""),
         ] {
             let mut reader = Reader::<_, 4>::new(bytes);
-            let found: Vec<_> = reader.by_ref().take(3).map(|next| next.is_err()).collect();
-            assert_eq!((&found[..], *reader.get_ref()), (&wanted[..], rest));
+            let is_error: Vec<_> = reader.by_ref().take(3).map(|next| next.is_err()).collect();
+            assert_eq!((&is_error[..], *reader.get_ref()), (&errors[..], rest));
         }
     }
 }

@@ -10,7 +10,7 @@ fn is_stream<T: Clone + std::fmt::Debug + Send + Sync + Unpin>() {}
 fn is_error<T: std::error::Error + Send + Sync + 'static>() {}
 
 #[test]
-fn implemented() {
+fn traits() {
     is_value::<Value>();
     is_head::<Head>();
     is_error::<Error>();
@@ -25,15 +25,15 @@ fn implemented() {
 }
 
 #[test]
-fn shortened() {
+fn shorter_digests() {
     let value = Value::wrap(0x12, b"abc").expect("it fits");
     assert_eq!([3, 4, 64, 255].map(|size| value.truncate(size)), [value; 4]);
     // `truncate` keeps the bytes that are removed, as upstream, and `resize` does not copy them
     let short = value.truncate(2);
     assert_eq!((short.digest(), &short.into_inner().1[..4]), (&b"ab"[..], &b"abc\0"[..]));
     assert_eq!(short.resize::<4>().expect("it fits").into_inner(), (0x12, *b"ab\0\0", 2));
-    let shown = "Multihash { code: 18, size: 2, digest: [97, 98, 99, 0] }";
-    assert_eq!(format!("{:?}", value.resize::<4>().expect("it fits").truncate(2)), shown);
+    let debug = "Multihash { code: 18, size: 2, digest: [97, 98, 99, 0] }";
+    assert_eq!(format!("{:?}", value.resize::<4>().expect("it fits").truncate(2)), debug);
 }
 
 /// Names of the multicodec table, and what is none.
@@ -64,10 +64,10 @@ fn long_slices() {
     assert_eq!(Value::wrap(1, &long).expect_err("too long").invalid_size(), Some(length as u64));
     assert_eq!(Value::from_bytes(&long).expect_err("trailing bytes").invalid_size(), Some(length as u64 - 2));
     assert_eq!(Head::read_front(&long).map(|head| head.digest_offset).ok(), Some(2));
-    let (mut rest, mut form) = (&long[..], &long[..]);
-    assert_eq!(Value::read(&mut rest).map(|found| found.size()).ok(), Some(0));
-    assert_eq!(Value::scale_decode(&mut form).map(|found| found.code()).ok(), Some(0));
-    assert_eq!((rest.len(), form.len()), (length - 2, length - 9));
+    let (mut rest, mut scale_rest) = (&long[..], &long[..]);
+    assert_eq!(Value::read(&mut rest).map(|multihash| multihash.size()).ok(), Some(0));
+    assert_eq!(Value::scale_decode(&mut scale_rest).map(|multihash| multihash.code()).ok(), Some(0));
+    assert_eq!((rest.len(), scale_rest.len()), (length - 2, length - 9));
     // a length that a word of 32 bits does not have
     let head = Head::read_front(b"\x12\x83\x80\x80\x80\x10abc").expect("a head");
     assert_eq!(head.digest_len, (1 << 32) + 3);
@@ -87,7 +87,7 @@ fn hexadecimal() {
 #[test]
 fn rejected_texts() {
     let full = Multihash::<255>::wrap(u64::MAX >> 1, &[7; 255]).expect("it fits");
-    for (text, wanted) in [
+    for (text, message) in [
         (&*"0".repeat(535), "the text has an odd number of digits, 535"),
         ("1203é1", "the text has \"é\" at index 4, which is not a hexadecimal digit"),
         ("+1", "the text has \"+\" at index 0, which is not a hexadecimal digit"),
@@ -96,7 +96,7 @@ fn rejected_texts() {
         (&*"00".repeat(300), "298 bytes follow the multihash"),
         (&*format!("12ac02{}", "00".repeat(300)), "the digest has 300 bytes, and the limit is 255"),
     ] {
-        assert_eq!(text.parse::<Multihash<255>>().expect_err("no multihash").to_string(), wanted);
+        assert_eq!(text.parse::<Multihash<255>>().expect_err("no multihash").to_string(), message);
     }
 }
 

@@ -27,10 +27,10 @@ fn check_error(error: &Error, column: &str) {
 /// Panics if a result is not that of a column: a code and a digest, or an error.
 fn check_result<const S: usize>(result: &Result<Multihash<S>, Error>, column: &str) {
     match result {
-        Ok(found) => {
+        Ok(multihash) => {
             let pair = column.strip_prefix("pair ").and_then(|pair| pair.split_once(' '));
             let (code, digits) = pair.expect("an error");
-            assert_eq!((code.parse(), &bytes_of(digits)[..]), (Ok(found.code()), found.digest()));
+            assert_eq!((code.parse(), &bytes_of(digits)[..]), (Ok(multihash.code()), multihash.digest()));
         }
         Err(error) => check_error(error, column),
     }
@@ -38,7 +38,7 @@ fn check_result<const S: usize>(result: &Result<Multihash<S>, Error>, column: &s
 
 /// Reads hexadecimal digits, `-` if there are no bytes.
 fn bytes_of(digits: &str) -> Vec<u8> {
-    let pairs = (0..digits.len() / 2).map(|at| &digits[2 * at..2 * at + 2]);
+    let pairs = (0..digits.len() / 2).map(|index| &digits[2 * index..2 * index + 2]);
     pairs.map(|pair| u8::from_str_radix(pair, 16).expect("hexadecimal")).collect()
 }
 
@@ -55,14 +55,14 @@ impl Read for Slow<'_> {
 fn check<const S: usize>(input: &[u8], [read, consumed, whole, scale, scale_consumed]: [&str; 5]) {
     let count = consumed.parse().unwrap_or(input.len());
     let (mut rest, mut slow) = (input, Slow(input));
-    let found = Multihash::<S>::read(&mut rest);
-    check_result(&found, read);
+    let result = Multihash::<S>::read(&mut rest);
+    check_result(&result, read);
     check_result(&Multihash::<S>::read(&mut slow), read);
     assert_eq!(slow.0.len(), input.len() - count);
     // a slice may keep a truncated digest: that of `std` does in some versions of Rust
     assert!(rest.len() == slow.0.len() || read == "unexpected_eof");
-    match &found {
-        Ok(multihash) => check_found(multihash, &input[..count]),
+    match &result {
+        Ok(multihash) => check_multihash(multihash, &input[..count]),
         Err(error) => assert_eq!(error.is_incomplete(), consumed == "-"),
     }
     match Multihash::<S>::read_next(input).transpose() {
@@ -89,9 +89,9 @@ fn check_whole<const S: usize>(input: &[u8], whole: &str, count: usize) {
     check_result(&Multihash::<S>::try_from(input), whole);
     let text: String = input.iter().map(|byte| format!("{byte:02x}")).collect();
     match text.parse::<Multihash<S>>() {
-        Ok(found) => {
-            check_result(&Ok(found), whole);
-            assert_eq!((text.to_uppercase().parse().ok(), found.to_string()), (Some(found), text));
+        Ok(multihash) => {
+            check_result(&Ok(multihash), whole);
+            assert_eq!((text.to_uppercase().parse().ok(), multihash.to_string()), (Some(multihash), text));
         }
         Err(TextError::NotMultihash(error)) => check_error(&error, whole),
         Err(error) => panic!("{error}"),
@@ -103,17 +103,17 @@ fn check_whole<const S: usize>(input: &[u8], whole: &str, count: usize) {
 fn check_head(input: &[u8], column: &str, count: usize) {
     let mut rest = input;
     let code = varint::read(&mut rest);
-    let both = code.and_then(|code| varint::read(&mut rest).map(|length| (code, length)));
+    let varints = code.and_then(|code| varint::read(&mut rest).map(|length| (code, length)));
     let offset = input.len() - rest.len();
-    match (Head::read_front(input), both) {
+    match (Head::read_front(input), varints) {
         (Ok(head), Ok((code, length))) => {
             assert_eq!((head.code, head.digest_len, head.digest_offset), (code, length, offset));
             assert!(column.starts_with("pair") || column == "unexpected_eof" || count == offset);
-            let (mut out, at) = ([0; 18], varint::len(code).expect("it was read"));
-            varint::write(code, &mut &mut out[..at]).expect("enough capacity");
-            varint::write(length, &mut &mut out[at..offset]).expect("enough capacity");
+            let (mut out, code_len) = ([0; 18], varint::len(code).expect("it was read"));
+            varint::write(code, &mut &mut out[..code_len]).expect("enough capacity");
+            varint::write(length, &mut &mut out[code_len..offset]).expect("enough capacity");
             assert_eq!(out[..offset], input[..offset]);
-            assert_eq!(varint::read_front(input).ok(), Some((code, &input[at..])));
+            assert_eq!(varint::read_front(input).ok(), Some((code, &input[code_len..])));
         }
         (Err(error), Err(other)) => {
             assert_eq!(offset, count);
@@ -138,7 +138,7 @@ fn check_parts<const S: usize>(input: &[u8], length: usize, column: &str, count:
     let rest = if matches!(decoded, Ok(Some(_))) { &[] } else { &input[..count] };
     assert_eq!((consumed, decoder.rest()), (count, rest));
     match decoded {
-        Ok(Some(found)) => check_result(&Ok(found), column),
+        Ok(Some(multihash)) => check_result(&Ok(multihash), column),
         Ok(None) if input.is_empty() => decoder.finish().expect("no byte"),
         Ok(None) => check_error(&decoder.finish().expect_err("it is incomplete"), column),
         Err(error) => {
@@ -151,7 +151,7 @@ fn check_parts<const S: usize>(input: &[u8], length: usize, column: &str, count:
 }
 
 /// Each writer writes the encoding, and the value is that of its parts.
-fn check_found<const S: usize>(multihash: &Multihash<S>, encoding: &[u8]) {
+fn check_multihash<const S: usize>(multihash: &Multihash<S>, encoding: &[u8]) {
     let (length, mut out) = (encoding.len(), [0xa5; 267]);
     assert!(multihash.write(&mut out[..length - 1]).is_err());
     assert_eq!((&out[..length - 1], out[length - 1]), (&encoding[..length - 1], 0xa5));
@@ -164,10 +164,10 @@ fn check_found<const S: usize>(multihash: &Multihash<S>, encoding: &[u8]) {
         assert_eq!((&written[6..], &Vec::from(*multihash)[..]), (encoding, encoding));
     }
     let (code, digest, size) = multihash.into_inner();
-    let (found, rest) = digest.split_at(size.into());
-    assert_eq!((code, size, found), (multihash.code(), multihash.size(), multihash.digest()));
+    let (prefix, rest) = digest.split_at(size.into());
+    assert_eq!((code, size, prefix), (multihash.code(), multihash.size(), multihash.digest()));
     assert!(rest.iter().all(|byte| *byte == 0));
-    assert_eq!(Multihash::<S>::wrap(code, found).expect("it fits"), *multihash);
+    assert_eq!(Multihash::<S>::wrap(code, prefix).expect("it fits"), *multihash);
     assert!(multihash.resize::<32>().map_or(size > 32, |small| small == *multihash));
     assert!(multihash.resize::<255>().expect("it fits") == *multihash);
 }
@@ -176,7 +176,7 @@ fn check_found<const S: usize>(multihash: &Multihash<S>, encoding: &[u8]) {
 fn check_value<const S: usize>(code: u64, digest: &[u8], encoding: &str, scale: &str) {
     match Multihash::<S>::wrap(code, digest) {
         Ok(multihash) => {
-            check_found(&multihash, &bytes_of(encoding));
+            check_multihash(&multihash, &bytes_of(encoding));
             let mut out = [0xa5; 264];
             let length = multihash.scale_encode(&mut out[..]).expect("enough capacity");
             assert_eq!(&out[..length], bytes_of(scale));
@@ -215,7 +215,7 @@ fn check_message<const S: usize>(call: &str, input: &[u8], message: &str) {
         "from_bytes" => Multihash::<S>::from_bytes(input).expect_err("no multihash"),
         "read" if input.is_empty() => Multihash::<S>::read(input).expect_err("no multihash"),
         "read" => match decoder.decode(&mut rest) {
-            Ok(found) => decoder.finish().expect_err(&format!("{found:?}")),
+            Ok(multihash) => decoder.finish().expect_err(&format!("{multihash:?}")),
             Err(error) => error,
         },
         _ => return,
@@ -241,11 +241,11 @@ macro_rules! capacities {
     ($($capacity:literal)*) => { [$((stringify!($capacity), check_line::<$capacity> as fn(&[&str]))),*] };
 }
 
-/// Checks each line of the list that MULTIHASH_VERDICTS names, or of the list with this name beside it.
-fn check_list(beside: Option<&str>) {
+/// Checks each line of the list that MULTIHASH_VERDICTS names, or of the list with a name beside it.
+fn check_list(name: Option<&str>) {
     let stored = concat!(env!("CARGO_MANIFEST_DIR"), "/../../../crates/vectors/data/verdicts.tsv");
     let path = PathBuf::from(std::env::var("MULTIHASH_VERDICTS").unwrap_or_else(|_| stored.into()));
-    let path = beside.map_or(path.clone(), |name| path.with_file_name(name));
+    let path = name.map_or(path.clone(), |name| path.with_file_name(name));
     if std::env::var("MULTIHASH_VERDICTS").is_err() && !path.exists() {
         return eprintln!("left out: MULTIHASH_VERDICTS is not set, and the repository is not there");
     }

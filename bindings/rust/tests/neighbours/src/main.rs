@@ -5,7 +5,7 @@ use std::io::BufRead;
 
 /// Reads hexadecimal digits, `-` if there are no bytes.
 fn bytes_of(digits: &str) -> Vec<u8> {
-    let pairs = (0..digits.len() / 2).map(|at| &digits[2 * at..2 * at + 2]);
+    let pairs = (0..digits.len() / 2).map(|index| &digits[2 * index..2 * index + 2]);
     pairs.map(|pair| u8::from_str_radix(pair, 16).expect("hexadecimal")).collect()
 }
 
@@ -52,14 +52,14 @@ mod tests {
         let mut accepted = 0;
         for line in include_str!("../../../../../crates/vectors/data/verdicts.tsv").lines().skip(1) {
             let input = bytes_of(line.split('\t').nth(1).expect("the input"));
-            let found = Multihash::<255>::from_bytes(&input).ok();
+            let ours = Multihash::<255>::from_bytes(&input).ok();
             let theirs = MultihashRefGeneric::<AnyCode>::from_slice(&input).ok().filter(|theirs| {
                 let (code, digest) = (theirs.algorithm().0, theirs.digest());
                 code >> 63 == 0 && digest.len() < 256 && wrap(AnyCode(code), digest).as_bytes() == input
             });
             let parts = theirs.map(|theirs| (theirs.algorithm().0, theirs.digest()));
-            assert_eq!(found.as_ref().map(|found| (found.code(), found.digest())), parts, "{input:02x?}");
-            accepted += usize::from(found.is_some());
+            assert_eq!(ours.as_ref().map(|ours| (ours.code(), ours.digest())), parts, "{input:02x?}");
+            accepted += usize::from(ours.is_some());
         }
         assert!(accepted > 0);
     }
