@@ -16,6 +16,6 @@ pub use verified_multihash::{Error, Multihash};
 #[deprecated(note = "name the error: `Result<Value, Error>`")]
 pub type Result<Value> = core::result::Result<Value, Error>;
 
-/// An earlier name of [`Multihash`].
+/// The name of [`Multihash`] in earlier versions of upstream's package, for code written for them.
 #[deprecated(note = "use `Multihash`")]
 pub type MultihashGeneric<const S: usize> = Multihash<S>;

@@ -6,7 +6,7 @@ use alloc::collections::TryReserveError;
 use core::fmt;
 use io::ErrorKind;
 
-/// Why a multihash or a varint was not read, written or made.
+/// The error of reading, writing or constructing a multihash or a varint.
 ///
 /// Its message is a sentence: `the input ends inside the digest (12 of 32 bytes)`. An error has exactly one kind:
 /// [`invalid_size`](Self::invalid_size), [`invalid_code`](Self::invalid_code) or [`io`](Self::io) is `Some`, or one of

@@ -25,7 +25,7 @@ mod serde;
 mod stream;
 mod text;
 
-// The package `multihash` re-exports this if its feature `std` is off. Another dependent may turn on that of this package.
+// The package `multihash` re-exports this if its feature `std` is off. Another dependent may still turn on `std` here.
 #[cfg(feature = "std")]
 #[doc(hidden)]
 pub use std::io as no_std_io;

@@ -20,7 +20,7 @@ impl<const S: usize> Serialize for Multihash<S> {
     }
 }
 
-/// From what [`Serialize`] makes.
+/// Reads what [`Serialize`] writes.
 impl<'de, const S: usize> Deserialize<'de> for Multihash<S> {
     fn deserialize<D: Deserializer<'de>>(deserializer: D) -> Result<Self, D::Error> {
         if HAS_BYTES {

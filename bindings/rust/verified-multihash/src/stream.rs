@@ -86,7 +86,7 @@ impl<const S: usize> Decoder<S> {
         }
     }
 
-    /// Moves bytes from the part, until that many are kept.
+    /// Moves bytes from the part to the buffer, until the buffer has `length` bytes or the part is empty.
     fn receive(&mut self, part: &mut &[u8], length: usize) {
         let (received, rest) = part.split_at(part.len().min(length - self.length));
         self.bytes[self.length..][..received.len()].copy_from_slice(received);

@@ -49,7 +49,7 @@ impl Draw {
         }
     }
 
-    /// Returns the bytes, of which one to three of the first are others or more, and sometimes more bytes.
+    /// Returns the bytes with one to three changes near their start, and sometimes with more at their end.
     fn mutate(&mut self, bytes: &[u8]) -> Vec<u8> {
         let mut other = bytes.to_vec();
         for _ in 0..1 + self.below(3) {

@@ -1,4 +1,4 @@
-//! Allocations that fail. Calls that make none are those of the package without the feature `alloc`.
+//! Allocations that fail. Without the feature `alloc` the package makes none.
 #![cfg(feature = "alloc")]
 use std::alloc::{GlobalAlloc, Layout, System};
 use std::cell::Cell;
@@ -21,7 +21,7 @@ fn may_allocate(length: usize) -> bool {
     allocations > 0
 }
 
-// SAFETY: each call is one of the system's allocator, or fails.
+// SAFETY: memory is the system allocator's. An allocation may return null.
 unsafe impl GlobalAlloc for Limited {
     unsafe fn alloc(&self, layout: Layout) -> *mut u8 {
         if !may_allocate(layout.size()) {

@@ -13,7 +13,7 @@ use verified_multihash::{varint, Error, Multihash};
 type Value = Multihash<200>;
 type Event = fn() -> Result<usize, io::Error>;
 
-/// Reads or writes one byte a call, and once does something else, before the byte at `index`.
+/// Reads or writes one byte a call, except that before the byte at `index` one call returns what `event` returns.
 struct Slow<T> {
     bytes: T,
     index: usize,
@@ -107,7 +107,7 @@ fn source(error: &Error) -> &io::Error {
     error.source().and_then(|source| source.downcast_ref()).expect("an error of the reader or the writer")
 }
 
-/// The source of the error, and what `?` makes of it, are the reader's or the writer's own, whatever its kind.
+/// The source of the error, and the `io::Error` that `?` converts it to, are the error of the reader or the writer.
 #[test]
 fn failures() {
     #[cfg(not(feature = "std"))]
@@ -148,7 +148,7 @@ fn ends() {
     assert_eq!(varint::read_next(&mut &b""[..]).expect("the end"), None);
 }
 
-/// The `write_all` of a borrowed writer is the writer's own.
+/// A borrowed writer has the `write_all` of the writer, and not the trait's default.
 #[test]
 fn borrowed_writer() {
     let mut writer = Whole(Vec::new());

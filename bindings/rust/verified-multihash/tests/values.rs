@@ -19,7 +19,7 @@ fn traits() {
     #[cfg(feature = "std")]
     {
         is_stream::<verified_multihash::Reader<&[u8], 64>>();
-        // a result of a varint is returned in three words, and a multihash with one more than it has
+        // a result with a varint has three words, and one with a multihash has one word more than the multihash
         assert_eq!([24, 88], [std::mem::size_of::<Error>(), std::mem::size_of::<Result<Value, Error>>()]);
     }
 }
@@ -36,7 +36,7 @@ fn shorter_digests() {
     assert_eq!(format!("{:?}", value.resize::<4>().expect("it fits").truncate(2)), debug);
 }
 
-/// Names of the multicodec table, and what is none.
+/// Codes and names of the multicodec table, and some that it does not have.
 #[test]
 fn names() {
     for (constant, code, name) in [

@@ -42,7 +42,7 @@ fn bytes_of(digits: &str) -> Vec<u8> {
     pairs.map(|pair| u8::from_str_radix(pair, 16).expect("hexadecimal")).collect()
 }
 
-/// A reader that returns one byte a call, by the trait's own `read_exact`.
+/// A reader that returns one byte a call, with the trait's default `read_exact`.
 struct Slow<'a>(&'a [u8]);
 
 impl Read for Slow<'_> {
@@ -124,7 +124,8 @@ fn check_head(input: &[u8], column: &str, count: usize) {
     }
 }
 
-/// An input that arrives in parts is decoded as `read` decodes it, and consumed up to there. What is not a multihash is kept.
+/// An input that arrives in parts is decoded as `read` decodes it, and consumed up to there. The decoder
+/// keeps bytes that are not a multihash.
 fn check_parts<const S: usize>(input: &[u8], length: usize, column: &str, count: usize) {
     let (mut decoder, mut decoded, mut consumed) = (Decoder::<S>::new(), Ok(None), 0);
     for part in input.chunks(length) {
