@@ -3,7 +3,9 @@ import { checkedLength, checkedWide, copyOf, isBytes, received, shown, wrongType
 import { hex, unhex } from './bases.js';
 import { checkPair, encode } from './core.js';
 import { MultihashError, errorOf, forJSON, scaleReasonOf } from './errors.js';
-import * as format from './format.js';
+// not as a namespace, over which `decode` takes a tenth longer in V8 11
+import { compare as compareParts, compareBytes, decode as decodeWhole, read as readPrefix } from './format.js';
+import { scaleDecode as scaleDecodePrefix } from './format.js';
 import { DIGEST_MAX } from './limits.js';
 
 /** The first argument of the constructors. It is not exported by the package, so its users call `of`, which checks. */
@@ -71,7 +73,7 @@ export class Multihash {
     const length = checkedLength(other.digest, 'the other digest');
     // a number and a bigint of the same value are the same code
     if (other.code != this.code || length !== digest.length) return false;
-    return format.compareBytes(digest, other.digest, length) === 0;
+    return compareBytes(digest, other.digest, length) === 0;
   }
 
   narrow() {
@@ -86,7 +88,7 @@ export const multihashFrom = (bytes, { code, size, next }) =>
 
 export function decode(bytes) {
   const length = checkedLength(bytes, 'bytes');
-  const result = format.decode(bytes, length);
+  const result = decodeWhole(bytes, length);
   if (result.status !== 'ok') throw errorOf(result, bytes, 0, length, DIGEST_MAX);
   return multihashFrom(bytes, result);
 }
@@ -97,14 +99,14 @@ export const checkedLimit = (limit) => Math.min(Number(checkedWide(limit, 'limit
 export function read(bytes, limit) {
   const maximum = limit === undefined ? DIGEST_MAX : checkedLimit(limit);
   const length = checkedLength(bytes, 'bytes');
-  const result = format.read(bytes, 0, length, maximum);
+  const result = readPrefix(bytes, 0, length, maximum);
   if (result.status !== 'ok') throw errorOf(result, bytes, 0, length, maximum);
   return { multihash: multihashFrom(bytes, result), consumed: result.next };
 }
 
 export function scaleDecode(bytes) {
   const length = checkedLength(bytes, 'bytes');
-  const result = format.scaleDecode(bytes, length);
+  const result = scaleDecodePrefix(bytes, length);
   const { status, code, next } = result;
   if (status === 'ok') return { multihash: multihashFrom(bytes, result), consumed: next };
   throw new MultihashError(scaleReasonOf(result, bytes, length), { status, code: code || undefined, consumed: next });
@@ -121,5 +123,5 @@ export function compare(left, right) {
   if (!(right instanceof Multihash)) throw wrongType('right', 'a Multihash', right);
   const leftDigest = checkedDigest(left, 'left');
   const rightDigest = checkedDigest(right, 'right');
-  return format.compare(left.code, leftDigest, left.size, right.code, rightDigest, right.size);
+  return compareParts(left.code, leftDigest, left.size, right.code, rightDigest, right.size);
 }
