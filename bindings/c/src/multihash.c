@@ -2,8 +2,8 @@
  * Copyright (c) 2026 The Gilmekhus developers */
 
 /* The library for C. It is this file and multihash.h, which describes each function. Nothing here allocates or keeps
- * state, and numbers are read and written byte by byte, for machines of either byte order. A check in the folder proof
- * of the repository shows for all inputs that each function does what docs/FORMAT.md says. */
+ * state, and numbers are read and written byte by byte, for machines of either byte order. proof/check_c.py of the
+ * repository shows for all inputs that each function does what proof/definitions.py says. */
 #include "multihash.h"
 
 #if __STDC_HOSTED__

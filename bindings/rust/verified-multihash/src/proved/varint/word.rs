@@ -19,7 +19,7 @@ pub(crate) fn read_front(bytes: &[u8]) -> Result<(u64, usize), Error> {
         return Ok((u64::from(bytes[0]), 1));
     }
     let word = first_word(bytes);
-    // This is the index of the first byte that is no continuation byte. The zero of a missing byte is none.
+    // The index of the first byte that is not a continuation byte. A missing byte is a zero, so it is not one either.
     let last = ((!word & HIGH_BITS).trailing_zeros() / 8) as usize;
     if last > MAX_CONTINUATION {
         return Err(Error::overflow());
